@@ -46,7 +46,8 @@ list_any-at :
     → list_any test xs ≡ true
 list_any-at test [] x k within is passes = absurd (omega arith)
 list_any-at test (y ∷ xs) x zero within is passes = rw (is, passes) refl
-list_any-at test (y ∷ xs) x (suc k) within is passes = rw (list_any-at test xs x k (omega arith) is passes) (or_true (test y))
+list_any-at test (y ∷ xs) x (suc k) within is passes =
+    rw (list_any-at test xs x k (omega arith) is passes) (or_true (test y))
 
 pub list_any-passed :
     {X : Type 0} (test : X → Bool) (xs : List X) (x : X)
@@ -70,18 +71,22 @@ module _
     AllRefused-tested f [] last among i same = (refl, subst I same i)
     AllRefused-tested f (y ∷ ys) last among i asks =
         let one = says f y false asks.0 (among y (0, omega arith, refl)) i asks.1 in
-        let rest = AllRefused-tested asks.0 ys last (λ x here. among x (Contains-append_right (y ∷ []) ys x here)) one.1 asks.2 in
+        let rest =
+        AllRefused-tested asks.0 ys last (λ x here. among x (Contains-append_right (y ∷ []) ys x here)) one.1 asks.2 in
         (rw (← one.0) rest.0, rest.1)
 
     pub Misses-tested : (f : F) → I f → Misses ask f xs → list_any test xs ≡ false
     Misses-tested f i miss =
-        let among = λ (x : T) (here : Contains miss.asked x). Contains-permutation _ _ x (IsPermutation-sym _ _ miss.each_once) here in
-        list_any-IsPermutation test _ _ miss.each_once ∙ (AllRefused-tested f miss.asked miss.last among i miss.were_refused).0
+        let among =
+        λ (x : T) (here : Contains miss.asked x). Contains-permutation _ _ x (IsPermutation-sym _ _ miss.each_once) here in
+        list_any-IsPermutation test _ _ miss.each_once
+        ∙ (AllRefused-tested f miss.asked miss.last among i miss.were_refused).0
 
     pub Hits-tested : (f : F) (v : T) → I f → Hits ask f xs v → Contains xs v × (test v ≡ true)
     Hits-tested f v i hit =
         let back = IsPermutation-sym _ _ hit.each_once in
-        let among = λ (x : T) (here : Contains hit.refused x). Contains-permutation _ _ x back (Contains-append_left hit.refused _ x here) in
+        let among =
+        λ (x : T) (here : Contains hit.refused x). Contains-permutation _ _ x back (Contains-append_left hit.refused _ x here) in
         let at = (AllRefused-tested f hit.refused hit.before among i hit.were_refused).1 in
         let here = Contains-permutation _ _ v back (Contains-append_right hit.refused _ v (0, omega arith, refl)) in
         (here, sym (says hit.before v true hit.last here at hit.accepted).0)

@@ -134,7 +134,8 @@ module _ {T : Type 0} where
             had_room = λ had. absurd (let room : additional ≤ held - len = rw room-listed at had in omega arith);
             room_stays = rw (room-listed es _ held, room-listed es _ holds) (omega arith);
             memory_stays = rw (memory-listed es _ held, memory-listed es _ holds) more;
-            few = rw (entries-listed es _ held, memory-listed es _ held, memory-listed es _ holds) (at_most r reserved refused);
+            few =
+                rw (entries-listed es _ held, memory-listed es _ held, memory-listed es _ holds) (at_most r reserved refused);
           }
         where
           roomy : {A E : Type 0} (r : Result A E) → OnOk r (holds ≡ max held wanted) → OnOk r (additional ≤ holds - now)

@@ -51,7 +51,8 @@ module _ {T : Type 0} (is_clone : T → T → Type 0) where
   pairs_are_clones [] [] all = tt
   pairs_are_clones [] (copy ∷ copies) all = absurd all
   pairs_are_clones (slot ∷ slots) [] all = absurd all
-  pairs_are_clones (slot ∷ slots) (copy ∷ copies) all = one_more slot copy slots copies all.0 (pairs_are_clones slots copies all.1)
+  pairs_are_clones (slot ∷ slots) (copy ∷ copies) all =
+      one_more slot copy slots copies all.0 (pairs_are_clones slots copies all.1)
 
   pub Rewrites-slots :
       (slots copies : List (Option (ℕ × T)))
@@ -107,17 +108,29 @@ module _ {T : Type 0} (is_clone : T → T → Type 0) where
 
   module _
       (slots copies bare : List (Option (ℕ × T))) (at : ℕ) (state : Cloning slots copies bare at) (tags : List ℕ)
-      (probed : IsProbed tags slots) (same : (k : ℕ) → has_pair (slice_index tags k) ≡ false → slot_at copies k ≡ slot_at bare k)
+      (probed : IsProbed tags slots)
+      (same : (k : ℕ) → has_pair (slice_index tags k) ≡ false → slot_at copies k ≡ slot_at bare k)
     where
-      -- where no pair stands, the copy has none
-      none_there : (k : ℕ) → k < length tags → at ≤ k → slot_at slots k ≡ None → IsSlotClone is_clone (slot_at slots k) (slot_at copies k)
+      -- where the table has no pair, the clone has none
+      none_there :
+          (k : ℕ)
+          → k < length tags
+          → at ≤ k
+          → slot_at slots k ≡ None
+          → IsSlotClone is_clone (slot_at slots k) (slot_at copies k)
       none_there k inside past none =
-          let suits : Suits {T = T} (slice_index tags k) None = subst (λ o. Suits (slice_index tags k) o) none (probed.suited k inside) in
-          let told : has_pair (slice_index tags k) ≡ false = le-ltb 1 (slice_index tags k) suits in
-          subst (λ slot. IsSlotClone is_clone slot (slot_at copies k)) (sym none) (same k told ∙ state.empty k past)
+          let suits : Suits {T = T} (slice_index tags k) None =
+          subst (λ o. Suits (slice_index tags k) o) none (probed.suited k inside) in
+          let free : has_pair (slice_index tags k) ≡ false = le-ltb 1 (slice_index tags k) suits in
+          subst (λ slot. IsSlotClone is_clone slot (slot_at copies k)) (sym none) (same k free ∙ state.empty k past)
 
       -- no cell between is full
-      pub Cloning-gaps : (to : ℕ) → at ≤ to → to < length tags → NoneFull tags at (to - at) → Cloning slots copies bare to
+      pub Cloning-gaps :
+          (to : ℕ)
+          → at ≤ to
+          → to < length tags
+          → NoneFull tags at (to - at)
+          → Cloning slots copies bare to
       Cloning-gaps to onward inside gaps =
           record {
             same_length = state.same_length;

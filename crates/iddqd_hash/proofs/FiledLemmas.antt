@@ -68,7 +68,8 @@ module _ (hash : ℕ) where
             let found = find_from_stands es ix parts.1 here in
             elim (eq_by_cmp nat_cmp ix e.0) as (λ t. eq_by_cmp nat_cmp ix e.0 ≡ t → cond t (Some e.1) (find nat_cmp ix es) ≡ Some hash) [
               | true ↦ λ is.
-                  let none : find nat_cmp ix es ≡ None = subst (λ x. find nat_cmp x es ≡ None) (sym (same_index ix e.0 is)) (not_below e.0 es parts.0) in
+                  let none : find nat_cmp ix es ≡ None =
+                  subst (λ x. find nat_cmp x es ≡ None) (sym (same_index ix e.0 is)) (not_below e.0 es parts.0) in
                   absurd (let never : None ≡ Some hash = sym none ∙ found in cc)
               | false ↦ λ _. found
             ] refl
@@ -118,14 +119,17 @@ module _ (m : FinMap nat_cmp ℕ) (hash : ℕ) where
   -- the indexes under a hash are those that are filed with it
   pub filed_from_under : (ix : ℕ) → Contains (indexes_under hash m) ix → finite.get m ix ≡ Some hash
   filed_from_under ix here =
-      finite.get-entries m ix ∙ find_from_stands hash (finite.entries m) ix (finite.entries_sorted m) (list_any-from_Contains (eq_by_cmp_equiv nat_cmp_total) ix _ here)
+      finite.get-entries m ix
+      ∙ find_from_stands hash (finite.entries m) ix (finite.entries_sorted m) (list_any-from_Contains (eq_by_cmp_equiv nat_cmp_total) ix _ here)
 
   pub under_from_filed : (ix : ℕ) → finite.get m ix ≡ Some hash → Contains (indexes_under hash m) ix
-  under_from_filed ix is = Contains-from_any same_index ix _ (stands_from_find hash (finite.entries m) ix (sym (finite.get-entries m ix) ∙ is))
+  under_from_filed ix is =
+      Contains-from_any same_index ix _ (stands_from_find hash (finite.entries m) ix (sym (finite.get-entries m ix) ∙ is))
 
   -- the indexes under a hash differ
   pub distinct_under : IsDistinct (eq_by_cmp nat_cmp) (indexes_under hash m)
-  distinct_under = IsDistinct-keys_filter (eq_by_cmp nat_cmp) (λ (e : ℕ × ℕ). e.1 == hash) (finite.entries m) (apart_if_rising (finite.entries m) (finite.entries_sorted m))
+  distinct_under =
+      IsDistinct-keys_filter (eq_by_cmp nat_cmp) (λ (e : ℕ × ℕ). e.1 == hash) (finite.entries m) (apart_if_rising (finite.entries m) (finite.entries_sorted m))
 
   -- what holds of each index that is filed holds of those under the hash, as that a lookup may be called on them
   pub under_all_filed :
@@ -184,7 +188,7 @@ module _ (m : FinMap nat_cmp ℕ) (hash : ℕ) where
       FindsWhere-looked_up f None i miss = Misses-filed f i miss
       FindsWhere-looked_up f (Some ix) i hit = Hits-filed f ix i hit
 
-  -- the same of a look-up by a query, where the query is equivalent to each key that the lookup gives as the test says
+  -- the same of a look-up by a query, if the test says whether the query is equivalent to the key of an index
   pub FindsWhere-by_key :
       {F Q K : Type 0} (g : Shared F (ℕ × Unit {0}) K) (equivalent : Q → K → Bool) (lookup : F) (query : Q)
       (test : ℕ → Bool) (r : Option ℕ)
@@ -211,7 +215,8 @@ pub AllBelow-insert :
     → AllBelow m n
     → AllBelow (finite.insert m ix hash) (n + 1)
 AllBelow-insert m n ix hash last below q stored =
-    let opened : IsSome (cond (eq_by_cmp nat_cmp q ix) (Some hash) (finite.get m q)) = rw (finite.get-insert nat_cmp_total) at stored in
+    let opened : IsSome (cond (eq_by_cmp nat_cmp q ix) (Some hash) (finite.get m q)) =
+    rw (finite.get-insert nat_cmp_total) at stored in
     elim (eq_by_cmp nat_cmp q ix) as (λ b. eq_by_cmp nat_cmp q ix ≡ b → IsSome (cond b (Some hash) (finite.get m q)) → q < n + 1) [
       | true ↦ λ is _. let same : q ≡ ix = same_index q ix is in omega arith
       | false ↦ λ _ here. let under : q < n = below q here in omega arith

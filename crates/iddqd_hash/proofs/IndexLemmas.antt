@@ -10,24 +10,24 @@ use Rattle.std.specs.FinMap.Entries.{find}
 use Rattle.std.specs.Cmp.{nat_cmp_total, eq_by_cmp_equiv}
 use Rattle.std.proofs.lemmas.List.Sorted.{IsPermutation-trans, IsPermutation-sym, IsPermutation-map, list_any-IsPermutation}
 use Rattle.std.proofs.lemmas.Map.Keys.{IsDistinct-head, IsDistinct-tail, IsDistinct-cons}
-use Rattle.iddqd_hash.specs.Asks.{FindsPlace, Keeps}
+use Rattle.iddqd_hash.specs.Asks.{FindsPlace, RetainsPairs}
 use Rattle.iddqd_hash.specs.HashTable.{values}
-use Rattle.iddqd_hash.specs.MapHashTable.{turned, filed_from, indexes_of, pairs_of, IsDistinctlyFiled}
-use Rattle.iddqd_hash.proofs.MapHashTableLemmas.{filed_entries, turned_keys, untied, distinct_moved, LooksUp-follows}
+use Rattle.iddqd_hash.specs.MapHashTable.{swapped, filed_from, indexes_of, pairs_of, IsDistinctlyFiled}
+use Rattle.iddqd_hash.proofs.MapHashTableLemmas.{filed_entries, swapped_keys, untied, distinct_moved, LooksUp-follows}
 
-turned_twice : (es : List (ℕ × ℕ)) → map turned (map turned es) ≡ es
-turned_twice [] = refl
-turned_twice (e ∷ es) = ap (λ xs. e ∷ xs) (turned_twice es)
+swapped_twice : (es : List (ℕ × ℕ)) → map swapped (map swapped es) ≡ es
+swapped_twice [] = refl
+swapped_twice (e ∷ es) = ap (λ xs. e ∷ xs) (swapped_twice es)
 
 pub filed_pairs : (es : List (ℕ × ℕ)) → IsDistinctlyFiled es → IsPermutation es (pairs_of (filed_from es))
 filed_pairs es apart =
-    subst (λ xs. IsPermutation xs (pairs_of (filed_from es))) (turned_twice es) (IsPermutation-map turned _ _ (filed_entries es apart))
+    subst (λ xs. IsPermutation xs (pairs_of (filed_from es))) (swapped_twice es) (IsPermutation-map swapped _ _ (filed_entries es apart))
 
 pub filed_indexes : (es : List (ℕ × ℕ)) → IsDistinctlyFiled es → IsPermutation (values es) (indexes_of (filed_from es))
 filed_indexes es apart =
-    subst (λ xs. IsPermutation xs (indexes_of (filed_from es))) (turned_keys es) (IsPermutation-map (λ (e : ℕ × ℕ). e.0) _ _ (filed_entries es apart))
+    subst (λ xs. IsPermutation xs (indexes_of (filed_from es))) (swapped_keys es) (IsPermutation-map (λ (e : ℕ × ℕ). e.0) _ _ (filed_entries es apart))
 
--- an index is in the list exactly where the map has it
+-- an index is in the list if and only if the map has it
 same_test : (ix at : ℕ) → (at == ix) ≡ eq_by_cmp nat_cmp ix at
 same_test ix at =
     elim (at == ix) as (λ b. (at == ix) ≡ b → b ≡ eq_by_cmp nat_cmp ix at) [
@@ -41,12 +41,12 @@ either_is_some false hash rest = refl
 
 found_in :
     (ix : ℕ) (es : List (ℕ × ℕ))
-    → list_any (λ at. at == ix) (values es) ≡ is_some (find nat_cmp ix (map turned es))
+    → list_any (λ at. at == ix) (values es) ≡ is_some (find nat_cmp ix (map swapped es))
 found_in ix [] = refl
 found_in ix (e ∷ es) =
     ap (λ b. b || list_any (λ at. at == ix) (values es)) (same_test ix e.1)
     ∙ ap (λ b. eq_by_cmp nat_cmp ix e.1 || b) (found_in ix es)
-    ∙ either_is_some (eq_by_cmp nat_cmp ix e.1) e.0 (find nat_cmp ix (map turned es))
+    ∙ either_is_some (eq_by_cmp nat_cmp ix e.1) e.0 (find nat_cmp ix (map swapped es))
 
 pub contains_is :
     (ix : ℕ) (es : List (ℕ × ℕ)) (walk : List ℕ)
@@ -54,7 +54,7 @@ pub contains_is :
     → list_any (λ at. at == ix) walk ≡ is_some (finite.get (filed_from es) ix)
 contains_is ix es walk moved =
     sym (list_any-IsPermutation (λ at. at == ix) (values es) walk moved) ∙ found_in ix es
-    ∙ ap is_some (sym (finite.get-from_entries nat_cmp_total (map turned es) ix))
+    ∙ ap is_some (sym (finite.get-from_entries nat_cmp_total (map swapped es) ix))
 
 -- A retain is one by other questions too, where each question of the first is one of the second, and of the same pairs
 -- in another order.
@@ -73,16 +73,16 @@ module _
         let rest = asked_follows calls.0 one.0 list last one.2 calls.2 in
         (rest.0, (one.0, one.1, rest.1))
 
-    pub Keeps-follows :
+    pub RetainsPairs-follows :
         (f : F) (k : G) (old new olds news : List (ℕ × ℕ))
         → R f k
         → IsPermutation old olds
         → IsPermutation new news
-        → Keeps ask f old new
-        → Keeps asks k olds news
-    Keeps-follows f k old new olds news r moved left told =
-        let keeps = told.kept in
-        let asked = asked_follows f k keeps.asks told.last r keeps.were_asked in
+        → RetainsPairs ask f old new
+        → RetainsPairs asks k olds news
+    RetainsPairs-follows f k old new olds news r moved left retained =
+        let keeps = retained.kept in
+        let asked = asked_follows f k keeps.asks retained.last r keeps.were_asked in
         record {
           last = asked.0;
           kept = record {
@@ -99,7 +99,8 @@ module _
         → IsPermutation xs ys
         → FindsPlace ask f hash xs pair_in r
         → FindsPlace asks k hash ys pair_in r
-    FindsPlace-follows f k hash xs ys pair_in None r moved miss = LooksUp-follows ask asks R follows f k xs ys None r moved miss
+    FindsPlace-follows f k hash xs ys pair_in None r moved miss =
+        LooksUp-follows ask asks R follows f k xs ys None r moved miss
     FindsPlace-follows f k hash xs ys pair_in (Some place) r moved found =
         record {
           value = found.value;
@@ -107,7 +108,7 @@ module _
           hit = LooksUp-follows ask asks R follows f k xs ys (Some found.value) r moved found.hit;
         }
 
--- what passed some asks stands once where all do
+-- if no index stands twice among those asked about, none does among those that passed
 apart_passed :
     (k : ℕ) (asks : List ((ℕ × ℕ) × Bool))
     → AllByRecursion (λ y. eq_by_cmp nat_cmp k y ≡ false) (values (map (λ a. a.0) asks))
@@ -135,9 +136,9 @@ distinct_passed (a ∷ asks) apart =
 
 pub distinct_retained :
     {F : Type 0} (ask : F → ℕ → Bool → F → Type 0) (f : F) (old new : List (ℕ × ℕ))
-    → Keeps ask f old new
+    → RetainsPairs ask f old new
     → IsDistinctlyFiled old
     → IsDistinctlyFiled new
-distinct_retained ask f old new told apart =
-    let keeps = told.kept in
+distinct_retained ask f old new retained apart =
+    let keeps = retained.kept in
     distinct_moved _ _ keeps.kept (distinct_passed keeps.asks (distinct_moved _ _ keeps.each_once apart))

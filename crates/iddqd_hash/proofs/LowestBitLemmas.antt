@@ -13,7 +13,8 @@ trailing-shifted zero k n =
     ∙ sym (zero-add (count_trailing_zeros k n))
 trailing-shifted (suc s) k n =
     let power : 2 ^ suc s ≡ 2 ^ s * 2 = pow-suc 2 s in
-    let double : 2 ^ suc s * n ≡ 2 * (2 ^ s * n) = ap (λ p. p * n) power ∙ (let turned : 2 ^ s * 2 * n ≡ 2 * (2 ^ s * n) = grind arith in turned) in
+    let double : 2 ^ suc s * n ≡ 2 * (2 ^ s * n) =
+    ap (λ p. p * n) power ∙ (let turned : 2 ^ s * 2 * n ≡ 2 * (2 ^ s * n) = grind arith in turned) in
     let even : 2 ^ suc s * n % 2 ≡ 0 = omega (arith, double) in
     let half : 2 ^ suc s * n / 2 ≡ 2 ^ s * n = omega (arith, double) in
     ap (λ w. count_trailing_zeros w (2 ^ suc s * n)) (suc-add s k)
@@ -33,7 +34,8 @@ cleared-even t n some even rest =
     let same : suc (t + 1) ≡ suc t + 1 = omega arith in
     let power : 2 ^ suc (t + 1) ≡ 2 ^ (t + 1) * 2 = pow-suc 2 (t + 1) in
     let split : n / 2 ^ 1 / 2 ^ (t + 1) ≡ n / 2 ^ (1 + (t + 1)) = shr-shr n 1 (t + 1) in
-    let quotient : n / 2 / 2 ^ (t + 1) ≡ n / 2 ^ suc (t + 1) = split ∙ ap (λ x. n / 2 ^ x) (let up : 1 + (t + 1) ≡ suc (t + 1) = omega arith in up) in
+    let quotient : n / 2 / 2 ^ (t + 1) ≡ n / 2 ^ suc (t + 1) =
+    split ∙ ap (λ x. n / 2 ^ x) (let up : 1 + (t + 1) ≡ suc (t + 1) = omega arith in up) in
     and_step n (n - 1)
     ∙ ap (λ x. bit_and (n / 2) x * 2 + min (n % 2) ((n - 1) % 2)) before
     ∙ ap (λ x. x * 2 + min (n % 2) ((n - 1) % 2)) rest

@@ -15,7 +15,7 @@ use Rattle.std.proofs.lemmas.Map.Keys.{IsDistinct-head, IsDistinct-tail, IsDisti
 use Rattle.iddqd_hash.proofs.PermutationLemmas.{along_permutation, IsPermutation-turn, IsPermutation-filter}
 use Rattle.iddqd_hash.specs.Asks.{AllRefused, LooksUp}
 use Rattle.iddqd_hash.specs.HashTable.{under, values}
-use Rattle.iddqd_hash.specs.MapHashTable.{turned, filed_from, IsDistinctlyFiled, indexes_under}
+use Rattle.iddqd_hash.specs.MapHashTable.{swapped, filed_from, IsDistinctlyFiled, indexes_under}
 
 module _ {K X : Type 0} (R : K → K → Ordering) where
   put_new : (k : K) (v : X) (es : List (K × X)) → find R k es ≡ None → IsPermutation ((k, v) ∷ es) (put R k v es)
@@ -48,39 +48,41 @@ module _ {K X : Type 0} {R : K → K → Ordering} (o : IsTotalOrder R) where
   entries-from_entries (e ∷ es) apart =
       let rest = finite.from_entries {R = R} es in
       let new : find R e.0 (finite.entries rest) ≡ None =
-      sym (finite.get-entries rest e.0) ∙ finite.get-from_entries o es e.0 ∙ find_absent R e.0 es (IsDistinct-head _ _ _ apart) in
+      sym (finite.get-entries rest e.0) ∙ finite.get-from_entries o es e.0
+      ∙ find_absent R e.0 es (IsDistinct-head _ _ _ apart) in
       rw (finite.entries-insert o) (IsPermutation-trans _ _ _ (IsPermutation-cons e _ _ (entries-from_entries es (IsDistinct-tail _ _ _ apart))) (put_new R e.0 e.1 _ new))
 
-turned_under :
+swapped_under :
     (h : ℕ) (es : List (ℕ × ℕ))
-    → map (λ (e : ℕ × ℕ). e.0) (filter (λ (e : ℕ × ℕ). e.1 == h) (map turned es)) ≡ under h es
-turned_under h [] = refl
-turned_under h (e ∷ es) =
-    elim (e.0 == h) as (λ b. map (λ (e : ℕ × ℕ). e.0) (cond b ((e.1, e.0) ∷ filter (λ (e : ℕ × ℕ). e.1 == h) (map turned es)) (filter (λ (e : ℕ × ℕ). e.1 == h) (map turned es))) ≡ map (λ (e : ℕ × ℕ). e.1) (cond b (e ∷ filter (λ (e : ℕ × ℕ). e.0 == h) es) (filter (λ (e : ℕ × ℕ). e.0 == h) es))) [
-      | true ↦ ap (λ xs. e.1 ∷ xs) (turned_under h es)
-      | false ↦ turned_under h es
+    → map (λ (e : ℕ × ℕ). e.0) (filter (λ (e : ℕ × ℕ). e.1 == h) (map swapped es)) ≡ under h es
+swapped_under h [] = refl
+swapped_under h (e ∷ es) =
+    elim (e.0 == h) as (λ b. map (λ (e : ℕ × ℕ). e.0) (cond b ((e.1, e.0) ∷ filter (λ (e : ℕ × ℕ). e.1 == h) (map swapped es)) (filter (λ (e : ℕ × ℕ). e.1 == h) (map swapped es))) ≡ map (λ (e : ℕ × ℕ). e.1) (cond b (e ∷ filter (λ (e : ℕ × ℕ). e.0 == h) es) (filter (λ (e : ℕ × ℕ). e.0 == h) es))) [
+      | true ↦ ap (λ xs. e.1 ∷ xs) (swapped_under h es)
+      | false ↦ swapped_under h es
     ]
 
-pub turned_keys : (es : List (ℕ × ℕ)) → map (λ (e : ℕ × ℕ). e.0) (map turned es) ≡ values es
-turned_keys [] = refl
-turned_keys (e ∷ es) = ap (λ xs. e.1 ∷ xs) (turned_keys es)
+pub swapped_keys : (es : List (ℕ × ℕ)) → map (λ (e : ℕ × ℕ). e.0) (map swapped es) ≡ values es
+swapped_keys [] = refl
+swapped_keys (e ∷ es) = ap (λ xs. e.1 ∷ xs) (swapped_keys es)
 
 -- the entries of the map are those of the bag
 pub filed_entries :
     (es : List (ℕ × ℕ))
     → IsDistinctlyFiled es
-    → IsPermutation (map turned es) (finite.entries (filed_from es))
-filed_entries es apart = entries-from_entries nat_cmp_total _ (rw (turned_keys es) apart)
+    → IsPermutation (map swapped es) (finite.entries (filed_from es))
+filed_entries es apart = entries-from_entries nat_cmp_total _ (rw (swapped_keys es) apart)
 
 pub under_filed :
     (h : ℕ) (es : List (ℕ × ℕ))
     → IsDistinctlyFiled es
     → IsPermutation (under h es) (indexes_under h (filed_from es))
 under_filed h es apart =
-    rw (← turned_under h es) (IsPermutation-map (λ (e : ℕ × ℕ). e.0) _ _ (IsPermutation-filter (λ (e : ℕ × ℕ). e.1 == h) _ _ (filed_entries es apart)))
+    rw (← swapped_under h es) (IsPermutation-map (λ (e : ℕ × ℕ). e.0) _ _ (IsPermutation-filter (λ (e : ℕ × ℕ). e.1 == h) _ _ (filed_entries es apart)))
 
 pub len_filed : (es : List (ℕ × ℕ)) → IsDistinctlyFiled es → length es ≡ finite.len (filed_from es)
-len_filed es apart = sym (length-map es turned) ∙ sym (length_permutation _ _ (filed_entries es apart)) ∙ sym (finite.len-entries _)
+len_filed es apart =
+    sym (length-map es swapped) ∙ sym (length_permutation _ _ (filed_entries es apart)) ∙ sym (finite.len-entries _)
 
 -- A look-up is one by other questions too, where each question of the first is one of the second, and in another order
 -- of the values.
@@ -173,7 +175,7 @@ inserts_turn m j k u v apart = finite.same_map nat_cmp_total finite.nat_cmp-IsAn
     at q =
         rw (finite.get-insert nat_cmp_total, finite.get-insert nat_cmp_total, finite.get-insert nat_cmp_total, finite.get-insert nat_cmp_total) (choose _ _ _ _ _ (never q))
 
--- moves keep the pairs, and the map where no index stands twice
+-- moves keep the pairs, and if no index stands twice, they keep the map
 abbrev MovesMap : List (ℕ × ℕ) → List (ℕ × ℕ) → Type 0
 MovesMap xs ys = IsPermutation xs ys × (IsDistinctlyFiled xs → filed_from xs ≡ filed_from ys)
 
@@ -184,21 +186,23 @@ filed_moved xs ys moved = (along_permutation MovesMap same skip turn chain xs ys
     same xs = (IsPermutation-refl xs, λ d. refl)
 
     skip : (x : ℕ × ℕ) (xs ys : List (ℕ × ℕ)) → MovesMap xs ys → MovesMap (x ∷ xs) (x ∷ ys)
-    skip x xs ys h = (IsPermutation-cons x _ _ h.0, λ d. ap (λ m. finite.insert m x.1 x.0) (h.1 (IsDistinct-tail _ _ _ d)))
+    skip x xs ys h =
+        (IsPermutation-cons x _ _ h.0, λ d. ap (λ m. finite.insert m x.1 x.0) (h.1 (IsDistinct-tail _ _ _ d)))
 
     turn : (x y : ℕ × ℕ) (xs : List (ℕ × ℕ)) → MovesMap (x ∷ y ∷ xs) (y ∷ x ∷ xs)
-    turn x y xs = (IsPermutation-turn x y xs, λ d. inserts_turn (filed_from xs) x.1 y.1 x.0 y.0 (IsDistinct-head _ _ _ d).0)
+    turn x y xs =
+        (IsPermutation-turn x y xs, λ d. inserts_turn (filed_from xs) x.1 y.1 x.0 y.0 (IsDistinct-head _ _ _ d).0)
 
     chain : (xs ys zs : List (ℕ × ℕ)) → MovesMap xs ys → MovesMap ys zs → MovesMap xs zs
     chain xs ys zs h k = (IsPermutation-trans _ _ _ h.0 k.0, λ d. h.1 d ∙ k.1 (distinct_moved xs ys h.0 d))
 
 all_apart :
     (k : ℕ) (es : List (ℕ × ℕ))
-    → find nat_cmp k (map turned es) ≡ None
+    → find nat_cmp k (map swapped es) ≡ None
     → AllByRecursion (λ y. eq_by_cmp nat_cmp k y ≡ false) (values es)
 all_apart k [] absent = tt
 all_apart k (e ∷ es) absent =
-    elim (eq_by_cmp nat_cmp k e.1) as (λ b. eq_by_cmp nat_cmp k e.1 ≡ b → cond b (Some e.0) (find nat_cmp k (map turned es)) ≡ None → AllByRecursion (λ y. eq_by_cmp nat_cmp k y ≡ false) (values (e ∷ es))) [
+    elim (eq_by_cmp nat_cmp k e.1) as (λ b. eq_by_cmp nat_cmp k e.1 ≡ b → cond b (Some e.0) (find nat_cmp k (map swapped es)) ≡ None → AllByRecursion (λ y. eq_by_cmp nat_cmp k y ≡ false) (values (e ∷ es))) [
       | true ↦ λ is none. absurd (cc)
       | false ↦ λ is none. (is, all_apart k es none)
     ] refl absent
@@ -211,7 +215,7 @@ pub distinct_added :
     → IsDistinctlyFiled es
     → IsDistinctlyFiled new × (filed_from new ≡ finite.insert (filed_from es) ix hash)
 distinct_added es new hash ix absent moved apart =
-    let none = sym (finite.get-from_entries nat_cmp_total (map turned es) ix) ∙ absent in
+    let none = sym (finite.get-from_entries nat_cmp_total (map swapped es) ix) ∙ absent in
     let more : IsDistinctlyFiled ((hash, ix) ∷ es) = IsDistinct-cons _ ix (values es) (all_apart ix es none) apart in
     (distinct_moved _ _ moved more, sym (filed_moved _ _ moved more))
 
@@ -224,8 +228,10 @@ pub distinct_removed :
 distinct_removed es new hash ix moved apart =
     let more : IsDistinctlyFiled ((hash, ix) ∷ new) = distinct_moved _ _ moved apart in
     let none : finite.get (filed_from new) ix ≡ None =
-    finite.get-from_entries nat_cmp_total (map turned new) ix ∙ find_absent nat_cmp ix (map turned new) (rw (turned_keys new) (IsDistinct-head _ _ _ more)) in
-    let at : (q : ℕ) → finite.get (filed_from new) q ≡ finite.get (finite.remove (finite.insert (filed_from new) ix hash) ix) q = λ q.
+    finite.get-from_entries nat_cmp_total (map swapped new) ix
+    ∙ find_absent nat_cmp ix (map swapped new) (rw (swapped_keys new) (IsDistinct-head _ _ _ more)) in
+    let at : (q : ℕ) → finite.get (filed_from new) q ≡ finite.get (finite.remove (finite.insert (filed_from new) ix hash) ix) q =
+    λ q.
     rw (finite.get-remove nat_cmp_total, finite.get-insert nat_cmp_total)
     (elim (eq_by_cmp nat_cmp ix q) as (λ b. eq_by_cmp nat_cmp ix q ≡ b → finite.get (filed_from new) q ≡ cond (eq_by_cmp nat_cmp q ix) None (cond (eq_by_cmp nat_cmp q ix) (Some hash) (finite.get (filed_from new) q))) [
       | true ↦ λ is. rw (sym (flips ix q) ∙ is) (ap (finite.get (filed_from new)) (sym (finite.nat_cmp-IsAntisymmetric ix q (tied ix q is))) ∙ none)
@@ -268,17 +274,22 @@ module _ (ix : ℕ) where
 
   find_others :
       (q : ℕ) (es : List (ℕ × ℕ))
-      → find nat_cmp q (map turned (others ix es)) ≡ cond (eq_by_cmp nat_cmp q ix) None (find nat_cmp q (map turned es))
+      → find nat_cmp q (map swapped (others ix es))
+      ≡ cond (eq_by_cmp nat_cmp q ix) None (find nat_cmp q (map swapped es))
   find_others q [] = either_way (eq_by_cmp nat_cmp q ix) None
   find_others q (e ∷ es) =
       let rest = find_others q es in
-      elim (e.1 == ix) as (λ b. (e.1 == ix) ≡ b → find nat_cmp q (map turned (cond (not b) (e ∷ others ix es) (others ix es))) ≡ cond (eq_by_cmp nat_cmp q ix) None (cond (eq_by_cmp nat_cmp q e.1) (Some e.0) (find nat_cmp q (map turned es)))) [
+      elim (e.1 == ix) as (λ b. (e.1 == ix) ≡ b → find nat_cmp q (map swapped (cond (not b) (e ∷ others ix es) (others ix es))) ≡ cond (eq_by_cmp nat_cmp q ix) None (cond (eq_by_cmp nat_cmp q e.1) (Some e.0) (find nat_cmp q (map swapped es)))) [
         | true ↦ λ same.
-            let is : eq_by_cmp nat_cmp q e.1 ≡ eq_by_cmp nat_cmp q ix = ap (eq_by_cmp nat_cmp q) (eqb-true e.1 ix same) in
-            rest ∙ absorbed (eq_by_cmp nat_cmp q ix) (Some e.0) (find nat_cmp q (map turned es)) ∙ ap (λ b. cond (eq_by_cmp nat_cmp q ix) None (cond b (Some e.0) (find nat_cmp q (map turned es)))) (sym is)
+            let is : eq_by_cmp nat_cmp q e.1 ≡ eq_by_cmp nat_cmp q ix =
+            ap (eq_by_cmp nat_cmp q) (eqb-true e.1 ix same) in
+            rest ∙ absorbed (eq_by_cmp nat_cmp q ix) (Some e.0) (find nat_cmp q (map swapped es))
+            ∙ ap (λ b. cond (eq_by_cmp nat_cmp q ix) None (cond b (Some e.0) (find nat_cmp q (map swapped es)))) (sym is)
         | false ↦ λ other.
             let never : eq_by_cmp nat_cmp q e.1 ≡ true → eq_by_cmp nat_cmp q ix ≡ true → ⊥ = λ a b.
-            let is : e.1 ≡ ix = sym (finite.nat_cmp-IsAntisymmetric q e.1 (tied q e.1 a)) ∙ finite.nat_cmp-IsAntisymmetric q ix (tied q ix b) in
+            let is : e.1 ≡ ix =
+            sym (finite.nat_cmp-IsAntisymmetric q e.1 (tied q e.1 a))
+            ∙ finite.nat_cmp-IsAntisymmetric q ix (tied q ix b) in
             let no : false ≡ true = sym other ∙ eq-eqb e.1 ix is in cc in
             ap (λ o. cond (eq_by_cmp nat_cmp q e.1) (Some e.0) o) rest ∙ choose _ _ _ _ _ never
       ] refl
@@ -288,11 +299,11 @@ module _ (ix : ℕ) where
     where
       at : (q : ℕ) → finite.get (filed_from (others ix es)) q ≡ finite.get (finite.remove (filed_from es) ix) q
       at q =
-          finite.get-from_entries nat_cmp_total (map turned (others ix es)) q
+          finite.get-from_entries nat_cmp_total (map swapped (others ix es)) q
           ∙ find_others q es
           ∙ rw (finite.get-remove nat_cmp_total, finite.get-from_entries nat_cmp_total) refl
 
-  -- where all other indexes are kept, one is removed
+  -- if all other indexes are kept, one is removed
   pub distinct_kept :
       (es new : List (ℕ × ℕ))
       → IsPermutation (others ix es) new
@@ -318,6 +329,6 @@ removed_len es new ix apart apart_new gone here =
   where
     some : (es : List (ℕ × ℕ)) → IsSome (finite.get (filed_from es) ix) → 0 < length es
     some [] here =
-        let none : finite.get (filed_from []) ix ≡ None = finite.get-from_entries nat_cmp_total (map turned []) ix in
+        let none : finite.get (filed_from []) ix ≡ None = finite.get-from_entries nat_cmp_total (map swapped []) ix in
         absurd (let never = rw none at here in cc)
     some (e ∷ es) here = omega arith

@@ -22,13 +22,15 @@ module _ {X : Type 0} (m : FinMap nat_cmp X) (ix : ℕ) where
   get-insert_at x = finite.get-insert nat_cmp_total m ix x ix ∙ ap (λ b. cond b (Some x) (finite.get m ix)) tied
 
   pub get-insert_other : (x : X) (j : ℕ) → j ≢ ix → finite.get (finite.insert m ix x) j ≡ finite.get m j
-  get-insert_other x j other = finite.get-insert nat_cmp_total m ix x j ∙ ap (λ b. cond b (Some x) (finite.get m j)) (untied j other)
+  get-insert_other x j other =
+      finite.get-insert nat_cmp_total m ix x j ∙ ap (λ b. cond b (Some x) (finite.get m j)) (untied j other)
 
   pub get-remove_at : finite.get (finite.remove m ix) ix ≡ None
   get-remove_at = finite.get-remove nat_cmp_total m ix ix ∙ ap (λ b. cond b None (finite.get m ix)) tied
 
   pub get-remove_other : (j : ℕ) → j ≢ ix → finite.get (finite.remove m ix) j ≡ finite.get m j
-  get-remove_other j other = finite.get-remove nat_cmp_total m ix j ∙ ap (λ b. cond b None (finite.get m j)) (untied j other)
+  get-remove_other j other =
+      finite.get-remove nat_cmp_total m ix j ∙ ap (λ b. cond b None (finite.get m j)) (untied j other)
 
 -- what is filed has a hash
 pub filed_hash : (o : Option ℕ) → IsSome o → (hash : ℕ) × (o ≡ Some hash)

@@ -1,4 +1,4 @@
--- A pair that is added to a table with open addressing, which is rebuilt first where it has to be.
+-- A pair that is added to a table with open addressing, which is rebuilt first if it has to be.
 use Rattle.std.proofs.Common.{◌≡◌, ℕ, ◌+◌, ◌<◌, List, ◌∷◌, Option, Some, None, length, set, slice_index, count_by, arith}
 use Rattle.std.proofs.lemmas.List.Sorted.{IsPermutation-trans, IsPermutation-cons, length_permutation}
 use Rattle.std.specs.List.Sorted.{IsPermutation}
@@ -44,7 +44,8 @@ module _ {T : Type 0} where
       (roomy : Roomy tags slots len now_tags now_slots now) (place hash : ℕ) (value : T) (free : IsFree now_tags place)
     where
       pub add-free : slot_at now_slots place ≡ None
-      add-free = free_slot (slice_index now_tags place) (slot_at now_slots place) (roomy.sound.probed.suited place free.within) free.free
+      add-free =
+          free_slot (slice_index now_tags place) (slot_at now_slots place) (roomy.sound.probed.suited place free.within) free.free
 
       pub add-within : place < length now_slots
       add-within = omega (arith, free.within, roomy.sound.probed.same_length)
@@ -59,7 +60,8 @@ module _ {T : Type 0} where
           (rw roomy.same (omega (arith, roomy.limited, counts))) (rw roomy.same roomy.room)
 
       pub add-pairs : IsPermutation ((hash, value) ∷ pairs slots) (pairs (set now_slots place (Some (hash, value))))
-      add-pairs = IsPermutation-trans _ _ _ (IsPermutation-cons (hash, value) _ _ roomy.moved) (pairs-put now_slots place (hash, value) add-within add-free)
+      add-pairs =
+          IsPermutation-trans _ _ _ (IsPermutation-cons (hash, value) _ _ roomy.moved) (pairs-put now_slots place (hash, value) add-within add-free)
 
       pub add-counted : length (pairs (set now_slots place (Some (hash, value)))) ≡ length (pairs slots) + 1
       add-counted = omega (arith, length_permutation _ _ add-pairs)

@@ -8,7 +8,7 @@ use Rattle.std.proofs.lemmas.List.{drop-map, drop-take, drop-drop, drop_more, dr
 use Rattle.std.proofs.lemmas.Nat.{pow_pos, shr-shr, pow-add}
 use Rattle.std.proofs.lemmas.Simd.{trailing_mask_l, run_in_chunk_fails, run_in_chunk_stops, none_from_empty_mask, length-chunk}
 use Rattle.iddqd_hash.specs.OpenTable.{slot_at, pairs, NoneFull, IsPowerOfTwo, IsProbed, IsSound}
-use Rattle.iddqd_hash.specs.OpenWalk.{is_full, full_mask, IsInSixteens, SomeFull, IsAhead, IsWalk}
+use Rattle.iddqd_hash.specs.OpenWalk.{is_full, full_mask, IsMultipleOf16, SomeFull, IsAhead, IsWalk}
 use Rattle.iddqd_hash.proofs.LowestBitLemmas.{trailing-shifted, lowest_cleared}
 use Rattle.iddqd_hash.proofs.OpenLaneLemmas.{not_full}
 use Rattle.iddqd_hash.proofs.OpenSlotLemmas.{free_slot}
@@ -44,7 +44,8 @@ first_below p (x ∷ xs) some = by_first (p x) refl (first_below p xs)
         → prefix_len (λ x. not (p x)) (x ∷ xs) < length (x ∷ xs)
     by_first true is further = rw is (omega arith)
     by_first false is further =
-        let more : 0 < cond {A = ℕ} false 1 0 + 2 * mask_l (map p xs) = subst (λ b. 0 < cond {A = ℕ} b 1 0 + 2 * mask_l (map p xs)) is some in
+        let more : 0 < cond {A = ℕ} false 1 0 + 2 * mask_l (map p xs) =
+        subst (λ b. 0 < cond {A = ℕ} b 1 0 + 2 * mask_l (map p xs)) is some in
         let rest : prefix_len (λ x. not (p x)) xs < length xs = further (omega arith) in
         rw is (omega arith)
 
@@ -73,7 +74,7 @@ module _ (tags : List ℕ) (at end mask : ℕ) (ahead : IsAhead tags at end mask
   abbrev chunk : List ℕ
   chunk = take (end - at) (drop at tags)
 
-  -- so many of the sixteen places are before the one where the walk stands
+  -- how many of the sixteen places are before the one that the walk has come to
   abbrev passed : ℕ
   passed = at + 16 - end
 
@@ -83,7 +84,8 @@ module _ (tags : List ℕ) (at end mask : ℕ) (ahead : IsAhead tags at end mask
   -- no bit is set
   pub gaps-to_end : mask ≡ 0 → NoneFull tags at (end - at)
   gaps-to_end none =
-      let clear : full_mask tags at end ≡ 0 = none_of_product (2 ^ passed) (full_mask tags at end) (pow_pos passed) (sym ahead.masked ∙ none) in
+      let clear : full_mask tags at end ≡ 0 =
+      none_of_product (2 ^ passed) (full_mask tags at end) (pow_pos passed) (sym ahead.masked ∙ none) in
       λ k from to. not_full _ (none_from_empty_mask is_full tags at (end - at) 0 room clear k from to)
 
   module _ (some : 0 < mask) where
@@ -140,7 +142,8 @@ module _ (tags : List ℕ) (at end mask : ℕ) (ahead : IsAhead tags at end mask
         λ k from to. not_full _ (run_in_chunk_fails is_full tags at (end - at) gaps 0 room refl k from (omega arith))
 
     pub first-full : 128 ≤ slice_index tags (end - 16 + count_trailing_zeros 64 mask)
-    first-full = subst (λ k. 128 ≤ slice_index tags k) (sym first-is) (leb-true 128 _ (run_in_chunk_stops is_full tags at (end - at) gaps 0 room refl below))
+    first-full =
+        subst (λ k. 128 ≤ slice_index tags k) (sym first-is) (leb-true 128 _ (run_in_chunk_stops is_full tags at (end - at) gaps 0 room refl below))
 
     -- the places behind the first full one
     mask_behind :
@@ -151,8 +154,10 @@ module _ (tags : List ℕ) (at end mask : ℕ) (ahead : IsAhead tags at end mask
         let count : count_trailing_zeros 64 mask ≡ passed + gaps = counted in
         let parts : count_trailing_zeros 64 mask + 1 ≡ passed + (gaps + 1) = omega arith in
         let place : at + (gaps + 1) ≡ end - 16 + count_trailing_zeros 64 mask + 1 = omega arith in
-        let turned : mask ≡ full_mask tags at end * 2 ^ passed = ahead.masked ∙ mul_comm (2 ^ passed) (full_mask tags at end) in
-        let whole : mask / 2 ^ passed ≡ full_mask tags at end = ap (λ m. m / 2 ^ passed) turned ∙ mul-div_cancel (full_mask tags at end) (pow_pos passed) in
+        let turned : mask ≡ full_mask tags at end * 2 ^ passed =
+        ahead.masked ∙ mul_comm (2 ^ passed) (full_mask tags at end) in
+        let whole : mask / 2 ^ passed ≡ full_mask tags at end =
+        ap (λ m. m / 2 ^ passed) turned ∙ mul-div_cancel (full_mask tags at end) (pow_pos passed) in
         ap (λ n. mask / 2 ^ n) parts
         ∙ sym (shr-shr mask passed (gaps + 1))
         ∙ ap (λ m. m / 2 ^ (gaps + 1)) whole
@@ -166,7 +171,8 @@ module _ (tags : List ℕ) (at end mask : ℕ) (ahead : IsAhead tags at end mask
         let onward : at ≤ end - 16 + count_trailing_zeros 64 mask = first-onward in
         let within : end - 16 + count_trailing_zeros 64 mask < end = first-inside in
         let enough : 16 ≤ end = sixteen_before in
-        let up : count_trailing_zeros 64 mask + 1 ≡ end - 16 + count_trailing_zeros 64 mask + 1 + 16 - end = omega arith in
+        let up : count_trailing_zeros 64 mask + 1 ≡ end - 16 + count_trailing_zeros 64 mask + 1 + 16 - end =
+        omega arith in
         record {
           before_end = omega arith;
           near = omega (arith, ahead.near);
@@ -178,15 +184,21 @@ module _ (tags : List ℕ) (at end mask : ℕ) (ahead : IsAhead tags at end mask
               ∙ ap (λ n. 2 ^ n * full_mask tags (end - 16 + count_trailing_zeros 64 mask + 1) end) up;
         }
 
--- where a full place is behind the end, so are sixteen
-pub sixteen_more : (count end k : ℕ) → IsInSixteens count → IsInSixteens end → end ≤ k → k < count → end + 16 ≤ count
+-- if a place after the end of the sixteen is full, sixteen places are there
+pub sixteen_more :
+    (count end k : ℕ)
+    → IsMultipleOf16 count
+    → IsMultipleOf16 end
+    → end ≤ k
+    → k < count
+    → end + 16 ≤ count
 sixteen_more count end k (n, is) (m, end_is) from below =
     let fewer : m < n = omega arith in
     omega arith
 
 pub IsAhead-next :
     (tags : List ℕ) (end mask : ℕ)
-    → IsInSixteens end
+    → IsMultipleOf16 end
     → end + 16 ≤ length tags
     → mask ≡ full_mask tags end (end + 16)
     → IsAhead tags end (end + 16) mask
@@ -196,7 +208,9 @@ IsAhead-next tags end mask (n, is) inside read =
       near = omega arith;
       inside = inside;
       in_sixteens = (n + 1, omega arith);
-      masked = read ∙ (let one : full_mask tags end (end + 16) ≡ 2 ^ 0 * full_mask tags end (end + 16) = omega arith in one) ∙ ap (λ n. 2 ^ n * full_mask tags end (end + 16)) (let none : 0 ≡ end + 16 - (end + 16) = omega arith in none);
+      masked =
+          read ∙ (let one : full_mask tags end (end + 16) ≡ 2 ^ 0 * full_mask tags end (end + 16) = omega arith in one)
+          ∙ ap (λ n. 2 ^ n * full_mask tags end (end + 16)) (let none : 0 ≡ end + 16 - (end + 16) = omega arith in none);
     }
 
 IsAhead-start : (tags : List ℕ) → IsAhead tags 0 0 0
@@ -224,12 +238,14 @@ IsAhead-set tags at end mask place tag before ahead =
       near = ahead.near;
       inside = omega (arith, length-set tags place tag, ahead.inside);
       in_sixteens = ahead.in_sixteens;
-      masked = ahead.masked ∙ ap (λ xs. 2 ^ (at + 16 - end) * mask_l (map is_full (take (end - at) xs))) (sym (drop-set-lt at tags place tag before));
+      masked =
+          ahead.masked
+          ∙ ap (λ xs. 2 ^ (at + 16 - end) * mask_l (map is_full (take (end - at) xs))) (sym (drop-set-lt at tags place tag before));
     }
 
-pub IsInSixteens-count : (n : ℕ) → (n ≡ 0) ⊎ IsPowerOfTwo n → IsInSixteens n
-IsInSixteens-count n (inl none) = (0, none)
-IsInSixteens-count n (inr (k, is)) =
+pub IsMultipleOf16-count : (n : ℕ) → (n ≡ 0) ⊎ IsPowerOfTwo n → IsMultipleOf16 n
+IsMultipleOf16-count n (inl none) = (0, none)
+IsMultipleOf16-count n (inr (k, is)) =
     let parts : 2 ^ (k + 4) ≡ 2 ^ k * 2 ^ 4 = pow-add 2 k 4 in
     (2 ^ k, omega arith)
 
@@ -277,22 +293,27 @@ module _ {T : Type 0} where
         → slot_at slots to ≡ Some pair
         → pairs (drop at slots) ≡ pair ∷ pairs (drop (to + 1) slots)
     pairs-full at to pair onward inside gaps is =
-        pairs-gaps at to onward (omega arith) gaps ∙ pairs_one slots to (Some pair) (omega (arith, probed.same_length)) is
+        pairs-gaps at to onward (omega arith) gaps
+        ∙ pairs_one slots to (Some pair) (omega (arith, probed.same_length)) is
 
-    -- where there are pairs, some place is full
+    -- if there are pairs, some place is full
     pub SomeFull-pairs : (fuel at : ℕ) → length tags ≤ at + fuel → 0 < length (pairs (drop at slots)) → SomeFull tags at
     SomeFull-pairs zero at short some =
         absurd (let none : drop at slots ≡ [] = drop_all at slots (omega (arith, probed.same_length)) in let never : 0 < length (pairs {T = T} []) = subst (λ xs. 0 < length (pairs xs)) none some in omega arith)
-    SomeFull-pairs (suc fuel) at short some = by_tag (leb 128 (slice_index tags at)) refl (SomeFull-pairs fuel (at + 1) (omega arith))
+    SomeFull-pairs (suc fuel) at short some =
+        by_tag (leb 128 (slice_index tags at)) refl (SomeFull-pairs fuel (at + 1) (omega arith))
       where
         by_tag :
             (b : Bool)
             → leb 128 (slice_index tags at) ≡ b
             → (0 < length (pairs (drop (at + 1) slots)) → SomeFull tags (at + 1))
             → SomeFull tags at
-        by_tag true is further = let full : 128 ≤ slice_index tags at = leb-true 128 _ is in (at, omega arith, inside_full tags at full, full)
+        by_tag true is further =
+            let full : 128 ≤ slice_index tags at = leb-true 128 _ is in
+            (at, omega arith, inside_full tags at full, full)
         by_tag false is further =
-            let here : NoneFull tags at (at + 1 - at) = λ k from to. subst (λ n. slice_index tags n < 128) (let same : at ≡ k = omega arith in same) (not_full _ is) in
+            let here : NoneFull tags at (at + 1 - at) =
+            λ k from to. subst (λ n. slice_index tags n < 128) (let same : at ≡ k = omega arith in same) (not_full _ is) in
             let found : SomeFull tags (at + 1) = further (some_behind here) in
             (found.0, omega (arith, found.1), found.2, found.3)
           where
@@ -341,7 +362,7 @@ module _
     pub gaps-passed : NoneFull tags from (end - from)
     gaps-passed = gaps_on tags from at end onward ahead.before_end gaps (gaps-to_end tags at end mask ahead none)
 
-    pub sixteen-behind : IsInSixteens (length tags) → SomeFull tags from → end + 16 ≤ length tags
+    pub sixteen-behind : IsMultipleOf16 (length tags) → SomeFull tags from → end + 16 ≤ length tags
     sixteen-behind sixteens some =
         let before : at ≤ end = ahead.before_end in
         let further : SomeFull tags end = full_behind tags from end (omega arith) gaps-passed some in
@@ -355,4 +376,9 @@ pub IsWalk-start :
     → mask ≡ 0
     → IsWalk tags slots at end mask len
 IsWalk-start tags slots at end mask len used sound no_at no_end no_mask =
-    record { count = sound.count; probed = sound.probed; ahead = IsAhead-none tags at end mask no_at no_end no_mask; counted = rw no_at sound.counted }
+    record {
+      count = sound.count;
+      probed = sound.probed;
+      ahead = IsAhead-none tags at end mask no_at no_end no_mask;
+      counted = rw no_at sound.counted;
+    }

@@ -24,7 +24,8 @@ module _ {C T : Type 0} (slot : Bool → C → Option (ℕ × T)) where
   pub slots-set :
       (tags : List ℕ) (cells : List C) (at tag : ℕ) (cell : C)
       → at < length tags
-      → slots_of slot (set tags at tag) (set cells at cell) ≡ set (slots_of slot tags cells) at (slot (has_pair tag) cell)
+      → slots_of slot (set tags at tag) (set cells at cell) ≡
+      set (slots_of slot tags cells) at (slot (has_pair tag) cell)
   slots-set [] cells at tag cell inside = absurd (omega arith)
   slots-set (one ∷ tags) [] zero tag cell inside = refl
   slots-set (one ∷ tags) [] (suc at) tag cell inside = refl
@@ -35,18 +36,21 @@ module _ {C T : Type 0} (slot : Bool → C → Option (ℕ × T)) where
   -- a cell that is written beside the tag that it had
   pub slots-cell :
       (tags : List ℕ) (cells : List C) (at : ℕ) (cell : C)
-      → slots_of slot tags (set cells at cell) ≡ set (slots_of slot tags cells) at (slot (has_pair (slice_index tags at)) cell)
+      → slots_of slot tags (set cells at cell) ≡
+      set (slots_of slot tags cells) at (slot (has_pair (slice_index tags at)) cell)
   slots-cell tags [] zero cell = refl
   slots-cell tags [] (suc at) cell = refl
   slots-cell [] (first ∷ cells) zero cell = refl
   slots-cell [] (first ∷ cells) (suc at) cell = ap (λ xs. slot false first ∷ xs) (slots-cell [] cells at cell)
   slots-cell (one ∷ tags) (first ∷ cells) zero cell = refl
-  slots-cell (one ∷ tags) (first ∷ cells) (suc at) cell = ap (λ xs. slot (has_pair one) first ∷ xs) (slots-cell tags cells at cell)
+  slots-cell (one ∷ tags) (first ∷ cells) (suc at) cell =
+      ap (λ xs. slot (has_pair one) first ∷ xs) (slots-cell tags cells at cell)
 
   -- one cell more
   pub slots-push :
       (tags : List ℕ) (cells : List C) (cell : C)
-      → slots_of slot tags (cells ++ cell ∷ []) ≡ slots_of slot tags cells ++ slot (has_pair (slice_index tags (length cells))) cell ∷ []
+      → slots_of slot tags (cells ++ cell ∷ []) ≡
+      slots_of slot tags cells ++ slot (has_pair (slice_index tags (length cells))) cell ∷ []
   slots-push [] [] cell = refl
   slots-push (one ∷ tags) [] cell = refl
   slots-push [] (first ∷ cells) cell = ap (λ xs. slot false first ∷ xs) (slots-push [] cells cell)
@@ -78,29 +82,32 @@ module _ {C T : Type 0} (slot : Bool → C → Option (ℕ × T)) where
   full_there tags cells at d inside full =
       slot_there tags cells at d inside ∙ ap (λ b. slot b (get_or cells at d)) (lt-ltb 1 (slice_index tags at) full)
 
-  -- What a cell is known to keep with any tag: where a pair stands, it stands by the tag of a full cell too, and where none
-  -- does, none does by the tag of a cell that isn't full.
-  module _ (told : (cell : C) → (slot false cell ≡ None) ⊎ (slot false cell ≡ slot true cell)) where
-    told_some : (tag : Bool) (cell : C) → IsSome (slot tag cell) → slot tag cell ≡ slot true cell
-    told_some true cell some = refl
-    told_some false cell some =
-        elim (told cell) [
+  -- A cell that shows a pair with its tag shows the same pair with the tag of a full cell. If it shows none with its
+  -- tag, it shows none with the tag of a cell that isn't full.
+  module _ (by_tag : (cell : C) → (slot false cell ≡ None) ⊎ (slot false cell ≡ slot true cell)) where
+    by_tag_some : (tag : Bool) (cell : C) → IsSome (slot tag cell) → slot tag cell ≡ slot true cell
+    by_tag_some true cell some = refl
+    by_tag_some false cell some =
+        elim (by_tag cell) [
           | inl none ↦ absurd (let never : false ≡ true = rw none at some in cc)
           | inr same ↦ same
         ]
 
-    told_none : (tag : Bool) (cell : C) → slot tag cell ≡ None → slot false cell ≡ None
-    told_none false cell none = none
-    told_none true cell none = elim (told cell) [ inl empty ↦ empty | inr same ↦ same ∙ none ]
+    by_tag_none : (tag : Bool) (cell : C) → slot tag cell ≡ None → slot false cell ≡ None
+    by_tag_none false cell none = none
+    by_tag_none true cell none = elim (by_tag cell) [ inl empty ↦ empty | inr same ↦ same ∙ none ]
 
     module _ (tags : List ℕ) (cells : List C) (at : ℕ) (d : C) (inside : at < length cells) where
-      pub some_there : IsSome (slot_at (slots_of slot tags cells) at) → slot_at (slots_of slot tags cells) at ≡ slot true (get_or cells at d)
+      pub some_there :
+          IsSome (slot_at (slots_of slot tags cells) at)
+          → slot_at (slots_of slot tags cells) at ≡ slot true (get_or cells at d)
       some_there some =
           let read = slot_there tags cells at d inside in
-          read ∙ told_some (has_pair (slice_index tags at)) (get_or cells at d) (subst (λ o. IsSome o) read some)
+          read ∙ by_tag_some (has_pair (slice_index tags at)) (get_or cells at d) (subst (λ o. IsSome o) read some)
 
       pub none_there : slot_at (slots_of slot tags cells) at ≡ None → slot false (get_or cells at d) ≡ None
-      none_there none = told_none (has_pair (slice_index tags at)) (get_or cells at d) (sym (slot_there tags cells at d inside) ∙ none)
+      none_there none =
+          by_tag_none (has_pair (slice_index tags at)) (get_or cells at d) (sym (slot_there tags cells at d inside) ∙ none)
 
   -- a pair that is put into a cell with the tag of a full one, and one that is taken out
   pub slots-put :
@@ -158,11 +165,11 @@ module _ {C T : Type 0} (slot : Bool → C → Option (ℕ × T)) where
       → full ≡ has_pair (slice_index tags n)
       → o ≡ slot full cell
       → slots_of slot tags cells ≡ slots_of slot tags rest ++ o ∷ []
-  slots-popped tags cells rest cell n full o split last told is =
+  slots-popped tags cells rest cell n full o split last by_tag is =
       ap (slots_of slot tags) split ∙ slots-push tags rest cell
-      ∙ ap (λ x. slots_of slot tags rest ++ x ∷ []) (ap (λ m. slot (has_pair (slice_index tags m)) cell) (sym last) ∙ ap (λ b. slot b cell) (sym told) ∙ sym is)
+      ∙ ap (λ x. slots_of slot tags rest ++ x ∷ []) (ap (λ m. slot (has_pair (slice_index tags m)) cell) (sym last) ∙ ap (λ b. slot b cell) (sym by_tag) ∙ sym is)
 
-  -- where the tag says that no pair stands, the slot is that beside no tag
+  -- if the tag says that there is no pair, the slot is as if there were no tag
   pub slots_bare :
       (tags : List ℕ) (cells : List C) (k : ℕ)
       → has_pair (slice_index tags k) ≡ false

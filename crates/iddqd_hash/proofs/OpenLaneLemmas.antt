@@ -48,7 +48,8 @@ pub free_mask :
     (v : List ℕ)
     → length v ≡ 16
     → mask_l (map (top 7) (zip2 less v (replicate 16 128))) % 2 ^ 64 ≡ mask_l (map is_free v)
-free_mask v long = rw (zip2_splat less v 16 128 long, map-map, free_tops v) (mask_l-mod (map is_free v) 64 (omega (arith, length-map v is_free)))
+free_mask v long =
+    rw (zip2_splat less v 16 128 long, map-map, free_tops v) (mask_l-mod (map is_free v) 64 (omega (arith, length-map v is_free)))
 
 pub not_free : (tag : ℕ) → is_free tag ≡ false → 128 ≤ tag
 not_free tag is = ltb-false tag 128 is
@@ -64,7 +65,8 @@ pub full_mask :
     (v : List ℕ)
     → length v ≡ 16
     → mask_l (map (top 7) (zip2 at_most (replicate 16 128) v)) % 2 ^ 64 ≡ mask_l (map is_full v)
-full_mask v long = rw (zip2_splat_left at_most 128 16 v long, map-map, full_tops v) (mask_l-mod (map is_full v) 64 (omega (arith, length-map v is_full)))
+full_mask v long =
+    rw (zip2_splat_left at_most 128 16 v long, map-map, full_tops v) (mask_l-mod (map is_full v) 64 (omega (arith, length-map v is_full)))
 
 pub not_full : (tag : ℕ) → is_full tag ≡ false → tag < 128
 not_full tag is = leb-false 128 tag is

@@ -33,7 +33,8 @@ module _ {T : Type 0} (tags : List ℕ) (slots : List (Option (ℕ × T))) (hash
         walk = record {
           steps = by.walk.steps + 1;
           is_there = sym (onward (length tags) from by.walk.steps 1) ∙ ap (λ x. (x + 1) % length tags) by.walk.is_there;
-          passed = below_more (λ k. 0 < slice_index tags ((from + k) % length tags)) by.walk.steps by.walk.passed (subst (λ x. 0 < slice_index tags x) (sym by.walk.is_there) used);
+          passed =
+              below_more (λ k. 0 < slice_index tags ((from + k) % length tags)) by.walk.steps by.walk.passed (subst (λ x. 0 < slice_index tags x) (sym by.walk.is_there) used);
         };
         others = λ k value below. below_more (λ k. (value : T) → slot_at slots ((from + k) % length tags) ≢ Some (hash, value)) by.walk.steps (λ k less value. by.others k value less) (subst (λ x. (value : T) → slot_at slots x ≢ Some (hash, value)) (sym by.walk.is_there) other) k below value;
       }
@@ -52,7 +53,8 @@ FindsNext-none tags slots hash from (Some place) none finds = absurd (none place
 
 -- a pair that is read at a place
 module _
-    {T : Type 0} (slots : List (Option (ℕ × T))) (at stored : ℕ) (held : T) (read : slot_at slots at ≡ Some (stored, held))
+    {T : Type 0} (slots : List (Option (ℕ × T))) (at stored : ℕ) (held : T)
+    (read : slot_at slots at ≡ Some (stored, held))
   where
     -- under the hash that is looked for
     pub full_read : (hash : ℕ) → stored ≡ hash → (value : T) × (slot_at slots at ≡ Some (hash, value))
@@ -61,11 +63,14 @@ module _
     pub hash_read : (hash : ℕ) (value : T) → slot_at slots at ≡ Some (hash, value) → stored ≡ hash
     hash_read hash value is = ap (λ (p : ℕ × T). p.0) (same_Some _ _ (sym read ∙ is))
 
-    -- the value that is read where a look-up hits
-    pub value_read : (hash : ℕ) (found : T) → slot_at slots at ≡ Some (hash, found) → slot_at slots at ≡ Some (hash, held)
+    -- the value that is read at the place of a hit
+    pub value_read :
+        (hash : ℕ) (found : T)
+        → slot_at slots at ≡ Some (hash, found)
+        → slot_at slots at ≡ Some (hash, held)
     value_read hash found is = read ∙ ap (λ n. Some (n, held)) (hash_read hash found is)
 
--- where a pair stands is its tag
+-- the tag of a cell with a pair is that of the pair's hash
 pub tag_read :
     {T : Type 0} (tags : List ℕ) (slots : List (Option (ℕ × T))) (at hash : ℕ) (value : T)
     → at < length tags
@@ -99,8 +104,10 @@ module _
           → Looking place last
       Looking-passed at place last looking by =
           let walk : IsReached tags hash place = IsReached-on tags hash at place looking.walk by.walk in
-          let below : looking.walk.steps + by.walk.steps < length tags = steps_within tags hash walk.steps some walk.passed in
-          let within : looking.walk.steps + by.walk.steps < length (from_home hash slots) = inside tags slots hash probed some place walk in
+          let below : looking.walk.steps + by.walk.steps < length tags =
+          steps_within tags hash walk.steps some walk.passed in
+          let within : looking.walk.steps + by.walk.steps < length (from_home hash slots) =
+          inside tags slots hash probed some place walk in
           record {
             walk = walk;
             were_refused =
@@ -127,7 +134,8 @@ module _
                 hit = record {
                   refused = under hash (pairs (take looking.walk.steps (from_home hash slots)));
                   unasked = under hash (pairs (drop (looking.walk.steps + 1) (from_home hash slots)));
-                  each_once = subst (λ xs. IsPermutation (under hash (pairs slots)) xs) (met_at hash (from_home hash slots) looking.walk.steps inside_here value read) (met_home hash slots);
+                  each_once =
+                      subst (λ xs. IsPermutation (under hash (pairs slots)) xs) (met_at hash (from_home hash slots) looking.walk.steps inside_here value read) (met_home hash slots);
                   before = before;
                   were_refused = looking.were_refused;
                   last = last;
@@ -138,7 +146,8 @@ module _
           pub Looking-next : ask before value false last → Looking ((place + 1) % length tags) last
           Looking-next refused =
               record {
-                walk = IsReached-next tags hash place looking.walk (used tags slots hash probed some place looking.walk value is);
+                walk =
+                    IsReached-next tags hash place looking.walk (used tags slots hash probed some place looking.walk value is);
                 were_refused =
                     rw (met_more hash (from_home hash slots) looking.walk.steps inside_here, met_same hash _ value read)
                     (FoldsTo-push _ f _ before value last looking.were_refused refused);

@@ -44,7 +44,8 @@ module _ {T : Type 0} where
       Moving-skip rest is =
           record {
             probed = state.probed;
-            moved = subst (λ xs. IsPermutation (pairs old) (pairs slots ++ xs)) (ap pairs is ∙ pairs-push rest None ∙ append-nil (pairs rest)) state.moved;
+            moved =
+                subst (λ xs. IsPermutation (pairs old) (pairs slots ++ xs)) (ap pairs is ∙ pairs-push rest None ∙ append-nil (pairs rest)) state.moved;
             unmarked = state.unmarked;
             counted = state.counted;
           }
@@ -59,7 +60,8 @@ module _ {T : Type 0} where
       Moving-put rest place hash value is inside small reached =
           let within : place < length slots = omega (arith, state.probed.same_length) in
           let suits : Suits (slice_index tags place) (slot_at slots place) = state.probed.suited place inside in
-          let free : slot_at slots place ≡ None = free_slot (slice_index tags place) (slot_at slots place) suits small in
+          let free : slot_at slots place ≡ None =
+          free_slot (slice_index tags place) (slot_at slots place) suits small in
           let low : slice_index tags place ≤ 1 = subst (λ o. Suits (slice_index tags place) o) free suits in
           let empty : slice_index tags place ≡ 0 = omega (arith, state.unmarked place) in
           let was : used_count (slice_index tags place) ≡ 0 = ap used_count empty in
@@ -70,7 +72,8 @@ module _ {T : Type 0} where
           rw (is, pairs-push rest (Some (hash, value)), ← append_assoc) (IsPermutation-to_front (pairs slots ++ pairs rest) (hash, value)) in
           record {
             probed = IsProbed-put tags slots state.probed place inside hash value reached;
-            moved = IsPermutation-trans _ _ _ state.moved (IsPermutation-trans _ _ _ last (IsPermutation-append_left (pairs rest) _ _ (pairs-put slots place (hash, value) within free)));
+            moved =
+                IsPermutation-trans _ _ _ state.moved (IsPermutation-trans _ _ _ last (IsPermutation-append_left (pairs rest) _ _ (pairs-put slots place (hash, value) within free)));
             unmarked = λ k one.
                 elim (cases_eq k place) [
                   | inl same ↦ absurd (let tag : slice_index (set tags place (tag_of hash)) k ≡ tag_of hash = rw same (get_or-set_same tags place (tag_of hash) 0 inside) in omega arith)
@@ -84,4 +87,5 @@ module _ {T : Type 0} where
       → Moving old left tags slots
       → left ≡ []
       → IsPermutation (pairs old) (pairs slots)
-  Moving-end old left tags slots state none = subst (λ xs. IsPermutation (pairs old) xs) (ap (λ xs. pairs slots ++ pairs xs) none ∙ append-nil (pairs slots)) state.moved
+  Moving-end old left tags slots state none =
+      subst (λ xs. IsPermutation (pairs old) xs) (ap (λ xs. pairs slots ++ pairs xs) none ∙ append-nil (pairs slots)) state.moved

@@ -31,7 +31,8 @@ IsPastFull-next tags from at walk full =
     record {
       steps = walk.steps + 1;
       is_there = sym (onward (length tags) from walk.steps 1) ∙ ap (λ x. (x + 1) % length tags) walk.is_there;
-      full = below_more (λ k. 128 ≤ slice_index tags ((from + k) % length tags)) walk.steps walk.full (subst (λ x. 128 ≤ slice_index tags x) (sym walk.is_there) full);
+      full =
+          below_more (λ k. 128 ≤ slice_index tags ((from + k) % length tags)) walk.steps walk.full (subst (λ x. 128 ≤ slice_index tags x) (sym walk.is_there) full);
     }
 
 -- one walk, and another from its end
@@ -47,7 +48,8 @@ module _ (tags : List ℕ) (from a b : ℕ) (walk : IsPastFull tags from a) (fur
             let past : walk.steps ≤ k = ltb-false _ _ is in
             let j : ℕ = k - walk.steps in
             let k-is : k ≡ walk.steps + j = omega arith in
-            let same : (from + k) % length tags ≡ (a + j) % length tags = ap (λ x. (from + x) % length tags) k-is ∙ moved_on j in
+            let same : (from + k) % length tags ≡ (a + j) % length tags =
+            ap (λ x. (from + x) % length tags) k-is ∙ moved_on j in
             subst (λ x. 128 ≤ slice_index tags x) (sym same) (further.full j (omega arith))
       ] refl
 
@@ -67,7 +69,7 @@ IsPastFull-run tags at run place inside full is =
       full = λ k below. subst (λ x. 128 ≤ slice_index tags x) (sym (mod-eq_of_lt (omega arith))) (full (at + k) (omega arith) (omega arith));
     }
 
--- a walk past full cells goes on where more cells are full
+-- a probe past full cells still is one if more cells are full
 pub IsPastFull-kept :
     (tags now : List ℕ) (from at : ℕ)
     → length now ≡ length tags

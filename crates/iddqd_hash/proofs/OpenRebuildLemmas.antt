@@ -11,7 +11,7 @@ use Rattle.iddqd_hash.proofs.OpenPastFullLemmas.{IsReached-past_full, IsPastFull
 use Rattle.iddqd_hash.proofs.OpenSlotLemmas.{pairs-put, pairs-taken, some_inside, used_count, used_one, used-cons}
 use Rattle.iddqd_hash.proofs.OpenTableLemmas.{some_empty}
 
--- one where a cell is pending, else none
+-- 1 if a cell is pending, else 0
 abbrev pub pending_count : ℕ → ℕ
 pending_count tag = cond (is_pending tag) 1 0
 
@@ -38,7 +38,8 @@ stays_full :
     → 128 ≤ slice_index tags k
     → 128 ≤ slice_index (set tags place tag) k
 stays_full tags place tag k free full =
-    let other : k ≢ place = λ same. let is : slice_index tags k ≡ slice_index tags place = ap (slice_index tags) same in omega arith in
+    let other : k ≢ place =
+    λ same. let is : slice_index tags k ≡ slice_index tags place = ap (slice_index tags) same in omega arith in
     rw (get_or-set_other tags place k tag 0 other) full
 
 pub NoMorePending-set :
@@ -75,7 +76,8 @@ module _ {T : Type 0} where
   counted [] (slot ∷ slots) same suited = absurd (omega arith)
   counted (tag ∷ tags) [] same suited = absurd (omega arith)
   counted (tag ∷ tags) (slot ∷ slots) same suited =
-      used-cons tag tags ∙ by_slot slot (suited 0 (omega arith)) (counted tags slots (omega arith) (λ place below. suited (suc place) (omega arith)))
+      used-cons tag tags
+      ∙ by_slot slot (suited 0 (omega arith)) (counted tags slots (omega arith) (λ place below. suited (suc place) (omega arith)))
     where
       by_slot :
           (slot : Option (ℕ × T))
@@ -106,7 +108,8 @@ module _ {T : Type 0} where
         same_length = probed.same_length ∙ sym same;
         suited = λ place below. by_slot place (slot_at slots place) (probed.suited place (omega arith));
         placed = λ place pair is high.
-            let suits : Suits (slice_index tags place) (Some pair) = subst (λ o. Suits (slice_index tags place) o) is (probed.suited place (omega (arith, inside place pair is))) in
+            let suits : Suits (slice_index tags place) (Some pair) =
+            subst (λ o. Suits (slice_index tags place) o) is (probed.suited place (omega (arith, inside place pair is))) in
             absurd (let now-is : slice_index now place ≡ pending = full place (omega arith) in omega arith);
       }
     where
@@ -121,17 +124,19 @@ module _ {T : Type 0} where
       by_slot place (Some pair) suits = inl (full place (omega arith))
 
   -- the tags at the start of a rebuild say of each cell whether it has a pair, as they did before
-  pub reset_told :
+  pub reset_keeps :
       (tags now : List ℕ) (slots : List (Option (ℕ × T)))
       → IsProbed tags slots
       → ((k : ℕ) → 128 ≤ slice_index tags k → slice_index now k ≡ pending)
       → ((k : ℕ) → slice_index tags k < 128 → slice_index now k ≡ 0)
       → (k : ℕ)
       → has_pair (slice_index now k) ≡ has_pair (slice_index tags k)
-  reset_told tags now slots probed full others k =
+  reset_keeps tags now slots probed full others k =
       elim (ltb (slice_index tags k) 128) as (λ b. ltb (slice_index tags k) 128 ≡ b → has_pair (slice_index now k) ≡ has_pair (slice_index tags k)) [
-        | true ↦ λ is. let small = ltb-true _ _ is in ap has_pair (others k small) ∙ sym (le-ltb 1 (slice_index tags k) (free small))
-        | false ↦ λ is. let high = ltb-false _ _ is in ap has_pair (full k high) ∙ sym (lt-ltb 1 (slice_index tags k) (omega arith))
+        | true ↦ λ is. let small =
+            ltb-true _ _ is in ap has_pair (others k small) ∙ sym (le-ltb 1 (slice_index tags k) (free small))
+        | false ↦ λ is. let high =
+            ltb-false _ _ is in ap has_pair (full k high) ∙ sym (lt-ltb 1 (slice_index tags k) (omega arith))
       ] refl
     where
       by_slot : (tag : ℕ) (slot : Option (ℕ × T)) → Suits tag slot → tag < 128 → tag ≤ 1
@@ -164,8 +169,10 @@ module _ {T : Type 0} where
 
       high : (place : ℕ) (pair : ℕ × T) → slot_at slots place ≡ Some pair → 128 ≤ slice_index tags place
       high place pair is =
-          let below : place < length tags = omega (arith, some_inside slots place (some_of _ pair is), state.same_length) in
-          let suits : Suits (slice_index tags place) (Some pair) = subst (λ o. Suits (slice_index tags place) o) is (by_slot (slice_index tags place) (slot_at slots place) (none place (omega arith)) (state.suited place below)) in
+          let below : place < length tags =
+          omega (arith, some_inside slots place (some_of _ pair is), state.same_length) in
+          let suits : Suits (slice_index tags place) (Some pair) =
+          subst (λ o. Suits (slice_index tags place) o) is (by_slot (slice_index tags place) (slot_at slots place) (none place (omega arith)) (state.suited place below)) in
           omega arith
 
   module _
@@ -188,7 +195,8 @@ module _ {T : Type 0} where
           ]
 
       kept : (tag from at : ℕ) → IsPastFull tags from at → IsPastFull (set tags place tag) from at
-      kept tag from at = IsPastFull-kept tags (set tags place tag) from at (length-set tags place tag) (λ k. stays_full tags place tag k free)
+      kept tag from at =
+          IsPastFull-kept tags (set tags place tag) from at (length-set tags place tag) (λ k. stays_full tags place tag k free)
 
       -- what stands in another place stays placed
       placed_other :
@@ -200,19 +208,23 @@ module _ {T : Type 0} where
       placed_other tag slot at pair other is high =
           kept tag pair.0 at (state.placed at pair (sym (get_or-set_other slots place at slot None other) ∙ is) (subst (λ n. 128 ≤ n) (get_or-set_other tags place at tag 0 other) high))
 
-      -- a pair that is put where none is placed
+      -- a pair that is put into a cell with no placed pair
       pub IsPartlyPlaced-put :
           (hash : ℕ) (value : T)
           → IsPastFull tags hash place
           → IsPartlyPlaced (set tags place (tag_of hash)) (set slots place (Some (hash, value)))
       IsPartlyPlaced-put hash value walk =
           record {
-            same_length = length-set slots place (Some (hash, value)) ∙ state.same_length ∙ sym (length-set tags place (tag_of hash));
+            same_length =
+                length-set slots place (Some (hash, value)) ∙ state.same_length
+                ∙ sym (length-set tags place (tag_of hash));
             suited = suited-set (tag_of hash) (Some (hash, value)) (inr refl);
             placed = λ at pair is high.
                 elim (cases_eq at place) [
                   | inl same ↦
-                      let both : Some (hash, value) ≡ Some pair = sym (get_or-set_same slots place (Some (hash, value)) None within) ∙ ap (slot_at (set slots place (Some (hash, value)))) (sym same) ∙ is in
+                      let both : Some (hash, value) ≡ Some pair =
+                      sym (get_or-set_same slots place (Some (hash, value)) None within)
+                      ∙ ap (slot_at (set slots place (Some (hash, value)))) (sym same) ∙ is in
                       let here : (hash, value) ≡ pair = cc in
                       subst (λ (p : ℕ × T). IsPastFull (set tags place (tag_of hash)) p.0 at) here (subst (λ n. IsPastFull (set tags place (tag_of hash)) hash n) (sym same) (kept (tag_of hash) hash place walk))
                   | inr other ↦ placed_other (tag_of hash) (Some (hash, value)) at pair other is high
@@ -240,11 +252,14 @@ module _ {T : Type 0} where
       → IsPermutation (pair ∷ pairs slots) (was ∷ pairs (set slots place (Some pair)))
   pairs-exchanged slots place pair was inside is =
       let empty : length (set slots place None) ≡ length slots = length-set slots place None in
-      let out : IsPermutation (pair ∷ pairs slots) (pair ∷ was ∷ pairs (set slots place None)) = IsPermutation-cons pair _ _ (pairs-taken slots place was inside is) in
-      let turned : IsPermutation (pair ∷ was ∷ pairs (set slots place None)) (was ∷ pair ∷ pairs (set slots place None)) = IsPermutation-middle (pair ∷ []) was (pairs (set slots place None)) in
+      let out : IsPermutation (pair ∷ pairs slots) (pair ∷ was ∷ pairs (set slots place None)) =
+      IsPermutation-cons pair _ _ (pairs-taken slots place was inside is) in
+      let turned : IsPermutation (pair ∷ was ∷ pairs (set slots place None)) (was ∷ pair ∷ pairs (set slots place None)) =
+      IsPermutation-middle (pair ∷ []) was (pairs (set slots place None)) in
       let put : IsPermutation (pair ∷ pairs (set slots place None)) (pairs (set (set slots place None) place (Some pair))) =
       pairs-put (set slots place None) place pair (omega arith) (get_or-set_same slots place None None inside) in
-      let both : IsPermutation (pair ∷ pairs (set slots place None)) (pairs (set slots place (Some pair))) = subst (λ xs. IsPermutation (pair ∷ pairs (set slots place None)) (pairs xs)) (set-set slots place None (Some pair)) put in
+      let both : IsPermutation (pair ∷ pairs (set slots place None)) (pairs (set slots place (Some pair))) =
+      subst (λ xs. IsPermutation (pair ∷ pairs (set slots place None)) (pairs xs)) (set-set slots place None (Some pair)) put in
       IsPermutation-trans _ _ _ out (IsPermutation-trans _ _ _ turned (IsPermutation-cons was _ _ both))
 
   -- one pair was taken out of the slots and isn't put back yet; the cell from which the first one came has none to be
@@ -279,14 +294,16 @@ module _ {T : Type 0} where
     where
       -- an empty cell is there as long as not more pairs are there than fit
       pub Carrying-room : length (pairs old) ≤ limit_of (length tags) → HasEmpty tags
-      Carrying-room fits = some_empty tags (omega (arith, IsPartlyPlaced-counted tags slots state.partly_placed, length_permutation _ _ state.moved))
+      Carrying-room fits =
+          some_empty tags (omega (arith, IsPartlyPlaced-counted tags slots state.partly_placed, length_permutation _ _ state.moved))
 
       not_pending-set :
           (place tag : ℕ)
           → place < length tags
           → tag ≢ pending
           → slice_index (set tags place tag) at ≢ pending
-      not_pending-set place tag inside other = NoMorePending-at (NoMorePending-set tags tags place tag inside other (λ k is. is))
+      not_pending-set place tag inside other =
+          NoMorePending-at (NoMorePending-set tags tags place tag inside other (λ k is. is))
         where
           NoMorePending-at : NoMorePending tags (set tags place tag) → slice_index (set tags place tag) at ≢ pending
           NoMorePending-at none is = state.not_pending (none at is)
@@ -301,8 +318,10 @@ module _ {T : Type 0} where
       Carrying-next place was inside is walk here =
           let other : tag_of hash ≢ pending = λ same. absurd (omega arith) in
           record {
-            partly_placed = IsPartlyPlaced-put tags slots state.partly_placed place inside (omega arith) hash value walk;
-            moved = IsPermutation-trans _ _ _ state.moved (pairs-exchanged slots place (hash, value) was (omega (arith, state.partly_placed.same_length)) here);
+            partly_placed =
+                IsPartlyPlaced-put tags slots state.partly_placed place inside (omega arith) hash value walk;
+            moved =
+                IsPermutation-trans _ _ _ state.moved (pairs-exchanged slots place (hash, value) was (omega (arith, state.partly_placed.same_length)) here);
             not_pending = not_pending-set place (tag_of hash) inside other;
             no_more = NoMorePending-set old_tags tags place (tag_of hash) inside other state.no_more;
           }
@@ -312,7 +331,8 @@ module _ {T : Type 0} where
           (empty : slice_index tags place ≢ pending) (walk : IsPastFull tags hash place)
         where
           pub Carrying-free : slot_at slots place ≡ None
-          Carrying-free = free_none (slice_index tags place) (slot_at slots place) (state.partly_placed.suited place inside) free empty
+          Carrying-free =
+              free_none (slice_index tags place) (slot_at slots place) (state.partly_placed.suited place inside) free empty
 
           other_tag : tag_of hash ≢ pending
           other_tag same = absurd (omega arith)
@@ -321,7 +341,8 @@ module _ {T : Type 0} where
           IsPartlyPlaced-end = IsPartlyPlaced-put tags slots state.partly_placed place inside free hash value walk
 
           pub moved-end : IsPermutation (pairs old) (pairs (set slots place (Some (hash, value))))
-          moved-end = IsPermutation-trans _ _ _ state.moved (pairs-put slots place (hash, value) (omega (arith, state.partly_placed.same_length)) Carrying-free)
+          moved-end =
+              IsPermutation-trans _ _ _ state.moved (pairs-put slots place (hash, value) (omega (arith, state.partly_placed.same_length)) Carrying-free)
 
           pub not_pending-end : slice_index (set tags place (tag_of hash)) at ≢ pending
           not_pending-end = not_pending-set place (tag_of hash) inside other_tag
@@ -348,7 +369,8 @@ pub TagsReset-more :
 TagsReset-more old tags at tag inside state full others =
     let here : slice_index (set tags at tag) at ≡ tag = get_or-set_same tags at tag 0 inside in
     let was : slice_index tags at ≡ slice_index old at = state.later at (omega arith) in
-    let before : (k : ℕ) → k ≢ at → slice_index (set tags at tag) k ≡ slice_index tags k = λ k other. get_or-set_other tags at k tag 0 other in
+    let before : (k : ℕ) → k ≢ at → slice_index (set tags at tag) k ≡ slice_index tags k =
+    λ k other. get_or-set_other tags at k tag 0 other in
     record {
       full = λ k below high.
           elim (cases_eq k at) [

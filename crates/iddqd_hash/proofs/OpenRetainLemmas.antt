@@ -8,7 +8,7 @@ use Rattle.std.proofs.lemmas.List.{take_all, take_more, take_more_set, drop_more
 use Rattle.std.proofs.lemmas.List.Elements.{filter-append, filter_map-append, Contains-append_right, AllZip-push}
 use Rattle.std.proofs.lemmas.List.Sorted.{IsPermutation-refl}
 use Rattle.std.proofs.lemmas.Fn.{FoldsTo-push}
-use Rattle.iddqd_hash.specs.Asks.{KeepsTo}
+use Rattle.iddqd_hash.specs.Asks.{RetainsPairsTo}
 use Rattle.iddqd_hash.specs.HashTable.{values, Rewrites}
 use Rattle.iddqd_hash.specs.OpenTable.{slot_at, pairs, hashes_of, NoneFull, IsProbed}
 use Rattle.iddqd_hash.proofs.OpenSlotLemmas.{pairs-push, free_slot}
@@ -20,7 +20,8 @@ module _ {T : Type 0} where
       → at < length slots
       → slot_at slots at ≡ slot
       → pairs (take (at + 1) slots) ≡ pairs (take at slots) ++ pairs (slot ∷ [])
-  pairs_more slots at slot below is = ap pairs (take_more slots at None below ∙ ap (λ s. take at slots ++ s ∷ []) is) ∙ pairs-push (take at slots) slot
+  pairs_more slots at slot below is =
+      ap pairs (take_more slots at None below ∙ ap (λ s. take at slots ++ s ∷ []) is) ∙ pairs-push (take at slots) slot
 
   pairs_more_set :
       (slots : List (Option (ℕ × T))) (at : ℕ) (slot : Option (ℕ × T))
@@ -36,7 +37,8 @@ module _ {T : Type 0} where
       → drop at now ≡ drop at old
       → (slot_at old at ≡ slot_at now at) × (drop (at + 1) now ≡ drop (at + 1) old)
   both_ways old now at in_old in_now same =
-      let both : slot_at old at ∷ drop (at + 1) old ≡ slot_at now at ∷ drop (at + 1) now = sym (drop_more old at None in_old) ∙ sym same ∙ drop_more now at None in_now in
+      let both : slot_at old at ∷ drop (at + 1) old ≡ slot_at now at ∷ drop (at + 1) now =
+      sym (drop_more old at None in_old) ∙ sym same ∙ drop_more now at None in_now in
       (cc, sym (ap (drop 1) both))
 
   Contains-slot :
@@ -54,7 +56,7 @@ module _ {T : Type 0} where
   none_of_length [] none = refl
   none_of_length (e ∷ es) none = absurd (omega arith)
 
-  -- where no pair stands from a place on, all stand before it
+  -- if no pair is at a place or after it, all are before it
   all_taken :
       (slots : List (Option (ℕ × T))) (at : ℕ)
       → pairs (drop at slots) ≡ []
@@ -118,7 +120,8 @@ module _ {F T : Type 0} (ask : F → T → Bool → F → Type 0) (f : F) (old :
               asked = asks_more true;
               were_asked = FoldsTo-push _ f _ before (pair, true) last state.were_asked called;
               kept =
-                  ap (map (λ a. a.0)) (filter-append (λ a. a.1) state.asks ((pair, true) ∷ [])) ∙ map-append (λ a. a.0) (filter (λ a. a.1) state.asks) ((pair, true) ∷ [])
+                  ap (map (λ a. a.0)) (filter-append (λ a. a.1) state.asks ((pair, true) ∷ []))
+                  ∙ map-append (λ a. a.0) (filter (λ a. a.1) state.asks) ((pair, true) ∷ [])
                   ∙ ap (λ xs. xs ++ pair ∷ []) state.kept ∙ sym (pairs_more now at (Some pair) in_now is);
               behind = (both_ways old now at within in_now state.behind).1;
             }
@@ -133,17 +136,19 @@ module _ {F T : Type 0} (ask : F → T → Bool → F → Type 0) (f : F) (old :
               kept =
                   ap (map (λ a. a.0)) (filter-append (λ a. a.1) state.asks ((pair, false) ∷ []) ∙ append-nil (filter (λ a. a.1) state.asks))
                   ∙ state.kept ∙ sym (pairs_more_set now at None in_now ∙ append-nil _);
-              behind = drop-set-lt (at + 1) now at None (omega arith) ∙ (both_ways old now at within in_now state.behind).1;
+              behind =
+                  drop-set-lt (at + 1) now at None (omega arith) ∙ (both_ways old now at within in_now state.behind).1;
             }
 
-  -- so many places without a pair
+  -- places without a pair
   pub Keeping-skip :
       (before : F) (now : List (Option (ℕ × T))) (at run : ℕ)
       → at + run ≤ length old
       → ((k : ℕ) → at ≤ k → k < at + run → slot_at now k ≡ None)
       → Keeping before now at
       → Keeping before now (at + run)
-  Keeping-skip before now at zero within none state = subst (Keeping before now) (let same : at ≡ at + 0 = omega arith in same) state
+  Keeping-skip before now at zero within none state =
+      subst (Keeping before now) (let same : at ≡ at + 0 = omega arith in same) state
   Keeping-skip before now at (suc run) within none state =
       subst (Keeping before now) (let same : at + run + 1 ≡ at + suc run = omega arith in same)
       (Keeping-none before now (at + run) (omega arith) (Keeping-skip before now at run (omega arith) (λ k from to. none k from (omega arith)) state) (none (at + run) (omega arith) (omega arith)))
@@ -160,13 +165,13 @@ module _ {F T : Type 0} (ask : F → T → Bool → F → Type 0) (f : F) (old :
       subst (Keeping before now) (let same : at + (to - at) ≡ to = omega arith in same)
       (Keeping-skip before now at (to - at) (omega (arith, state.same_length, probed.same_length)) (λ k from below. free_slot _ _ (probed.suited k (omega arith)) (gaps k from below)) state)
 
-  -- where no pair is left, all were asked
-  pub Keeps-at_end :
+  -- if no pair is left, all were asked about
+  pub RetainsPairs-at_end :
       (last : F) (now : List (Option (ℕ × T))) (at : ℕ)
       → length (pairs (drop at now)) ≡ 0
       → Keeping last now at
-      → KeepsTo ask f (pairs old) (pairs now) last
-  Keeps-at_end last now at ended state =
+      → RetainsPairsTo ask f (pairs old) (pairs now) last
+  RetainsPairs-at_end last now at ended state =
       let none_now : pairs (drop at now) ≡ [] = none_of_length (pairs (drop at now)) ended in
       let none_old : pairs (drop at old) ≡ [] = ap pairs (sym state.behind) ∙ none_now in
       record {
@@ -195,19 +200,23 @@ module _ {T : Type 0} (gives : T → T → Type 0) (old : List (Option (ℕ × T
           let both = both_ways old now at within (omega arith) state.behind in
           record {
             same_hashes = state.same_hashes;
-            each = rw (pairs_more old at None within (both.0 ∙ is), pairs_more now at None (omega arith) is, append-nil, append-nil) state.each;
+            each =
+                rw (pairs_more old at None within (both.0 ∙ is), pairs_more now at None (omega arith) is, append-nil, append-nil) state.each;
             behind = both.1;
           }
 
       module _ (hash : ℕ) (value : T) (is : slot_at now at ≡ Some (hash, value)) where
         pub Contains-rewritten : Contains (values (pairs old)) value
-        Contains-rewritten = Contains-slot old at (hash, value) within ((both_ways old now at within (omega arith) state.behind).0 ∙ is)
+        Contains-rewritten =
+            Contains-slot old at (hash, value) within ((both_ways old now at within (omega arith) state.behind).0 ∙ is)
 
         pub Rewriting-more : (answer : T) → gives value answer → Rewriting (set now at (Some (hash, answer))) (at + 1)
         Rewriting-more answer given =
             let both = both_ways old now at within (omega arith) state.behind in
             record {
-              same_hashes = map-set_same (λ slot. option_map (λ pair. pair.0) slot) now at (Some (hash, answer)) None (ap (option_map (λ pair. pair.0)) (sym is)) ∙ state.same_hashes;
+              same_hashes =
+                  map-set_same (λ slot. option_map (λ pair. pair.0) slot) now at (Some (hash, answer)) None (ap (option_map (λ pair. pair.0)) (sym is))
+                  ∙ state.same_hashes;
               each =
                   rw (pairs_more old at (Some (hash, value)) within (both.0 ∙ is), pairs_more_set now at (Some (hash, answer)) (omega arith))
                   (AllZip-push _ (pairs (take at old)) (pairs (take at now)) (hash, value) (hash, answer) state.each (refl, given));

@@ -66,7 +66,8 @@ from_home-length : {X : Type 0} (hash : ℕ) (xs : List X) → 0 < length xs →
 from_home-length hash xs some =
     let home : ℕ = hash % length xs in
     let home_below : home < length xs = mod-lt hash some in
-    length-append (drop home xs) (take home xs) ∙ omega (arith, length-drop home xs, length-take-le home xs (omega arith))
+    length-append (drop home xs) (take home xs)
+    ∙ omega (arith, length-drop home xs, length-take-le home xs (omega arith))
 
 module _ {T : Type 0} (hash : ℕ) where
   -- the values under the hash in slots
@@ -74,14 +75,17 @@ module _ {T : Type 0} (hash : ℕ) where
   met slots = under hash (pairs slots)
 
   pub met-append : (xs ys : List (Option (ℕ × T))) → met (xs ++ ys) ≡ met xs ++ met ys
-  met-append xs ys = ap (under hash) (filter_map-append (λ (slot : Option (ℕ × T)). slot) xs ys) ∙ under-append hash (pairs xs) (pairs ys)
+  met-append xs ys =
+      ap (under hash) (filter_map-append (λ (slot : Option (ℕ × T)). slot) xs ys)
+      ∙ under-append hash (pairs xs) (pairs ys)
 
   pub met_same : (slot : Option (ℕ × T)) (value : T) → slot ≡ Some (hash, value) → met (slot ∷ []) ≡ value ∷ []
   met_same slot value is = ap (λ s. met (s ∷ [])) is ∙ under-cons_same hash hash value [] (eq-eqb hash hash refl)
 
   met_other : (slot : Option (ℕ × T)) → ((value : T) → slot ≢ Some (hash, value)) → met (slot ∷ []) ≡ []
   met_other None other = refl
-  met_other (Some pair) other = under-cons_other hash pair.0 pair.1 [] (ne_eqb pair.0 hash (λ same. other pair.1 (ap (λ n. Some (n, pair.1)) same)))
+  met_other (Some pair) other =
+      under-cons_other hash pair.0 pair.1 [] (ne_eqb pair.0 hash (λ same. other pair.1 (ap (λ n. Some (n, pair.1)) same)))
 
   met_none :
       (slots : List (Option (ℕ × T)))
@@ -107,7 +111,8 @@ module _ {T : Type 0} (hash : ℕ) where
         (value : T)
         → get_or slots k None ≡ Some (hash, value)
         → met slots ≡ met (take k slots) ++ value ∷ met (drop (k + 1) slots)
-    met_at value is = met_whole ∙ ap (λ xs. met (take k slots) ++ (xs ++ met (drop (k + 1) slots))) (met_same _ value is)
+    met_at value is =
+        met_whole ∙ ap (λ xs. met (take k slots) ++ (xs ++ met (drop (k + 1) slots))) (met_same _ value is)
 
   -- a value that stands under the hash
   pub Contains-met :
@@ -121,8 +126,10 @@ module _ {T : Type 0} (hash : ℕ) where
   pub met_home : (slots : List (Option (ℕ × T))) → IsPermutation (met slots) (met (from_home hash slots))
   met_home slots =
       let n : ℕ = hash % length slots in
-      let first : met slots ≡ met (take n slots) ++ met (drop n slots) = ap met (sym (take-append-drop n slots)) ∙ met-append (take n slots) (drop n slots) in
-      let second : met (from_home hash slots) ≡ met (drop n slots) ++ met (take n slots) = met-append (drop n slots) (take n slots) in
+      let first : met slots ≡ met (take n slots) ++ met (drop n slots) =
+      ap met (sym (take-append-drop n slots)) ∙ met-append (take n slots) (drop n slots) in
+      let second : met (from_home hash slots) ≡ met (drop n slots) ++ met (take n slots) =
+      met-append (drop n slots) (take n slots) in
       rw (first, second) (IsPermutation-append_comm (met (take n slots)) (met (drop n slots)))
 
   -- places that have no pair under the hash
@@ -165,7 +172,7 @@ module _ {T : Type 0} (hash : ℕ) where
       ∙ met-append (get_or slots k None ∷ []) (drop (k + 1) slots)
       ∙ ap (λ xs. xs ++ met (drop (k + 1) slots)) (met_same _ value is)
 
--- a walk from the home of a hash, in a table where some cell is empty
+-- a probe for a hash, in a table with an empty cell
 module _
     {T : Type 0} (tags : List ℕ) (slots : List (Option (ℕ × T))) (hash : ℕ) (probed : IsProbed tags slots)
     (some : HasEmpty tags)
@@ -174,7 +181,9 @@ module _
         (k : ℕ)
         → k < length tags
         → get_or (from_home hash slots) k None ≡ slot_at slots ((hash + k) % length tags)
-    read_at k below = from_home-at hash slots k None (omega (arith, probed.same_length)) ∙ ap (λ n. slot_at slots ((hash + k) % n)) probed.same_length
+    read_at k below =
+        from_home-at hash slots k None (omega (arith, probed.same_length))
+        ∙ ap (λ n. slot_at slots ((hash + k) % n)) probed.same_length
 
     long : 0 < length tags → length (from_home hash slots) ≡ length tags
     long some = from_home-length hash slots (omega (arith, probed.same_length)) ∙ probed.same_length
@@ -187,7 +196,8 @@ module _
       inside = let below : walk.steps < length tags = within in omega (arith, long (omega arith))
 
       place_inside : place < length tags
-      place_inside = subst (λ x. x < length tags) walk.is_there (mod-lt (hash + walk.steps) (let below : walk.steps < length tags = within in omega arith))
+      place_inside =
+          subst (λ x. x < length tags) walk.is_there (mod-lt (hash + walk.steps) (let below : walk.steps < length tags = within in omega arith))
 
       module _ (value : T) (is : slot_at slots place ≡ Some (hash, value)) where
         pub read_here : get_or (from_home hash slots) walk.steps None ≡ Some (hash, value)
@@ -195,7 +205,8 @@ module _
 
         pub used : 0 < slice_index tags place
         used =
-            let suits : Suits (slice_index tags place) (Some (hash, value)) = subst (λ s. Suits (slice_index tags place) s) is (probed.suited place place_inside) in
+            let suits : Suits (slice_index tags place) (Some (hash, value)) =
+            subst (λ s. Suits (slice_index tags place) s) is (probed.suited place place_inside) in
             omega arith
 
       module _ (empty : slice_index tags place ≡ 0) where
@@ -206,17 +217,24 @@ module _
         none_later k value below is =
             let low : walk.steps < length tags = within in
             let s : ℕ = walk.steps in
-            let inside : s + k < length tags = omega (arith, length-drop s (from_home hash slots), long (omega arith)) in
-            let there : slot_at slots ((hash + (s + k)) % length tags) ≡ Some (hash, value) = sym (read_at (s + k) inside) ∙ sym (get_or-drop s (from_home hash slots) k None) ∙ is in
+            let inside : s + k < length tags =
+            omega (arith, length-drop s (from_home hash slots), long (omega arith)) in
+            let there : slot_at slots ((hash + (s + k)) % length tags) ≡ Some (hash, value) =
+            sym (read_at (s + k) inside) ∙ sym (get_or-drop s (from_home hash slots) k None) ∙ is in
             let reached : IsReached tags hash ((hash + (s + k)) % length tags) = probed.reached _ (hash, value) there in
-            let reached_within : reached.steps < length tags = steps_within tags hash reached.steps some reached.passed in
-            let same : reached.steps ≡ s + k = same_steps (length tags) hash reached.steps (s + k) reached_within inside reached.is_there in
-            let not_used : slice_index tags ((hash + s) % length tags) ≡ 0 = ap (slice_index tags) walk.is_there ∙ empty in
+            let reached_within : reached.steps < length tags =
+            steps_within tags hash reached.steps some reached.passed in
+            let same : reached.steps ≡ s + k =
+            same_steps (length tags) hash reached.steps (s + k) reached_within inside reached.is_there in
+            let not_used : slice_index tags ((hash + s) % length tags) ≡ 0 =
+            ap (slice_index tags) walk.is_there ∙ empty in
             elim k as (λ j. k ≡ j → ⊥) [
               | zero ↦ λ first.
-                  let at : (hash + (s + k)) % length tags ≡ place = ap (λ x. (hash + x) % length tags) (let sum : s + k ≡ s = omega arith in sum) ∙ walk.is_there in
+                  let at : (hash + (s + k)) % length tags ≡ place =
+                  ap (λ x. (hash + x) % length tags) (let sum : s + k ≡ s = omega arith in sum) ∙ walk.is_there in
                   let suits : Suits (slice_index tags place) (slot_at slots place) = probed.suited place place_inside in
-                  let tag : slice_index tags place ≡ tag_of hash = subst (λ o. Suits (slice_index tags place) o) (ap (slot_at slots) (sym at) ∙ there) suits in
+                  let tag : slice_index tags place ≡ tag_of hash =
+                  subst (λ o. Suits (slice_index tags place) o) (ap (slot_at slots) (sym at) ∙ there) suits in
                   omega arith
               | suc j ↦ λ later.
                   let passed_it : 0 < slice_index tags ((hash + s) % length tags) = reached.passed s (omega arith) in
@@ -234,5 +252,6 @@ module _
         → k < by.walk.steps
         → get_or (from_home hash slots) (walk.steps + k) None ≢ Some (hash, value)
     others_on at place walk by k value within below is =
-        let moved : (hash + (walk.steps + k)) % length tags ≡ (at + k) % length tags = sym (onward (length tags) hash walk.steps k) ∙ ap (λ x. (x + k) % length tags) walk.is_there in
+        let moved : (hash + (walk.steps + k)) % length tags ≡ (at + k) % length tags =
+        sym (onward (length tags) hash walk.steps k) ∙ ap (λ x. (x + k) % length tags) walk.is_there in
         by.others k value below (ap (slot_at slots) (sym moved) ∙ sym (read_at (walk.steps + k) (omega arith)) ∙ is)

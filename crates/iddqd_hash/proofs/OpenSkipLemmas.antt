@@ -14,7 +14,8 @@ or_false false b h = (refl, h)
 pub other_tag : (tag here : ℕ) → is_stop tag here ≡ false → (here ≢ tag) × (0 < here)
 other_tag tag here other =
     let both = or_false (here == tag) (here == 0) other in
-    let some : here ≢ 0 = λ none. let yes : (here == 0) ≡ true = eq-eqb here 0 none in let no : (here == 0) ≡ false = both.1 in cc in
+    let some : here ≢ 0 =
+    λ none. let yes : (here == 0) ≡ true = eq-eqb here 0 none in let no : (here == 0) ≡ false = both.1 in cc in
     (λ same. let yes : (here == tag) ≡ true = eq-eqb here tag same in let no : (here == tag) ≡ false = both.0 in cc, omega arith)
 
 -- a stop that hasn't the tag is empty
@@ -101,5 +102,6 @@ module _
         beyond k below past =
             let j : ℕ = k - by.walk.steps in
             let k-is : k ≡ by.walk.steps + j = omega arith in
-            let same : (from + k) % length tags ≡ (a + j) % length tags = ap (λ x. (from + x) % length tags) k-is ∙ on_from j in
+            let same : (from + k) % length tags ≡ (a + j) % length tags =
+            ap (λ x. (from + x) % length tags) k-is ∙ on_from j in
             subst (λ x. (slice_index tags x ≢ tag_of hash) × (0 < slice_index tags x)) (sym same) (other_tag (tag_of hash) _ (skips.others j (omega arith)))

@@ -78,7 +78,8 @@ module _ {T : Type 0} where
       → IsPermutation (pair ∷ pairs slots) (pairs (set slots place (Some pair)))
   pairs-put slots place pair inside free =
       let before : pairs slots ≡ pairs (take place slots) ++ pairs (drop (place + 1) slots) =
-      pairs_at slots place inside ∙ ap (λ s. pairs (take place slots) ++ (pairs (s ∷ []) ++ pairs (drop (place + 1) slots))) free in
+      pairs_at slots place inside
+      ∙ ap (λ s. pairs (take place slots) ++ (pairs (s ∷ []) ++ pairs (drop (place + 1) slots))) free in
       rw (before, pairs-set slots place (Some pair) inside) (IsPermutation-sym _ _ (IsPermutation-middle (pairs (take place slots)) pair (pairs (drop (place + 1) slots))))
 
   -- a pair that was taken out of its slot, and no other
@@ -89,7 +90,8 @@ module _ {T : Type 0} where
       → IsPermutation (pairs slots) (pair ∷ pairs (set slots place None))
   pairs-taken slots place pair inside full =
       let before : pairs slots ≡ pairs (take place slots) ++ pair ∷ pairs (drop (place + 1) slots) =
-      pairs_at slots place inside ∙ ap (λ s. pairs (take place slots) ++ (pairs (s ∷ []) ++ pairs (drop (place + 1) slots))) full in
+      pairs_at slots place inside
+      ∙ ap (λ s. pairs (take place slots) ++ (pairs (s ∷ []) ++ pairs (drop (place + 1) slots))) full in
       rw (before, pairs-set slots place None inside) (IsPermutation-middle (pairs (take place slots)) pair (pairs (drop (place + 1) slots)))
 
   pub length-put :
@@ -97,14 +99,16 @@ module _ {T : Type 0} where
       → place < length slots
       → slot_at slots place ≡ None
       → length (pairs (set slots place (Some pair))) ≡ length (pairs slots) + 1
-  length-put slots place pair inside free = length_permutation _ _ (pairs-put slots place pair inside free) ∙ omega arith
+  length-put slots place pair inside free =
+      length_permutation _ _ (pairs-put slots place pair inside free) ∙ omega arith
 
   pub length-taken :
       (slots : List (Option (ℕ × T))) (place : ℕ) (pair : ℕ × T)
       → place < length slots
       → slot_at slots place ≡ Some pair
       → length (pairs (set slots place None)) + 1 ≡ length (pairs slots)
-  length-taken slots place pair inside full = let same = length_permutation _ _ (pairs-taken slots place pair inside full) in omega arith
+  length-taken slots place pair inside full =
+      let same = length_permutation _ _ (pairs-taken slots place pair inside full) in omega arith
 
   -- there is no more pair than slots
   pub length_pairs : (slots : List (Option (ℕ × T))) → length (pairs slots) ≤ length slots
@@ -121,12 +125,12 @@ module _ {T : Type 0} where
   some_is None some = absurd (let never : false ≡ true = some in cc)
   some_is (Some pair) some = (pair, refl)
 
-  -- no pair stands where the tag is small
+  -- if the tag is less than 128, there is no pair
   pub free_slot : (tag : ℕ) (slot : Option (ℕ × T)) → Suits tag slot → tag < 128 → slot ≡ None
   free_slot tag None suits small = refl
   free_slot tag (Some pair) suits small = absurd (omega arith)
 
-  -- a pair stands where the tag isn't
+  -- otherwise there is one
   pub full_slot : (tag : ℕ) (slot : Option (ℕ × T)) → Suits tag slot → 128 ≤ tag → IsSome slot
   full_slot tag None suits full = absurd (omega arith)
   full_slot tag (Some pair) suits full = refl
@@ -151,7 +155,8 @@ module _ {T : Type 0} where
       same_lengths tag slot = length-set slots place slot ∙ probed.same_length ∙ sym (length-set tags place tag)
 
       reached-set : (tag at : ℕ) (hash : ℕ) → 0 < tag → IsReached tags hash at → IsReached (set tags place tag) hash at
-      reached-set tag at hash some = IsReached-kept tags (set tags place tag) hash at (length-set tags place tag) (λ k used. set_used tags place tag k some used)
+      reached-set tag at hash some =
+          IsReached-kept tags (set tags place tag) hash at (length-set tags place tag) (λ k used. set_used tags place tag k some used)
 
       pub IsProbed-put :
           (hash : ℕ) (value : T)
@@ -171,7 +176,9 @@ module _ {T : Type 0} where
           by_place at pair is =
               elim (cases_eq at place) [
                 | inl same ↦
-                    let both : Some (hash, value) ≡ Some pair = sym (get_or-set_same slots place (Some (hash, value)) None (omega (arith, probed.same_length))) ∙ ap (slot_at (set slots place (Some (hash, value)))) (sym same) ∙ is in
+                    let both : Some (hash, value) ≡ Some pair =
+                    sym (get_or-set_same slots place (Some (hash, value)) None (omega (arith, probed.same_length)))
+                    ∙ ap (slot_at (set slots place (Some (hash, value)))) (sym same) ∙ is in
                     let here : (hash, value) ≡ pair = cc in
                     subst (λ (p : ℕ × T). IsReached tags p.0 at) here (subst (λ n. IsReached tags hash n) (sym same) reached)
                 | inr other ↦ probed.reached at pair (sym (get_or-set_other slots place at (Some (hash, value)) None other) ∙ is)
@@ -189,7 +196,9 @@ module _ {T : Type 0} where
           by_place at pair is =
               elim (cases_eq at place) [
                 | inl same ↦
-                    let both : None ≡ Some pair = sym (get_or-set_same slots place None None (omega (arith, probed.same_length))) ∙ ap (slot_at (set slots place None)) (sym same) ∙ is in
+                    let both : None ≡ Some pair =
+                    sym (get_or-set_same slots place None None (omega (arith, probed.same_length)))
+                    ∙ ap (slot_at (set slots place None)) (sym same) ∙ is in
                     absurd (cc)
                 | inr other ↦ probed.reached at pair (sym (get_or-set_other slots place at None None other) ∙ is)
               ]
@@ -231,7 +240,8 @@ module _ {T : Type 0} where
   hash_at [] (n ∷ now) place same = absurd (cc)
   hash_at (s ∷ slots) [] place same = absurd (cc)
   hash_at (s ∷ slots) (n ∷ now) zero same = let first : hash_in n ≡ hash_in s = cc in first
-  hash_at (s ∷ slots) (n ∷ now) (suc place) same = hash_at slots now place (let rest : hashes_of now ≡ hashes_of slots = cc in rest)
+  hash_at (s ∷ slots) (n ∷ now) (suc place) same =
+      hash_at slots now place (let rest : hashes_of now ≡ hashes_of slots = cc in rest)
 
   pair_was :
       (slot : Option (ℕ × T)) (pair : ℕ × T)
@@ -261,12 +271,14 @@ module _ {T : Type 0} where
   length-rewritten [] [] same = refl
   length-rewritten [] (n ∷ now) same = absurd (cc)
   length-rewritten (s ∷ slots) [] same = absurd (cc)
-  length-rewritten (None ∷ slots) (None ∷ now) same = length-rewritten slots now (let rest : hashes_of now ≡ hashes_of slots = cc in rest)
+  length-rewritten (None ∷ slots) (None ∷ now) same =
+      length-rewritten slots now (let rest : hashes_of now ≡ hashes_of slots = cc in rest)
   length-rewritten (None ∷ slots) (Some b ∷ now) same = absurd (cc)
   length-rewritten (Some a ∷ slots) (None ∷ now) same = absurd (cc)
-  length-rewritten (Some a ∷ slots) (Some b ∷ now) same = ap suc (length-rewritten slots now (let rest : hashes_of now ≡ hashes_of slots = cc in rest))
+  length-rewritten (Some a ∷ slots) (Some b ∷ now) same =
+      ap suc (length-rewritten slots now (let rest : hashes_of now ≡ hashes_of slots = cc in rest))
 
--- one where a cell with this tag is full or marked
+-- 1 if a cell with this tag is full or marked, else 0
 abbrev pub used_count : ℕ → ℕ
 used_count tag = cond (is_used tag) 1 0
 

@@ -10,30 +10,30 @@ use Rattle.std.specs.Option.{option_flatten}
 use Rattle.iddqd_hash.specs.Asks.{FindsPlace, HitsPair, Misses}
 use Rattle.iddqd_hash.specs.HashTable.{Table, entries, pair_at, under, room, capacity, memory, HasNoMemory, KeepsMemory, UsesRoom}
 use Rattle.iddqd_hash.specs.Sizes.{most_cells, Reserves}
-use Rattle.iddqd_hash.specs.OpenTable.{tag_of, limit_of, usable_of, is_used, slot_at, hashes_of, pairs, Suits, HasEmpty, IsPowerOfTwo, IsReached, IsProbed, IsSound, opened}
+use Rattle.iddqd_hash.specs.OpenTable.{tag_of, limit_of, usable_of, is_used, slot_at, hashes_of, pairs, Suits, HasEmpty, IsPowerOfTwo, IsReached, IsProbed, IsSound, table_of}
 use Rattle.iddqd_hash.proofs.OpenSlotLemmas.{IsProbed-put, IsProbed-taken, IsProbed-empty, length-put, length-taken, used-set, used_one, used_count, used-cons, unused, pairs-empty, free_slot, IsProbed-rewritten, length-rewritten}
 
 module _ {T : Type 0} (slots : List (Option (ℕ × T))) where
-  pub entries-opened : entries (opened slots) ≡ pairs slots
-  unfolding entries opened
-  entries-opened = refl
+  pub entries-table_of : entries (table_of slots) ≡ pairs slots
+  unfolding entries table_of
+  entries-table_of = refl
 
-  pub room-opened : room (opened slots) ≡ usable_of (length slots) - length (pairs slots)
-  unfolding room opened
-  room-opened = refl
+  pub room-table_of : room (table_of slots) ≡ usable_of (length slots) - length (pairs slots)
+  unfolding room table_of
+  room-table_of = refl
 
-  pub memory-opened : memory (opened slots) ≡ length slots
-  unfolding memory opened
-  memory-opened = refl
+  pub memory-table_of : memory (table_of slots) ≡ length slots
+  unfolding memory table_of
+  memory-table_of = refl
 
-  pub capacity-opened :
+  pub capacity-table_of :
       length (pairs slots) ≤ usable_of (length slots)
-      → capacity (opened slots) ≡ usable_of (length slots)
-  capacity-opened fits = rw (entries-opened, room-opened) (omega arith)
+      → capacity (table_of slots) ≡ usable_of (length slots)
+  capacity-table_of fits = rw (entries-table_of, room-table_of) (omega arith)
 
-  pub pair_at-opened : (place : ℕ) → pair_at (opened slots) place ≡ slot_at slots place
-  unfolding pair_at opened
-  pair_at-opened place = flattened slots place
+  pub pair_at-table_of : (place : ℕ) → pair_at (table_of slots) place ≡ slot_at slots place
+  unfolding pair_at table_of
+  pair_at-table_of place = flattened slots place
     where
       flattened :
           (slots : List (Option (ℕ × T))) (place : ℕ)
@@ -47,26 +47,28 @@ module _
     {T : Type 0} (old new : List (Option (ℕ × T))) (same : length new ≡ length old)
     (fits : length (pairs old) ≤ usable_of (length old))
   where
-    pub KeepsMemory-opened : length (pairs new) ≤ length (pairs old) → KeepsMemory (opened old) (opened new)
-    KeepsMemory-opened fewer =
+    pub KeepsMemory-table_of : length (pairs new) ≤ length (pairs old) → KeepsMemory (table_of old) (table_of new)
+    KeepsMemory-table_of fewer =
         record {
-          room_stays = rw (room-opened old, room-opened new, same) (omega arith);
-          same_capacity = rw (entries-opened old, entries-opened new, room-opened old, room-opened new, same) (omega arith);
-          same_memory = rw (memory-opened old, memory-opened new) same;
+          room_stays = rw (room-table_of old, room-table_of new, same) (omega arith);
+          same_capacity =
+              rw (entries-table_of old, entries-table_of new, room-table_of old, room-table_of new, same) (omega arith);
+          same_memory = rw (memory-table_of old, memory-table_of new) same;
         }
 
-    pub UsesRoom-opened :
+    pub UsesRoom-table_of :
         length (pairs new) ≡ length (pairs old) + 1
         → length (pairs old) < usable_of (length old)
-        → UsesRoom (opened old) (opened new)
-    UsesRoom-opened more some =
+        → UsesRoom (table_of old) (table_of new)
+    UsesRoom-table_of more some =
         record {
-          one_less = rw (room-opened old, room-opened new, same) (omega arith);
-          same_capacity = rw (entries-opened old, entries-opened new, room-opened old, room-opened new, same) (omega arith);
-          same_memory = rw (memory-opened old, memory-opened new) same;
+          one_less = rw (room-table_of old, room-table_of new, same) (omega arith);
+          same_capacity =
+              rw (entries-table_of old, entries-table_of new, room-table_of old, room-table_of new, same) (omega arith);
+          same_memory = rw (memory-table_of old, memory-table_of new) same;
         }
 
--- all room is there where no pair is left
+-- if no pair is left, the room is the capacity
 pub KeepsMemory-cleared :
     {T : Type 0} (old new : Table T)
     → KeepsMemory old new
@@ -74,36 +76,38 @@ pub KeepsMemory-cleared :
     → room new ≡ capacity old
 KeepsMemory-cleared old new kept none = omega (arith, kept.same_capacity, ap length none)
 
-pub HasNoMemory-opened : {T : Type 0} (slots : List (Option (ℕ × T))) → slots ≡ [] → HasNoMemory (opened slots)
-HasNoMemory-opened slots none =
+pub HasNoMemory-table_of : {T : Type 0} (slots : List (Option (ℕ × T))) → slots ≡ [] → HasNoMemory (table_of slots)
+HasNoMemory-table_of slots none =
     record {
-      no_room = room-opened slots ∙ ap (λ xs. usable_of (length xs) - length (pairs xs)) none;
-      no_cell = memory-opened slots ∙ ap length none;
+      no_room = room-table_of slots ∙ ap (λ xs. usable_of (length xs) - length (pairs xs)) none;
+      no_cell = memory-table_of slots ∙ ap length none;
     }
 
 -- a place that is found in slots
-pub FindsPlace-opened :
+pub FindsPlace-table_of :
     {F T : Type 0} (ask : F → T → Bool → F → Type 0) (f : F) (hash : ℕ) (xs : List T) (slots : List (Option (ℕ × T)))
     (r : Option ℕ)
     → FindsPlace ask f hash xs (slot_at slots) r
-    → FindsPlace ask f hash xs (pair_at (opened slots)) r
-FindsPlace-opened ask f hash xs slots None finds = finds
-FindsPlace-opened ask f hash xs slots (Some place) finds = subst (λ o. HitsPair ask f hash xs o) (sym (pair_at-opened slots place)) finds
+    → FindsPlace ask f hash xs (pair_at (table_of slots)) r
+FindsPlace-table_of ask f hash xs slots None finds = finds
+FindsPlace-table_of ask f hash xs slots (Some place) finds =
+    subst (λ o. HitsPair ask f hash xs o) (sym (pair_at-table_of slots place)) finds
 
 -- what is said of the pair that it hit, if it hit one
-pub IfSome-opened :
+pub IfSome-table_of :
     {T V : Type 0} (value : V → T) (hash : ℕ) (slots : List (Option (ℕ × T))) (r : Option (ℕ × V))
     → IfSome r (λ found. slot_at slots found.0 ≡ Some (hash, value found.1))
-    → IfSome r (λ found. pair_at (opened slots) found.0 ≡ Some (hash, value found.1))
-IfSome-opened value hash slots None is = tt
-IfSome-opened value hash slots (Some found) is = pair_at-opened slots found.0 ∙ is
+    → IfSome r (λ found. pair_at (table_of slots) found.0 ≡ Some (hash, value found.1))
+IfSome-table_of value hash slots None is = tt
+IfSome-table_of value hash slots (Some found) is = pair_at-table_of slots found.0 ∙ is
 
--- a look-up where there is no cell
+-- a look-up in a table without cells
 pub Misses-nothing :
     {F T : Type 0} (ask : F → T → Bool → F → Type 0) (f : F) (hash : ℕ) (slots : List (Option (ℕ × T)))
     → length slots ≡ 0
     → Misses ask f (under hash (pairs slots))
-Misses-nothing {T} ask f hash slots none = rw (nil_from_length slots none) (record { asked = []; each_once = IsPermutation-refl []; last = f; were_refused = refl })
+Misses-nothing {T} ask f hash slots none =
+    rw (nil_from_length slots none) (record { asked = []; each_once = IsPermutation-refl []; last = f; were_refused = refl })
 
 either_counts : (b : Bool) → bool_byte b + cond (not b) 1 0 ≡ 1
 either_counts true = refl
@@ -150,7 +154,7 @@ pairs_used {T} (tag ∷ tags) (slot ∷ slots) same suited =
         let one : used_count tag ≡ 1 = used_one tag some in
         omega (arith, counts, rest)
 
--- where there are cells
+-- if there are cells
 module _
     {T : Type 0} (tags : List ℕ) (slots : List (Option (ℕ × T))) (len used : ℕ) (sound : IsSound tags slots len used)
   where
@@ -164,15 +168,16 @@ module _
     pub fits_from : length (pairs slots) ≤ usable_of (length slots)
     fits_from = rw sound.probed.same_length (omega (arith, sound.counted, sound.fits))
 
-    -- where there is room, fewer pairs stand in the cells than may
-    pub room_of : 1 ≤ room (opened slots) → len < usable_of (length tags)
+    -- if there is room, the cells have fewer pairs than they may
+    pub room_of : 1 ≤ room (table_of slots) → len < usable_of (length tags)
     room_of some =
-        let more : 1 ≤ usable_of (length slots) - length (pairs slots) = rw room-opened at some in
+        let more : 1 ≤ usable_of (length slots) - length (pairs slots) = rw room-table_of at some in
         omega (arith, more, sound.counted, sound.probed.same_length)
 
-    -- where no cell is full or marked, there is no pair
+    -- if no cell is full or marked, there is no pair
     pub unused_empty : used ≡ 0 → pairs slots ≡ []
-    unused_empty none = nil_from_length (pairs slots) (omega (arith, sound.marked, pairs_used tags slots sound.probed.same_length sound.probed.suited))
+    unused_empty none =
+        nil_from_length (pairs slots) (omega (arith, sound.marked, pairs_used tags slots sound.probed.same_length sound.probed.suited))
 
 module _ {T : Type 0} where
   pub IsSound-none :
@@ -206,7 +211,8 @@ module _ {T : Type 0} where
     IsSound-taken place pair inside full =
         let within : place < length slots = omega (arith, sound.probed.same_length) in
         let fewer = length-taken slots place pair within full in
-        let suits : slice_index tags place ≡ tag_of pair.0 = subst (λ o. Suits (slice_index tags place) o) full (sound.probed.suited place inside) in
+        let suits : slice_index tags place ≡ tag_of pair.0 =
+        subst (λ o. Suits (slice_index tags place) o) full (sound.probed.suited place inside) in
         let was : used_count (slice_index tags place) ≡ 1 = used_one (slice_index tags place) (omega arith) in
         let counts = used-set tags place 1 inside in
         record {
@@ -230,7 +236,8 @@ module _ {T : Type 0} where
         → IsSound (set tags place (tag_of hash)) (set slots place (Some (hash, value))) (len + 1) now
     IsSound-put place hash value now inside small reached counts limited some =
         let within : place < length slots = omega (arith, sound.probed.same_length) in
-        let free : slot_at slots place ≡ None = free_slot (slice_index tags place) (slot_at slots place) (sound.probed.suited place inside) small in
+        let free : slot_at slots place ≡ None =
+        free_slot (slice_index tags place) (slot_at slots place) (sound.probed.suited place inside) small in
         let more = length-put slots place (hash, value) within free in
         let is : used_count (tag_of hash) ≡ 1 = used_one (tag_of hash) (omega arith) in
         let counted = used-set tags place (tag_of hash) inside in
@@ -365,5 +372,6 @@ Reserves-placed additional old new (Err e) usable count short enough more few re
       had_room = λ had. absurd (omega arith);
       room_stays = subst (λ t. room old ≤ room t) (sym refused) (omega arith);
       memory_stays = subst (λ t. memory old ≤ memory t) (sym refused) (omega arith);
-      few = subst (λ t. memory t ≤ max (memory old) (most_cells (length (entries old) + additional))) (sym refused) (omega arith);
+      few =
+          subst (λ t. memory t ≤ max (memory old) (most_cells (length (entries old) + additional))) (sym refused) (omega arith);
     }

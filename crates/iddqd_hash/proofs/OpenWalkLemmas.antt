@@ -2,7 +2,7 @@
 use Rattle.std.proofs.Common.{◌≡◌, ◌∙◌, ℕ, ◌+◌, ◌-◌, ◌*◌, ◌/◌, ◌%◌, ◌<◌, ◌≤◌, List, Option, Some, None, length, slice_index, true, false, ltb, ltb-true, ltb-false, refl, sym, ap, subst, arith, add_assoc, add-zero}
 use Rattle.std.proofs.Math.Nat.{mod-add-mod, add-mod-mod, mod-eq_of_lt, mod-lt, mul-add-mod_self_left, div-add-mod}
 use borrow.Author.Count.{below_more}
-use Rattle.iddqd_hash.specs.OpenTable.{HasEmpty, Passed, IsReached}
+use Rattle.iddqd_hash.specs.OpenTable.{HasEmpty, NoneEmpty, IsReached}
 use Rattle.iddqd_hash.specs.OpenWalkUnder.{steps_to}
 
 -- two walks, one from the end of the other
@@ -39,8 +39,8 @@ pub same_steps : (n from a b : ℕ) → a < n → b < n → (from + a) % n ≡ (
 same_steps n from a b below_a below_b same =
     sym (steps_to-walked n from a below_a) ∙ ap (steps_to n from) same ∙ steps_to-walked n from b below_b
 
--- where some cell is empty, a walk past full and marked cells has not come round
-pub steps_within : (tags : List ℕ) (from s : ℕ) → HasEmpty tags → Passed tags from s → s < length tags
+-- if some cell is empty, a probe past full and marked cells has not come round
+pub steps_within : (tags : List ℕ) (from s : ℕ) → HasEmpty tags → NoneEmpty tags from s → s < length tags
 steps_within tags from s (k, inside, empty) passed =
     let n = length tags in
     let e = steps_to n from k in
@@ -63,8 +63,9 @@ IsReached-start tags from =
     }
 
 module _ (tags : List ℕ) (from at : ℕ) (walk : IsReached tags from at) (used : 0 < slice_index tags at) where
-  pub one_more : Passed tags from (walk.steps + 1)
-  one_more = below_more (λ k. 0 < slice_index tags ((from + k) % length tags)) walk.steps walk.passed (subst (λ x. 0 < slice_index tags x) (sym walk.is_there) used)
+  pub one_more : NoneEmpty tags from (walk.steps + 1)
+  one_more =
+      below_more (λ k. 0 < slice_index tags ((from + k) % length tags)) walk.steps walk.passed (subst (λ x. 0 < slice_index tags x) (sym walk.is_there) used)
 
   pub one_on : (from + (walk.steps + 1)) % length tags ≡ (at + 1) % length tags
   one_on = sym (onward (length tags) from walk.steps 1) ∙ ap (λ x. (x + 1) % length tags) walk.is_there
@@ -90,7 +91,8 @@ pub places_left-next :
 places_left-next tags from at some walk used =
     let n = length tags in
     let within : walk.steps + 1 < n = steps_within tags from (walk.steps + 1) some (one_more tags from at walk used) in
-    let now : steps_to n from at ≡ walk.steps = subst (λ x. steps_to n from x ≡ walk.steps) walk.is_there (steps_to-walked n from walk.steps (omega arith)) in
+    let now : steps_to n from at ≡ walk.steps =
+    subst (λ x. steps_to n from x ≡ walk.steps) walk.is_there (steps_to-walked n from walk.steps (omega arith)) in
     let then : steps_to n from ((at + 1) % n) ≡ walk.steps + 1 =
     subst (λ x. steps_to n from x ≡ walk.steps + 1) (one_on tags from at walk used) (steps_to-walked n from (walk.steps + 1) within) in
     omega arith
@@ -100,7 +102,7 @@ module _ (tags : List ℕ) (from a b : ℕ) (walk : IsReached tags from a) (furt
   pub moved_on : (k : ℕ) → (from + (walk.steps + k)) % length tags ≡ (a + k) % length tags
   moved_on k = sym (onward (length tags) from walk.steps k) ∙ ap (λ x. (x + k) % length tags) walk.is_there
 
-  pub passed_both : Passed tags from (walk.steps + further.steps)
+  pub passed_both : NoneEmpty tags from (walk.steps + further.steps)
   passed_both k below =
       elim (ltb k walk.steps) as (λ b. ltb k walk.steps ≡ b → 0 < slice_index tags ((from + k) % length tags)) [
         | true ↦ λ is. walk.passed k (ltb-true _ _ is)
@@ -108,7 +110,8 @@ module _ (tags : List ℕ) (from a b : ℕ) (walk : IsReached tags from a) (furt
             let past : walk.steps ≤ k = ltb-false _ _ is in
             let j : ℕ = k - walk.steps in
             let k-is : k ≡ walk.steps + j = omega arith in
-            let same : (from + k) % length tags ≡ (a + j) % length tags = ap (λ x. (from + x) % length tags) k-is ∙ moved_on j in
+            let same : (from + k) % length tags ≡ (a + j) % length tags =
+            ap (λ x. (from + x) % length tags) k-is ∙ moved_on j in
             subst (λ x. 0 < slice_index tags x) (sym same) (further.passed j (omega arith))
       ] refl
 
@@ -118,13 +121,15 @@ module _ (tags : List ℕ) (from a b : ℕ) (walk : IsReached tags from a) (furt
   pub places_left-on : HasEmpty tags → places_left (length tags) from b ≤ places_left (length tags) from a
   places_left-on some =
       let n : ℕ = length tags in
-      let within : walk.steps + further.steps < n = steps_within tags from (walk.steps + further.steps) some passed_both in
-      let now : steps_to n from a ≡ walk.steps = subst (λ x. steps_to n from x ≡ walk.steps) walk.is_there (steps_to-walked n from walk.steps (omega arith)) in
+      let within : walk.steps + further.steps < n =
+      steps_within tags from (walk.steps + further.steps) some passed_both in
+      let now : steps_to n from a ≡ walk.steps =
+      subst (λ x. steps_to n from x ≡ walk.steps) walk.is_there (steps_to-walked n from walk.steps (omega arith)) in
       let then : steps_to n from b ≡ walk.steps + further.steps =
       subst (λ x. steps_to n from x ≡ walk.steps + further.steps) (moved_on further.steps ∙ further.is_there) (steps_to-walked n from (walk.steps + further.steps) within) in
       omega arith
 
--- how many places a walk that looks for a hash has before it, where it stands at what it found, or found none
+-- how many places a probe has still to come to, when it has come to what it looked for or found none
 abbrev pub found_left : ℕ → ℕ → Option ℕ → ℕ
 found_left n from None = 0
 found_left n from (Some place) = places_left n from place + 1
@@ -134,4 +139,5 @@ pub found_left-next :
     → ((next : ℕ) → r ≡ Some next → places_left n from next < places_left n from place)
     → found_left n from r < found_left n from (Some place)
 found_left-next n from place None less = omega arith
-found_left-next n from place (Some next) less = let here : places_left n from next < places_left n from place = less next refl in omega arith
+found_left-next n from place (Some next) less =
+    let here : places_left n from next < places_left n from place = less next refl in omega arith

@@ -26,7 +26,8 @@ module _ {T : Type 0} (tags : List ℕ) (slots : List (Option (ℕ × T))) (hash
   rest_at place some walk =
       let n : ℕ = length tags in
       let below : walk.steps < n = within tags slots hash probed some place walk in
-      let here : steps_to n hash place ≡ walk.steps = subst (λ x. steps_to n hash x ≡ walk.steps) walk.is_there (steps_to-walked n hash walk.steps below) in
+      let here : steps_to n hash place ≡ walk.steps =
+      subst (λ x. steps_to n hash x ≡ walk.steps) walk.is_there (steps_to-walked n hash walk.steps below) in
       ap (λ k. met hash (drop k (from_home hash slots))) (ap (λ n. steps_to n hash place) probed.same_length ∙ here)
 
   pub rest-start :
@@ -41,13 +42,16 @@ module _ {T : Type 0} (tags : List ℕ) (slots : List (Option (ℕ × T))) (hash
     there = IsReached-on tags hash from place on.reached by.walk
 
     pub place_inside : place < length tags
-    place_inside = subst (λ x. x < length tags) there.is_there (mod-lt (hash + there.steps) (omega (arith, GoesOn-inside tags hash from on)))
+    place_inside =
+        subst (λ x. x < length tags) there.is_there (mod-lt (hash + there.steps) (omega (arith, GoesOn-inside tags hash from on)))
 
     rest-passed :
         rest_under hash slots (Some from) ≡ met hash (drop (on.reached.steps + by.walk.steps) (from_home hash slots))
     rest-passed =
-        let below : on.reached.steps + by.walk.steps < length tags = within tags slots hash probed on.ends place there in
-        let before : on.reached.steps + by.walk.steps < length (from_home hash slots) = inside tags slots hash probed on.ends place there in
+        let below : on.reached.steps + by.walk.steps < length tags =
+        within tags slots hash probed on.ends place there in
+        let before : on.reached.steps + by.walk.steps < length (from_home hash slots) =
+        inside tags slots hash probed on.ends place there in
         rest_at from on.ends on.reached
         ∙ met-dropped hash (from_home hash slots) on.reached.steps by.walk.steps (omega arith) (λ k value less. others_on tags slots hash probed on.ends from place on.reached by k value below less)
 
@@ -58,7 +62,8 @@ module _ {T : Type 0} (tags : List ℕ) (slots : List (Option (ℕ × T))) (hash
       abbrev further : IsReached tags hash ((place + 1) % length tags)
       further = IsReached-next tags hash place there (used tags slots hash probed on.ends place there value is)
 
-      pub rest-found : rest_under hash slots (Some from) ≡ value ∷ rest_under hash slots (Some ((place + 1) % length tags))
+      pub rest-found :
+          rest_under hash slots (Some from) ≡ value ∷ rest_under hash slots (Some ((place + 1) % length tags))
       rest-found =
           rest-passed
           ∙ met_from hash (from_home hash slots) (on.reached.steps + by.walk.steps) value (inside tags slots hash probed on.ends place there) (read_here tags slots hash probed on.ends place there value is)
@@ -74,7 +79,8 @@ pub record Begins {T : Type 0} (tags : List ℕ) (slots : List (Option (ℕ × T
   pub all : IsPermutation (under hash (pairs slots)) (rest_under hash slots from)
 
 module _
-    {T : Type 0} (tags : List ℕ) (slots : List (Option (ℕ × T))) (len used hash : ℕ) (sound : IsSound tags slots len used)
+    {T : Type 0} (tags : List ℕ) (slots : List (Option (ℕ × T))) (len used hash : ℕ)
+    (sound : IsSound tags slots len used)
   where
     pub Begins-ended : length tags ≡ 0 → Begins tags slots hash None len
     Begins-ended none =
@@ -87,7 +93,8 @@ module _
     Begins-home some =
         let ends : HasEmpty tags = empty_from tags slots len used sound some in
         let power : IsPowerOfTwo (length tags) = power_from tags slots len used sound some in
-        let all : IsPermutation (under hash (pairs slots)) (rest_under hash slots (Some (hash % length tags))) = rest-start tags slots hash sound.probed ends in
+        let all : IsPermutation (under hash (pairs slots)) (rest_under hash slots (Some (hash % length tags))) =
+        rest-start tags slots hash sound.probed ends in
         record {
           walk = record {
             probed = sound.probed;

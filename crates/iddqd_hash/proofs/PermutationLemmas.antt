@@ -43,7 +43,7 @@ module _
 pub IsPermutation-turn : {X : Type 0} (x y : X) (xs : List X) → IsPermutation (x ∷ y ∷ xs) (y ∷ x ∷ xs)
 IsPermutation-turn x y xs = IsPermutation-append_left xs _ _ (IsPermutation-append_comm (x ∷ []) (y ∷ []))
 
--- what passes a test is only moved where the whole is
+-- if a list is permuted, so are its items that pass a test
 pub IsPermutation-filter :
     {X : Type 0} (p : X → Bool) (xs ys : List X)
     → IsPermutation xs ys

@@ -1,4 +1,4 @@
--- What becomes of the map of a bag where each index gets a new name.
+-- What becomes of the map of a bag if each index gets a new name.
 use Rattle.std.proofs.Common.{◌≡◌, ◌∙◌, ◌↔◌, ℕ, ◌<◌, true, false, List, [], ◌∷◌, map, length, get_or, Some, None, IsSome, refl, sym, ap, subst, arith, Contains}
 use Rattle.std.specs.List.{AllByRecursion, IsDistinct}
 use Rattle.std.specs.List.Sorted.{IsPermutation}
@@ -35,7 +35,8 @@ module _ (es : List (ℕ × ℕ)) (apart : IsDistinctlyFiled es) where
 
   pair_from_filed : (hash ix : ℕ) → finite.get (filed_from es) ix ≡ Some hash → Contains es (hash, ix)
   pair_from_filed hash ix is =
-      let under_hash : Contains (under hash es) ix = Contains-permutation _ _ ix (IsPermutation-sym _ _ (under_filed hash es apart)) (under_from_filed (filed_from es) hash ix is) in
+      let under_hash : Contains (under hash es) ix =
+      Contains-permutation _ _ ix (IsPermutation-sym _ _ (under_filed hash es apart)) (under_from_filed (filed_from es) hash ix is) in
       Contains-under hash es ix under_hash
 
   -- an index of the bag is filed
@@ -43,7 +44,8 @@ module _ (es : List (ℕ × ℕ)) (apart : IsDistinctlyFiled es) where
   filed_from_value ix here =
       let found = Contains-from_map (λ (e : ℕ × ℕ). e.1) es (0, 0) ix here in
       let at : finite.get (filed_from es) found.0.1 ≡ Some found.0.0 = filed_from_pair found.0.0 found.0.1 found.1 in
-      let same : finite.get (filed_from es) ix ≡ Some found.0.0 = subst (λ x. finite.get (filed_from es) x ≡ Some found.0.0) found.2 at in
+      let same : finite.get (filed_from es) ix ≡ Some found.0.0 =
+      subst (λ x. finite.get (filed_from es) x ≡ Some found.0.0) found.2 at in
       rw same refl
 
 module _ (name : ℕ → ℕ) where
@@ -64,7 +66,8 @@ module _ (name : ℕ → ℕ) where
   names_apart x (y ∷ ys) one apart =
       let other : name x ≡ name y → ⊥ = λ same.
       let is : x ≡ y = one y (0, omega arith, refl) same in
-      let tie : eq_by_cmp nat_cmp x y ≡ true = subst (λ z. eq_by_cmp nat_cmp x z ≡ true) is ((eq_by_cmp_equiv nat_cmp_total).refl x) in
+      let tie : eq_by_cmp nat_cmp x y ≡ true =
+      subst (λ z. eq_by_cmp nat_cmp x z ≡ true) is ((eq_by_cmp_equiv nat_cmp_total).refl x) in
       let never : false ≡ true = sym apart.0 ∙ tie in cc in
       (untied (name x) (name y) other, names_apart x ys (λ z here. one z (Contains-append_right (y ∷ []) ys z here)) apart.1)
 
@@ -79,7 +82,7 @@ module _ (name : ℕ → ℕ) where
       IsDistinct-cons _ (name x) (map name xs) (names_apart x xs (λ y here. one x y (0, omega arith, refl) (behind y here)) (IsDistinct-head _ _ _ apart))
       (names_distinct xs (λ i j here there. one i j (behind i here) (behind j there)) (IsDistinct-tail _ _ _ apart))
 
-  -- where each value becomes its name, and the names of other indexes are others, the map is renamed
+  -- if each value becomes its name, and no two indexes get the same name, the map is renamed
   module _
       (gives : ℕ → ℕ → Type 0) (says : (v w : ℕ) → gives v w → w ≡ name v) (old new : List (ℕ × ℕ))
       (apart : IsDistinctlyFiled old)
@@ -92,7 +95,8 @@ module _ (name : ℕ → ℕ) where
 
       pub distinct_renamed : IsDistinctlyFiled new
       distinct_renamed =
-          let one_value = λ (i j : ℕ) (here : Contains (values old) i) (there : Contains (values old) j). one i j (filed_from_value old apart i here) (filed_from_value old apart j there) in
+          let one_value =
+          λ (i j : ℕ) (here : Contains (values old) i) (there : Contains (values old) j). one i j (filed_from_value old apart i here) (filed_from_value old apart j there) in
           distinct_moved _ _ all_renamed (rw (renamed_values old) (names_distinct (values old) one_value apart))
 
       pub Renames-from_rewrites : Renames name (filed_from old) (filed_from new)
@@ -102,7 +106,8 @@ module _ (name : ℕ → ℕ) where
                 let here = Contains-map renamed old (hash, ix) (pair_from_filed old apart hash ix is) in
                 filed_from_pair new distinct_renamed hash (name ix) (Contains-permutation _ _ _ all_renamed here);
             no_other = λ at hash is.
-                let here = Contains-permutation _ _ _ (IsPermutation-sym _ _ all_renamed) (pair_from_filed new distinct_renamed hash at is) in
+                let here =
+                Contains-permutation _ _ _ (IsPermutation-sym _ _ all_renamed) (pair_from_filed new distinct_renamed hash at is) in
                 let found = Contains-from_map renamed old (0, 0) (hash, at) here in
                 let stood = filed_from_pair old apart found.0.0 found.0.1 found.1 in
                 (found.0.1, ap (λ p. p.1) found.2, stood ∙ ap (λ p. Some p.0) found.2);
@@ -134,7 +139,8 @@ module _ (name : ℕ → ℕ) (old : FinMap nat_cmp ℕ) where
       from : (ix : ℕ) × (name ix ≡ at) × IsSome (finite.get old ix) → IsSome (finite.get new at)
       from (ix, is, here) =
           let found = get_some old ix here in
-          let now : finite.get new at ≡ Some found.0 = subst (λ x. finite.get new x ≡ Some found.0) is (renames.each ix found.0 found.1) in
+          let now : finite.get new at ≡ Some found.0 =
+          subst (λ x. finite.get new x ≡ Some found.0) is (renames.each ix found.0 found.1) in
           rw now refl
 
   -- a map whose indexes keep their names is a renaming of itself

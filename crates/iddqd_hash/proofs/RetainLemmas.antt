@@ -7,12 +7,13 @@ use Rattle.std.proofs.lemmas.List.Elements.{filter-append, Contains-append_right
 use Rattle.std.proofs.lemmas.List.Sorted.{IsPermutation-refl, IsPermutation-trans, IsPermutation-sym, IsPermutation-swap_remove, IsPermutation-append_right, IsPermutation-append_left, IsPermutation-append_comm, IsPermutation-middle, IsPermutation-to_front, Contains-permutation}
 use Rattle.std.proofs.lemmas.Fn.{FoldsTo-push}
 use Rattle.std.proofs.lemmas.Option.{slice_get_read, get_or_from_slice_get}
-use Rattle.iddqd_hash.specs.Asks.{Keeps, KeepsTo}
+use Rattle.iddqd_hash.specs.Asks.{RetainsPairs, RetainsPairsTo}
 use Rattle.iddqd_hash.proofs.PermutationLemmas.{IsPermutation-filter}
 use Rattle.iddqd_hash.specs.HashTable.{values}
 
 pub Contains-values : {T : Type 0} (es : List (ℕ × T)) (e : ℕ × T) → Contains es e → Contains (values es) e.1
-Contains-values es e here = (here.0, omega (arith, length-map es (λ p. p.1)), get_or-map (λ p. p.1) es here.0 e e.1 here.1 ∙ ap (λ p. p.1) here.2)
+Contains-values es e here =
+    (here.0, omega (arith, length-map es (λ p. p.1)), get_or-map (λ p. p.1) es here.0 e e.1 here.1 ∙ ap (λ p. p.1) here.2)
 
 module _ {F T : Type 0} (ask : F → T → Bool → F → Type 0) where
   -- the pairs below a place were asked and kept, and the refused ones were taken out
@@ -67,9 +68,12 @@ module _ {F T : Type 0} (ask : F → T → Bool → F → Type 0) where
             asks = state.asks ++ (e, true) ∷ [];
             refused = state.refused;
             whole = state.whole;
-            asked = rw (taken_more, asks_more) (IsPermutation-trans _ _ _ (to_back _ _ e) (IsPermutation-append_left (e ∷ []) _ _ state.asked));
+            asked =
+                rw (taken_more, asks_more) (IsPermutation-trans _ _ _ (to_back _ _ e) (IsPermutation-append_left (e ∷ []) _ _ state.asked));
             were_asked = FoldsTo-push _ f _ before (e, true) last state.were_asked called;
-            kept = taken_more ∙ ap (λ xs. xs ++ e ∷ []) state.kept ∙ sym (ap (map (λ a. a.0)) (filter-append (λ a. a.1) state.asks ((e, true) ∷ [])) ∙ map-append (λ a. a.0) _ _);
+            kept =
+                taken_more ∙ ap (λ xs. xs ++ e ∷ []) state.kept
+                ∙ sym (ap (map (λ a. a.0)) (filter-append (λ a. a.1) state.asks ((e, true) ∷ [])) ∙ map-append (λ a. a.0) _ _);
           }
 
       pub Retaining-drop :
@@ -87,18 +91,21 @@ module _ {F T : Type 0} (ask : F → T → Bool → F → Type 0) where
           record {
             asks = state.asks ++ (e, false) ∷ [];
             refused = state.refused ++ e ∷ [];
-            whole = rw append_assoc (IsPermutation-trans _ _ _ state.whole (IsPermutation-append_right state.refused _ _ moved));
+            whole =
+                rw append_assoc (IsPermutation-trans _ _ _ state.whole (IsPermutation-append_right state.refused _ _ moved));
             asked = rw (same, asks_more, ← append_assoc) (IsPermutation-append_left (e ∷ []) _ _ state.asked);
             were_asked = FoldsTo-push _ f _ before (e, false) last state.were_asked called;
-            kept = same ∙ state.kept ∙ sym (ap (map (λ a. a.0)) (filter-append (λ a. a.1) state.asks ((e, false) ∷ [])) ∙ map-append (λ a. a.0) _ _ ∙ append-nil _);
+            kept =
+                same ∙ state.kept
+                ∙ sym (ap (map (λ a. a.0)) (filter-append (λ a. a.1) state.asks ((e, false) ∷ [])) ∙ map-append (λ a. a.0) _ _ ∙ append-nil _);
           }
 
-  pub Keeps-from_retaining :
+  pub RetainsPairs-from_retaining :
       (f : F) (old : List (ℕ × T)) (last : F) (now : List (ℕ × T)) (place : ℕ)
       → length now ≤ place
       → Retaining f old last now place
-      → KeepsTo ask f old now last
-  Keeps-from_retaining f old last now place past state =
+      → RetainsPairsTo ask f old now last
+  RetainsPairs-from_retaining f old last now place past state =
       let all : take place now ≡ now = take_all place now past in
       let both : IsPermutation old (take place now ++ state.refused) =
       rw all (IsPermutation-trans _ _ _ state.whole (IsPermutation-append_comm state.refused now)) in
@@ -132,12 +139,12 @@ module _
         ] in
         as_answered ∙ ap (λ b. cond b (a.0 ∷ passing) passing) one.0
 
-    pub Keeps-tested :
+    pub RetainsPairs-tested :
         (f : F) (old new : List (ℕ × T))
         → I f
-        → Keeps ask f old new
+        → RetainsPairs ask f old new
         → IsPermutation (filter (λ e. test e.1) old) new
-    Keeps-tested f old new i told =
-        let keeps = told.kept in
+    RetainsPairs-tested f old new i retained =
+        let keeps = retained.kept in
         let passed = IsPermutation-filter (λ e. test e.1) _ _ keeps.each_once in
-        IsPermutation-trans _ _ _ passed (subst (λ es. IsPermutation es new) (kept_passes f keeps.asks told.last i keeps.were_asked) keeps.kept)
+        IsPermutation-trans _ _ _ passed (subst (λ es. IsPermutation es new) (kept_passes f keeps.asks retained.last i keeps.were_asked) keeps.kept)

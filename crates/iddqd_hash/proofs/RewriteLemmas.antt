@@ -33,7 +33,8 @@ module _ {T : Type 0} (gives : T → T → Type 0) where
       pub Rewriting-more : (w : T) → gives e.1 w → Rewriting old (set now at (e.0, w)) (at + 1)
       Rewriting-more w given =
           record {
-            each = rw (take_more_set now at (e.0, w) (omega arith)) (all_zip_more _ old (take at now) at e (e.0, w) within as_it_was state.each (refl, given));
+            each =
+                rw (take_more_set now at (e.0, w) (omega arith)) (all_zip_more _ old (take at now) at e (e.0, w) within as_it_was state.each (refl, given));
             behind = drop-set-lt (at + 1) now at (e.0, w) (omega arith) ∙ sym (ap (drop 1) both_ways);
           }
 
@@ -68,7 +69,7 @@ module _ {T : Type 0} (gives : T → T → Type 0) (to : T → T) (says : (v w :
   Rewrites-mapped old new rewrites =
       subst (λ ws. IsPermutation ws new) (pairs_mapped old rewrites.rewritten rewrites.each) rewrites.moved
 
--- where clones of values equal them, a clone has the same pairs
+-- if clones of values equal them, a clone has the same pairs
 module _ {T : Type 0} (is_clone : T → T → Type 0) (equal : (x y : T) → is_clone x y → y ≡ x) where
   all_equal : (es copies : List (ℕ × T)) → AllZip (λ e w. (w.0 ≡ e.0) × is_clone e.1 w.1) es copies → es ≡ copies
   all_equal [] [] all = refl
@@ -81,4 +82,5 @@ module _ {T : Type 0} (is_clone : T → T → Type 0) (equal : (x y : T) → is_
       λ i. (hash i, value i) ∷ rest i
 
   pub same_pairs : (es copies : List (ℕ × T)) → Rewrites is_clone es copies → IsPermutation es copies
-  same_pairs es copies cloned = subst (λ xs. IsPermutation xs copies) (sym (all_equal es cloned.rewritten cloned.each)) cloned.moved
+  same_pairs es copies cloned =
+      subst (λ xs. IsPermutation xs copies) (sym (all_equal es cloned.rewritten cloned.each)) cloned.moved

@@ -3,14 +3,14 @@ use Rattle.std.proofs.Common.{arith, ◌≡◌, ◌∙◌, ◌+◌, ◌-◌, ◌
 use Rattle.std.proofs.lemmas.List.{length-replicate, length-append, nil_from_length}
 use Rattle.std.proofs.lemmas.Nat.{pow-add, pow_pos}
 use Rattle.iddqd_hash.specs.HashTable.{Table, room, memory, listed}
-use Rattle.iddqd_hash.specs.OpenTable.{usable_of, opened, pairs, IsPowerOfTwo, IsSound}
+use Rattle.iddqd_hash.specs.OpenTable.{usable_of, table_of, pairs, IsPowerOfTwo, IsSound}
 use Rattle.iddqd_hash.specs.Sizes.{most_cells, TakesRoom, Shrinks}
 use Rattle.iddqd_hash.proofs.CellLemmas.{room-listed, memory-listed, HasNoMemory-listed}
 use Rattle.iddqd_hash.proofs.OpenSlotLemmas.{IsProbed-empty, pairs-empty, pairs-push, unused}
-use Rattle.iddqd_hash.proofs.OpenTableLemmas.{room-opened, memory-opened}
+use Rattle.iddqd_hash.proofs.OpenTableLemmas.{room-table_of, memory-table_of}
 
 module _ {T : Type 0} where
-  -- an empty list, in memory for so many pairs
+  -- an empty list, in memory for `held` pairs
   pub TakesRoom-listed :
       {E : Type 0} (n : ℕ) (es : List (ℕ × T)) (spare held : ℕ)
       → spare ≡ n
@@ -54,7 +54,7 @@ module _ {T : Type 0} where
           served (Ok x) more none = refl
           served (Err e) more none = absurd (omega arith)
 
-  -- cells that are all empty, for so many pairs
+  -- cells that are all empty
   pub IsSound-empty :
       (tags : List ℕ) (slots : List (Option (ℕ × T))) (n : ℕ)
       → tags ≡ replicate n 0
@@ -72,17 +72,17 @@ module _ {T : Type 0} where
         limited = omega arith;
       })
 
-  pub TakesRoom-opened :
+  pub TakesRoom-table_of :
       {E : Type 0} (n : ℕ) (slots : List (Option (ℕ × T)))
       → 0 < n
       → pairs slots ≡ []
       → n ≤ usable_of (length slots)
       → length slots ≤ most_cells n
-      → TakesRoom {E = E} n (Ok (opened slots))
-  TakesRoom-opened n slots some none fits few =
+      → TakesRoom {E = E} n (Ok (table_of slots))
+  TakesRoom-table_of n slots some none fits few =
       record {
-        roomy = rw (room-opened, none) (omega arith);
-        few = rw memory-opened few;
+        roomy = rw (room-table_of, none) (omega arith);
+        few = rw memory-table_of few;
         succeeds = λ none. refl;
         no_memory = λ none. absurd (omega arith);
       }
@@ -105,7 +105,13 @@ module _ {T : Type 0} where
       → OnOk r (memory new ≡ count)
       → Shrinks least len old r new
   Shrinks-placed least len old new (Ok x) count some fits fewer few refused roomy cells =
-      record { never_more = omega arith; room_stays = omega arith; shrunk = omega arith; refused = tt; succeeds = λ none. refl }
+      record {
+        never_more = omega arith;
+        room_stays = omega arith;
+        shrunk = omega arith;
+        refused = tt;
+        succeeds = λ none. refl;
+      }
   Shrinks-placed least len old new (Err e) count some fits fewer few refused roomy cells =
       record {
         never_more = subst (λ t. memory t ≤ memory old) (sym refused) (omega arith);
@@ -122,7 +128,7 @@ half_power count (suc k, is) more =
     let twice : count ≡ 2 ^ 1 * 2 ^ (k + 4) = is ∙ ap (λ n. 2 ^ n) same ∙ pow-add 2 1 (k + 4) in
     (k, omega arith)
 
--- so many cells are few where half of them would be too few
+-- a number of cells is within `most_cells` if half of them are too few
 pub few_halved :
     (count needed : ℕ)
     → IsPowerOfTwo count

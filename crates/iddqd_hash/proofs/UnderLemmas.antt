@@ -118,7 +118,8 @@ module _ {T : Type 0} where
 -- no more values stand under a hash than there are pairs
 pub under_few : {T : Type 0} (hash : ℕ) (es : List (ℕ × T)) → length (under hash es) ≤ length es
 under_few {T} hash es =
-    let parts : length (filter (λ e. e.0 == hash) es) + length (filter (λ e. not (e.0 == hash)) es) ≡ length es = length-filter_both (λ (e : ℕ × T). e.0 == hash) (λ e. not (e.0 == hash)) (λ e. refl) es in
+    let parts : length (filter (λ e. e.0 == hash) es) + length (filter (λ e. not (e.0 == hash)) es) ≡ length es =
+    length-filter_both (λ (e : ℕ × T). e.0 == hash) (λ e. not (e.0 == hash)) (λ e. refl) es in
     omega (arith, parts, length-map (filter (λ e. e.0 == hash) es) (λ (e : ℕ × T). e.1))
 
 Contains-singleton : {X : Type 0} (y x : X) → Contains (y ∷ []) x → y ≡ x

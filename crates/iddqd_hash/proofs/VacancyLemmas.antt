@@ -19,7 +19,7 @@ IsVacancy-reserved hash old new done made =
       few = made.few;
     }
 
--- where room for one was refused there was none
+-- if a reserve of room for one pair failed, there was no room
 pub Reserves-refused :
     {T A E : Type 0} (old new : Table T) (error : E)
     → Reserves {A = A} 1 old (Err error) new

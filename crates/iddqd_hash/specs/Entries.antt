@@ -1,11 +1,11 @@
--- What an entry without a pair says of its table.
+-- What holds of the table of a vacant entry.
 use Rattle.std.specs.Prelude.{◌≡◌, ◌+◌, ◌≤◌, ℕ, length, max}
 use Rattle.iddqd_hash.specs.HashTable.{Table, entries, room, memory}
 use Rattle.iddqd_hash.specs.Sizes.{most_cells}
 
 module _ {T : Type 0} where
-  -- A vacant entry under this hash, in this table. Where there was room, the table is as it was; else room was made,
-  -- and no more memory was taken than the pairs need with one more.
+  -- `under` is the hash of a vacant entry, and `new` its table, which has room for a pair. If there was room before,
+  -- the table is as it was. Otherwise room was made, in no more memory than the pairs and one more need.
   pub record IsVacancy (hash : ℕ) (old : Table T) (under : ℕ) (new : Table T) : Type 0 where
     pub same_hash : under ≡ hash
     pub roomy : 1 ≤ room new

@@ -5,8 +5,8 @@ use Rattle.std.specs.List.{AllZip, filter_map}
 use Rattle.std.specs.List.Sorted.{IsPermutation}
 use Rattle.std.specs.Option.{option_flatten, option_map}
 
--- Cells, in each of which a pair of a hash and a value may stand, how many inserts need no memory, and how many cells
--- the memory holds. Callers read it by the functions below.
+-- Cells, each of which may have a pair of a hash and a value; how many inserts need no memory; and how many cells the
+-- memory has. Callers read it by the functions below.
 pub record Table (T : Type 0) : Type 0 where
   pub cells : List (Option (ℕ × T))
   pub spare : ℕ
@@ -23,19 +23,19 @@ table_code {T} code =
     (λ _. refl)
 
 module _ {T : Type 0} where
-  -- these pairs, each in a cell, with room for so many more in memory for so many cells
+  -- the table that has each of these pairs in a cell, room for `spare` more, and memory for `held` cells
   unfoldable pub listed : List (ℕ × T) → ℕ → ℕ → Table T
   listed es spare held = record { cells = map Some es; spare = spare; memory = held }
 
-  -- the pairs that stand in the cells, as a bag: clauses compare it by `IsPermutation`
+  -- the pairs in the cells, as a bag: clauses compare it by `IsPermutation`
   unfoldable pub entries : Table T → List (ℕ × T)
   entries t = filter_map (λ pair. pair) t.cells
 
-  -- the pair in a cell, if one stands there
+  -- the pair in a cell, if it has one
   unfoldable pub pair_at : Table T → ℕ → Option (ℕ × T)
   pair_at t cell = option_flatten (slice_get t.cells cell)
 
-  -- the value in a cell, if one stands there
+  -- the value of a pair, if there is one
   abbrev pub value_of : Option (ℕ × T) → Option T
   value_of pair = option_map (λ p. p.1) pair
 
@@ -43,7 +43,7 @@ module _ {T : Type 0} where
   unfoldable pub room : Table T → ℕ
   room t = t.spare
 
-  -- how many cells the memory holds
+  -- how many cells the memory has
   unfoldable pub memory : Table T → ℕ
   memory t = t.memory
 
@@ -59,15 +59,15 @@ module _ {T : Type 0} where
   abbrev pub under : ℕ → List (ℕ × T) → List T
   under hash es = values (filter (λ e. e.0 == hash) es)
 
-  -- `gives v w` says that w may take the place of v: each of the old pairs kept its hash, and took such a value, and
-  -- the new pairs are these in some order
+  -- `gives v w` says that w may replace v. The value of each old pair was replaced and its hash kept, and the new pairs
+  -- are the results in some order.
   pub record Rewrites (gives : T → T → Type 0) (old new : List (ℕ × T)) : Type 0 where
     pub rewritten : List (ℕ × T)
     pub each : AllZip (λ e w. (w.0 ≡ e.0) × gives e.1 w.1) old rewritten
     pub moved : IsPermutation rewritten new
 
-  -- a pair of some hash and this value was taken out of a table, and no other
-  pub record TakesOut (old : Table T) (pair : Option (ℕ × T)) (value : T) (new : Table T) : Type 0 where
+  -- this pair, which has this value, was removed from a table, and no other
+  pub record RemovesPair (old : Table T) (pair : Option (ℕ × T)) (value : T) (new : Table T) : Type 0 where
     pub hash : ℕ
     pub is_pair : pair ≡ Some (hash, value)
     pub others_stay : IsPermutation (entries old) ((hash, value) ∷ entries new)
@@ -77,13 +77,13 @@ module _ {T : Type 0} where
     pub no_room : room t ≡ 0
     pub no_cell : memory t ≡ 0
 
-  -- no memory was taken or given back, as many pairs can be held as before, and no room was lost
+  -- memory and capacity are as before, and the room is no less
   pub record KeepsMemory (old new : Table T) : Type 0 where
     pub room_stays : room old ≤ room new
     pub same_capacity : capacity new ≡ capacity old
     pub same_memory : memory new ≡ memory old
 
-  -- no memory was taken or given back, as many pairs can be held as before, and the room of one pair was used
+  -- memory and capacity are as before, and the room is less by one
   pub record UsesRoom (old new : Table T) : Type 0 where
     pub one_less : room old ≡ room new + 1
     pub same_capacity : capacity new ≡ capacity old

@@ -7,19 +7,19 @@ use Rattle.std.specs.FinMap.{FinMap}
 use Rattle.std.specs.Fn.{Shared}
 use Rattle.iddqd_hash.specs.HashTable.{Table, entries, values}
 
--- an index and its hash, from a hash and an index
-abbrev pub turned : ℕ × ℕ → ℕ × ℕ
-turned e = (e.1, e.0)
+-- a pair of an index and its hash as a pair of the hash and the index, and vice versa
+abbrev pub swapped : ℕ × ℕ → ℕ × ℕ
+swapped e = (e.1, e.0)
 
--- the map that has the pairs of a hash and an index
+-- the map from index to hash that these pairs of a hash and an index make
 abbrev pub filed_from : List (ℕ × ℕ) → FinMap nat_cmp ℕ
-filed_from es = finite.from_entries (map turned es)
+filed_from es = finite.from_entries (map swapped es)
 
 -- the hash under which each index is filed
 unfoldable pub filed : Table ℕ → FinMap nat_cmp ℕ
 filed t = filed_from (entries t)
 
--- no index stands twice
+-- no two pairs have the same index
 abbrev pub IsDistinctlyFiled : List (ℕ × ℕ) → Type 0
 IsDistinctlyFiled es = IsDistinct (eq_by_cmp nat_cmp) (values es)
 
@@ -31,31 +31,31 @@ indexes_under hash m = map (λ e. e.0) (filter (λ e. e.1 == hash) (finite.entri
 abbrev pub indexes_of : FinMap nat_cmp ℕ → List ℕ
 indexes_of m = map (λ e. e.0) (finite.entries m)
 
--- the hash and the index of each that is filed
+-- the hash and the index, as a pair, of each index that is filed
 abbrev pub pairs_of : FinMap nat_cmp ℕ → List (ℕ × ℕ)
-pairs_of m = map turned (finite.entries m)
+pairs_of m = map swapped (finite.entries m)
 
--- An ask of a look-up by a query: the lookup gives a key for the index, and the answer is whether the query is
--- equivalent to it. Neither changes, so there is one state.
+-- An ask of a look-up by a query: `lookup` returns a key for the index, and the answer is whether the query is
+-- equivalent to that key. No closure changes its state, so there is one state, `tt`.
 pub record AsksKey {F Q K : Type 0} (g : Shared F (ℕ × Unit {0}) K) (equivalent : Q → K → Bool)
     (lookup : F) (query : Q) (before : Unit {0}) (ix : ℕ) (answer : Bool) (after : Unit {0}) : Type 0 where
   pub key : K
   pub gives : g.post lookup (ix, tt) key
   pub is : answer ≡ equivalent query key
 
--- a search for an index under the hash that passes the test: a hit does, and at a miss none does
+-- What a search for an index under the hash that passes the test found: an index that does, or that there is none.
 abbrev pub FindsWhere : (ℕ → Bool) → ℕ → FinMap nat_cmp ℕ → Option ℕ → Type 0
 FindsWhere test hash m (Some ix) = (finite.get m ix ≡ Some hash) × IsTrue (test ix)
 FindsWhere test hash m None = (ix : ℕ) → finite.get m ix ≡ Some hash → test ix ≡ false
 
--- each index was given its new name, under the hash that it had; and there is no other
+-- each index has its new name, under the same hash, and there is no other index
 pub record Renames (name : ℕ → ℕ) (old new : FinMap nat_cmp ℕ) : Type 0 where
   pub each : (ix hash : ℕ) → finite.get old ix ≡ Some hash → finite.get new (name ix) ≡ Some hash
   pub no_other : (at hash : ℕ) → finite.get new at ≡ Some hash →
       (ix : ℕ) × (name ix ≡ at) × (finite.get old ix ≡ Some hash)
 
--- the index of this pair was taken out of a table, and no other
-pub record Unfiles (old : Table ℕ) (pair : Option (ℕ × ℕ)) (new : Table ℕ) : Type 0 where
+-- the index of this pair was removed from a table, and no other
+pub record RemovesIndex (old : Table ℕ) (pair : Option (ℕ × ℕ)) (new : Table ℕ) : Type 0 where
   pub hash : ℕ
   pub ix : ℕ
   pub is_pair : pair ≡ Some (hash, ix)

@@ -7,7 +7,7 @@ use Rattle.iddqd_hash.specs.declared.hash_table.entry.Entry.{Entry}
 use Rattle.iddqd_hash.specs.declared.hash_table.entry.Entry.TheVariants.{Occupied, Vacant}
 use Rattle.iddqd_hash.specs.declared.hash_table.entry.VacantEntry.{VacantEntry}
 
--- the table as the entry holds it
+-- the table that an entry borrows
 abbrev pub entry_table : OccupiedEntry → Table ℕ
 entry_table e = e.table.now
 
@@ -23,15 +23,15 @@ entry_pair e = pair_at e.table.now e.place
 unfoldable pub entry_index : OccupiedEntry → Option ℕ
 entry_index e = value_of (entry_pair e)
 
--- the table as a vacant entry holds it
+-- the table that a vacant entry borrows
 abbrev pub vacant_table : VacantEntry → Table ℕ
 vacant_table e = e.table.now
 
--- the ghost name of its reference to the table
+-- the ghost name of a vacant entry's reference to the table
 abbrev pub vacant_lender : VacantEntry → GName
 vacant_lender e = e.table.ghost_name
 
--- the hash under which it files
+-- the hash under which a vacant entry inserts
 unfoldable pub vacant_hash : VacantEntry → ℕ
 vacant_hash e = e.hash
 
@@ -40,19 +40,19 @@ abbrev pub lender_of : Entry → GName
 lender_of (Occupied e) = entry_lender e
 lender_of (Vacant e) = vacant_lender e
 
--- what is said of the entry of an index
+-- P holds of the entry, if the result is the entry of an index
 abbrev pub IfOccupied : {E : Type 0} → Result Entry E → (OccupiedEntry → Type 0) → Type 0
 IfOccupied (Ok (Occupied e)) P = P e
 IfOccupied (Ok (Vacant e)) P = Unit {0}
 IfOccupied (Err error) P = Unit {0}
 
--- what is said of a vacant entry
+-- P holds of the entry, if the result is a vacant one
 abbrev pub IfVacant : {E : Type 0} → Result Entry E → (VacantEntry → Type 0) → Type 0
 IfVacant (Ok (Occupied e)) P = Unit {0}
 IfVacant (Ok (Vacant e)) P = P e
 IfVacant (Err error) P = Unit {0}
 
--- what is said where there is no entry of an index
+-- P holds, unless the result is the entry of an index
 abbrev pub UnlessOccupied : {E : Type 0} → Result Entry E → Type 0 → Type 0
 UnlessOccupied (Ok (Occupied e)) P = Unit {0}
 UnlessOccupied (Ok (Vacant e)) P = P

@@ -2,31 +2,31 @@
 use Rattle.std.specs.Prelude.{◌≡◌, ◌+◌, ◌%◌, ◌<◌, ◌≤◌, ◌⊎◌, ◌==◌, ℕ, Bool, List, Option, Some, None, length, slice_index}
 use Rattle.iddqd_hash.specs.OpenTable.{tag_of, slot_at}
 
--- the tag of a cell whose pair isn't placed yet
+-- the tag of a cell whose pair has yet to be placed
 abbrev pub pending : ℕ
 pending = 2
 
--- whether a cell with this tag has a pair that isn't placed yet
+-- whether this is the tag of a cell whose pair has yet to be placed
 abbrev pub is_pending : ℕ → Bool
 is_pending tag = tag == pending
 
--- the walk from the home of a hash comes to a place, and meets only full cells before it
+-- a probe for a hash comes to a place, and only full cells come before it
 pub record IsPastFull (tags : List ℕ) (hash place : ℕ) : Type 0 where
   pub steps : ℕ
   pub is_there : (hash + steps) % length tags ≡ place
   pub full : (k : ℕ) → k < steps → 128 ≤ slice_index tags ((hash + k) % length tags)
 
--- each cell that is pending was so before
+-- each cell that is pending was pending before
 abbrev pub NoMorePending : List ℕ → List ℕ → Type 0
 NoMorePending old new = (k : ℕ) → slice_index new k ≡ pending → slice_index old k ≡ pending
 
 module _ {T : Type 0} where
-  -- whether a tag suits a slot during a rebuild: 0 where no pair stands, else pending, or the tag of the pair's hash
+  -- a tag suits a slot during a rebuild: 0 if there is no pair, otherwise pending or the tag of the pair's hash
   abbrev pub SuitsOrPending : ℕ → Option (ℕ × T) → Type 0
   SuitsOrPending tag None = tag ≡ 0
   SuitsOrPending tag (Some pair) = (tag ≡ pending) ⊎ (tag ≡ tag_of pair.0)
 
-  -- Each tag suits its slot, and a walk from the home of a placed pair comes to it past placed pairs alone.
+  -- each tag suits its slot, and a probe for a placed pair comes to it past placed pairs alone
   pub record IsPartlyPlaced (tags : List ℕ) (slots : List (Option (ℕ × T))) : Type 0 where
     pub same_length : length slots ≡ length tags
     pub suited : (place : ℕ) → place < length tags → SuitsOrPending (slice_index tags place) (slot_at slots place)

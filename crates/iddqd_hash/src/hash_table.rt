@@ -1,16 +1,16 @@
-//! A table of the indexes of a store, each under the hash of its key.
+//! A hash table of the indexes of a store, each filed under the hash of its key.
 //!
-//! The table holds no keys: a call that has to compare them is handed a lookup, which gives the key
-//! of an index. Each index keeps the hash that it was inserted with, so a key that changes unseen
-//! can hide its index from look-ups by key, and never loses it: `remove_by_index` finds it still.
+//! 1. No index stands in the table twice.
+//! 2. The table holds no keys. A call that compares keys takes a closure, `lookup`, which returns the key of an index.
+//! 3. Each index stays under the hash that it was inserted under. So if a key changes and the table isn't updated, a
+//!    look-up by key may miss the index, but `remove_by_index` still finds it.
 //!
-//! It stands on public calls of the table below, and on three that `PairCells` asks of any table with
-//! cells, where a call on the entry that the table lends can't be followed: `place_of`, the cell that a
-//! look-up hits, and `pair_at` and `take_at`, the pair in a cell.
+//! It is built on public calls of [`OpenHashTable`] and on three of its `PairCells`: `place_of`, the place of the pair
+//! that a look-up hits, and `pair_at` and `take_at`, which read and remove the pair at a place. The check can't follow
+//! a call on an entry that a field of `self` lends, so entries here have these in place of entries of the other table.
 //!
-//! An insert hashes its key once: it looks up under the hash that it files the index under.
-//! `remove_by_index` is a `retain` over all, in the place of a walk of its own. A clone copies cells as
-//! memory, since an [`IndexCell`] is `Copy`.
+//! `entry` hashes its key once, for the look-up and for the insert. `remove_by_index` is a `retain` over all indexes. A
+//! clone copies cells as memory, since an [`IndexCell`] is `Copy`.
 ghost use Rattle.std.specs.Prelude.{◌≡◌, ◌+◌, ◌≤◌, ℕ, max, Contains, Some, None, IsTrue, IsSome, IfOk, OnErr};
 ghost use Rattle.std.specs.FinMap as finite;
 ghost use Rattle.iddqd.specs.Compaction.{CanRemap, remapped};
@@ -18,7 +18,7 @@ ghost use Rattle.iddqd.specs.MapHash.{hash_one};
 ghost use Rattle.iddqd_hash.specs.Asks.{CanAsk, LooksUp, HitsPair, Misses};
 ghost use Rattle.iddqd_hash.specs.HashTable.{room, capacity, memory, pair_at, HasNoMemory, KeepsMemory, UsesRoom};
 ghost use Rattle.iddqd_hash.specs.Sizes.{most_cells, Reserves};
-ghost use Rattle.iddqd_hash.specs.MapHashTable.{filed, indexes_under, AsksKey, Renames, Unfiles};
+ghost use Rattle.iddqd_hash.specs.MapHashTable.{filed, indexes_under, AsksKey, Renames, RemovesIndex};
 
 mod copies;
 mod entry;
@@ -50,8 +50,8 @@ pub struct HashedIndex {
 
 /// Indexes under the hashes of their keys, each index once.
 ///
-/// A contract sees it as a finite map from an index to its hash, as the number of inserts that need
-/// no memory, and as the number of cells that its memory holds.
+/// Contracts see a finite map from an index to its hash, how many inserts need no memory, and how many cells the memory
+/// has.
 #[derive(Debug, Drop)]
 pub struct MapHashTable {
     table: OpenHashTable<ItemIndex, IndexCell>,
@@ -72,7 +72,7 @@ impl Model for MapHashTable {
     ghost invariant = { λ s. IsDistinctlyFiled (entries s.table) };
 }
 
-/// An index that stands in a table.
+/// The entry of an index that is in a table.
 #[derive(Drop)]
 pub struct OccupiedEntry<'a> {
     table: &'a mut MapHashTable,
@@ -119,21 +119,21 @@ impl MapHashTable {
 
     /// Makes room for `additional` more indexes.
     ///
-    /// An `AllocError` means that memory was refused, or that no vector can hold so many; the table
-    /// stays as it was. It stays so too, and takes no memory, where there is room for so many.
+    /// If there is room for them, nothing changes. `AllocError` means that an allocation failed, or that no vector can
+    /// hold that many; the table is then as it was.
     pub fn try_reserve(&mut self, additional: usize) -> Result<(), AllocError>
         ensures contents { filed self.new ≡ filed self.old }
         ensures memory { Reserves additional self.old result self.new }
         ensures few { memory self.new ≤ max (memory self.old) (most_cells (finite.len (filed self.old) + additional)) }
         ensures capacity { capacity self.old ≤ capacity self.new }
 
-        // What every table keeps.
+        // This holds of every table.
         ensures counted { capacity self.old ≡ finite.len (filed self.old) + room self.old }
     {
         self.table.try_reserve(additional)
     }
 
-    /// The hash of a key under a state. Equal keys have the same hash under one state.
+    /// The hash of a key, by the state of a hasher. Equal keys have the same hash by the same state.
     pub fn compute_hash<S: BuildHasher, K: Hash + Eq + Drop>(&self, state: &S, key: K) -> MapHash
         ensures hash { result ≡ hash_one S.BuildHasher S.Hasher.Hasher state.now (K.hash_input key) }
         ensures equal_keys { (other : K) → IsTrue (K.eq key other)
@@ -162,8 +162,8 @@ impl MapHashTable {
 
     /// An index under a hash that was computed before, whose key is equivalent to the query.
     ///
-    /// `lookup` is called on indexes under that hash alone, on none twice, and no more after an
-    /// equivalent key. It misses only after each of them was asked.
+    /// `lookup` is called only on indexes under that hash, on none twice, and not again after an equivalent key. `None`
+    /// means that it was called on each of them.
     #[inline(always)]
     pub fn find_index_prehashed<Q: Equivalent<K>, K: Drop, F: Fn(ItemIndex) -> K>(
         &self,
@@ -185,10 +185,10 @@ impl MapHashTable {
             .copied()
     }
 
-    /// The entry of an index under `hash` at which `f` answers `true`, else `Err(())`.
+    /// The entry of an index under `hash` for which `f` answers `true`, else `Err(())`.
     ///
-    /// `f` is asked of indexes under `hash` alone, of none twice, and no more after it answered
-    /// `true`. It misses only after each of them was asked.
+    /// `f` is asked only about indexes under `hash`, about none twice, and not again after it answered `true`. `Err`
+    /// means that it was asked about each of them.
     pub fn find_entry_by_hash<F: FnMut(ItemIndex) -> bool>(
         &mut self,
         hash: u64,
@@ -196,7 +196,7 @@ impl MapHashTable {
     ) -> Result<OccupiedEntry<'_>, ()>
         requires { CanAsk F.pre F.step f (indexes_under hash (filed self.old)) }
 
-        // A hit is an index under the hash, and the asks that led to it.
+        // A hit is an index under the hash, and the asks before it were answered `false`.
         ensures found { IfOk result (λ e. HitsPair F.step f hash (indexes_under hash (filed self.old)) (entry_pair e)) }
         ensures missed { OnErr result (Misses F.step f (indexes_under hash (filed self.old))) }
 
@@ -228,7 +228,7 @@ impl MapHashTable {
         self.table.insert_unique(hash.hash(), ix);
     }
 
-    /// Removes an index by a walk over the table, whatever it is filed under.
+    /// Removes an index, under whatever hash it is filed. It costs a walk over the table.
     pub fn remove_by_index(&mut self, ix: ItemIndex)
         requires { IsSome (finite.get (filed self.old) ix) }
         ensures removed { filed self.new ≡ finite.remove (filed self.old) ix }
@@ -247,9 +247,9 @@ impl MapHashTable {
         self.table.clear();
     }
 
-    /// Gives each index its new name, under the hash that it has, and takes no memory.
+    /// Gives each index its new name, under the same hash, and takes no memory.
     ///
-    /// It costs a walk over the table, and nothing where every index keeps its name without a list.
+    /// It costs a walk over the table, or nothing if the remap is `Identity`.
     pub fn remap_indexes(&mut self, remap: &IndexRemap)
         requires can_remap { (ix : ℕ) → IsSome (finite.get (filed self.old) ix) → CanRemap remap.now ix }
         requires distinct { (i j : ℕ) → IsSome (finite.get (filed self.old) i) → IsSome (finite.get (filed self.old) j)
@@ -263,7 +263,7 @@ impl MapHashTable {
         self.table.rewrite(|ix| remap.remap(*ix));
     }
 
-    // The pair in a cell.
+    // The index at a place, with its hash.
     fn hashed_at(&self, place: usize) -> HashedIndex
         requires { IsSome (pair_at self.now place) }
         ensures { pair_at self.now place ≡ Some (result.hash, result.ix) }
@@ -272,10 +272,10 @@ impl MapHashTable {
         HashedIndex { ix: *ix, hash }
     }
 
-    // Takes the index in a cell out of the table.
+    // Removes the index at a place.
     fn remove_at(&mut self, place: usize)
         requires { IsSome (pair_at self.old place) }
-        ensures removed { Unfiles self.old (pair_at self.old place) self.new }
+        ensures removed { RemovesIndex self.old (pair_at self.old place) self.new }
         ensures memory { KeepsMemory self.old self.new }
         ensures room { room self.new ≡ room self.old + 1 }
     {
@@ -293,9 +293,9 @@ impl<'a> OccupiedEntry<'a> {
         self.table.hashed_at(self.place).ix
     }
 
-    /// Takes the index out of the table. No memory is taken or given back.
+    /// Removes the index from the table. No memory is taken or given back.
     pub fn remove(self)
-        ensures removed { Unfiles (entry_table self.entry) (entry_pair self.entry) self.exit.0.now }
+        ensures removed { RemovesIndex (entry_table self.entry) (entry_pair self.entry) self.exit.0.now }
         ensures memory { KeepsMemory (entry_table self.entry) self.exit.0.now }
         ensures room { room self.exit.0.now ≡ room (entry_table self.entry) + 1 }
     {

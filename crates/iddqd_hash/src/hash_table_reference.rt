@@ -1,17 +1,16 @@
-//! A linear table of values under hashes, the plain reference for every other one.
+//! A table of values under hashes as a plain list: the reference for `OpenHashTable`. Both run the same tests.
 //!
-//! Each value stands beside the full 64-bit hash that it was inserted with. A look-up asks its
-//! closure of the values under that hash alone, so it costs a walk over the hashes and one ask for
-//! each value under the hash, up to the first that is answered `true`. Which of several matches
-//! comes is open, and so is the order of the values.
+//! 1. Each value stands beside the full 64-bit hash that it was inserted under.
+//! 2. A look-up compares hashes from the front of the list on. It asks its closure only about the values under its
+//!    hash, up to the first that is answered `true`.
+//! 3. The contract leaves open which of several matches a look-up finds, and in which order the values are.
 //!
-//! It stays beside the other so that both run the same tests. `try_reserve` looks at `room` first,
-//! since std's vector promises no unchanged capacity.
+//! `try_reserve` compares with `room` first, since std's vector doesn't promise that its capacity stays if it suffices.
 ghost use Rattle.std.specs.Prelude.{◌≡◌, ◌∷◌, ◌≤◌, [], Some, length, slice_get, option_copied, IfOk, OnErr, vec_len, vec_capacity};
 ghost use Rattle.std.specs.List.Sorted.{IsPermutation};
 ghost use Rattle.std.specs.List.{Contains};
 ghost use Rattle.std.specs.Fn.{TakesAt, CalledAt, FnReturnsAt};
-ghost use Rattle.iddqd_hash.specs.Asks.{CanAsk, LooksUp, HitsPair, FindsPlace, Misses, Keeps, KeepsTo};
+ghost use Rattle.iddqd_hash.specs.Asks.{CanAsk, LooksUp, HitsPair, FindsPlace, Misses, RetainsPairs, RetainsPairsTo};
 ghost use Rattle.iddqd_hash.specs.HashTable.{entries, room, capacity, under, values, Rewrites, HasNoMemory, KeepsMemory, UsesRoom};
 ghost use Rattle.iddqd_hash.specs.Sizes.{Reserves};
 
@@ -30,8 +29,8 @@ use std::marker::Model;
 
 /// Values under hashes, in no order that a caller can rely on.
 ///
-/// A contract sees it as a bag of pairs of a hash and a value, as the number of inserts that need
-/// no memory, and as the number of cells that its memory holds.
+/// Contracts see a bag of pairs of a hash and a value, how many inserts need no memory, and for how many pairs the
+/// table has memory.
 #[derive(Debug, Drop)]
 pub struct HashTable<T> {
     pairs: Vec<(u64, T)>,
@@ -48,7 +47,7 @@ impl<T> Model for HashTable<T> {
     ghost view = { λ s. listed s.pairs.items (vec_capacity s.pairs - vec_len s.pairs) (vec_capacity s.pairs) };
 }
 
-/// A pair that stands in a table.
+/// The entry of a pair that is in a table.
 pub type OccupiedEntry<'a, T> = table_entry::OccupiedEntry<'a, HashTable<T>>;
 
 impl<T> PairCells for HashTable<T> {
@@ -114,8 +113,8 @@ impl<T> HashTable<T> {
 
     /// Makes room for `additional` more pairs.
     ///
-    /// An `AllocError` means that memory was refused, or that no vector can hold so many; the table
-    /// stays as it was. It stays so too, and takes no memory, where there is room for so many.
+    /// If there is room for them, nothing changes. `AllocError` means that an allocation failed, or that no vector can
+    /// hold that many; the table is then as it was.
     pub fn try_reserve(&mut self, additional: usize) -> Result<(), AllocError>
         ensures contents { IsPermutation (entries self.old) (entries self.new) }
         ensures memory { Reserves additional self.old result self.new }
@@ -125,15 +124,15 @@ impl<T> HashTable<T> {
         }
         let len = self.pairs.len();
         let needed = len.checked_add(additional).ok_or(AllocError)?;
-        // At least twice as many, so that pairs which are added one by one are moved seldom.
+        // The capacity at least doubles, so a pair is moved seldom while others are added one by one.
         let wanted = needed.max(self.pairs.capacity().saturating_mul(2));
         self.pairs.try_reserve_exact(wanted - len)
     }
 
-    /// A value under `hash` at which `eq` answers `true`.
+    /// A value under `hash` for which `eq` answers `true`.
     ///
-    /// `eq` is asked of values under `hash` alone, of none twice, and no more after it answered
-    /// `true`. It misses only after each of them was asked.
+    /// `eq` is asked only about values under `hash`, about none twice, and not again after it answered `true`. `None`
+    /// means that it was asked about each of them.
     pub fn find<F: FnMut(&T) -> bool>(&self, hash: u64, eq: F) -> Option<&T>
         requires { CanAsk (TakesAt F.FnMut) (CalledAt F.FnMut) eq (under hash (entries self.now)) }
         ensures { LooksUp (CalledAt F.FnMut) eq (under hash (entries self.now)) (option_copied result) }
@@ -142,7 +141,7 @@ impl<T> HashTable<T> {
         Some(self.pair_at(place).1)
     }
 
-    /// The entry of a value under `hash` at which `eq` answers `true`, else `Err(())`.
+    /// The entry of a value under `hash` for which `eq` answers `true`, else `Err(())`.
     ///
     /// `eq` is asked as in `find`.
     pub fn find_entry<F: FnMut(&T) -> bool>(
@@ -152,7 +151,7 @@ impl<T> HashTable<T> {
     ) -> Result<OccupiedEntry<'_, T>, ()>
         requires { CanAsk (TakesAt F.FnMut) (CalledAt F.FnMut) eq (under hash (entries self.old)) }
 
-        // A hit is a pair under the hash, and the asks that led to it.
+        // A hit is a pair under the hash, and the asks before it were answered `false`.
         ensures found { IfOk result
             (λ e. HitsPair (CalledAt F.FnMut) eq hash (under hash (entries self.old)) (entry_pair e)) }
         ensures missed { OnErr result (Misses (CalledAt F.FnMut) eq (under hash (entries self.old))) }
@@ -168,7 +167,7 @@ impl<T> HashTable<T> {
         }
     }
 
-    /// Adds a pair, and takes no memory.
+    /// Adds a pair, and takes no memory. It doesn't look for an equal value.
     pub fn insert_unique(&mut self, hash: u64, value: T) -> OccupiedEntry<'_, T>
         requires { 1 ≤ room self.old }
         ensures pair { entry_pair result ≡ Some (hash, value) }
@@ -180,23 +179,22 @@ impl<T> HashTable<T> {
         OccupiedEntry { table: self, place }
     }
 
-    /// Keeps exactly the values at which `f` answers `true`.
+    /// Keeps exactly the values for which `f` answers `true`.
     ///
-    /// `f` is asked once of each value. No memory is taken or given back.
+    /// `f` is asked once about each value. No memory is taken or given back.
     pub fn retain<F: FnMut(&T) -> bool>(&mut self, mut f: F)
     where
         T: Drop,
         requires { CanAsk (TakesAt F.FnMut) (CalledAt F.FnMut) f (values (entries self.old)) }
-        ensures kept { Keeps (CalledAt F.FnMut) f (entries self.old) (entries self.new) }
+        ensures kept { RetainsPairs (CalledAt F.FnMut) f (entries self.old) (entries self.new) }
         ensures memory { KeepsMemory self.old self.new }
     {
         retain_pairs(&mut self.pairs, &mut f);
     }
 
-    /// Puts what `f` answers at each value in its place, under the hash that the value had.
+    /// Replaces each value by what `f` returns for it, under the same hash.
     ///
-    /// `f` is called once on each value, and on no other. No memory is taken or given back. It costs
-    /// a walk over the pairs.
+    /// `f` is called once on each value. No memory is taken or given back.
     pub fn rewrite<F: Fn(&T) -> T>(&mut self, f: F)
     where
         T: Drop,
@@ -233,10 +231,10 @@ fn find_place<T, F: FnMut(&T) -> bool>(pairs: &[(u64, T)], hash: u64, mut eq: F)
     None
 }
 
-// Swaps each pair whose value is refused with the last one, which is asked next.
+// Removes each pair about whose value `f` answers `false`. The last pair takes its place, and is asked about next.
 fn retain_pairs<T: Drop, F: FnMut(&T) -> bool>(pairs: &mut Vec<(u64, T)>, f: &mut F)
     requires { CanAsk (TakesAt F.FnMut) (CalledAt F.FnMut) f.old (values pairs.old.items) }
-    ensures kept { KeepsTo (CalledAt F.FnMut) f.old pairs.old.items pairs.new.items f.new }
+    ensures kept { RetainsPairsTo (CalledAt F.FnMut) f.old pairs.old.items pairs.new.items f.new }
     ensures len { vec_len pairs.new ≤ vec_len pairs.old }
     ensures capacity { vec_capacity pairs.new ≡ vec_capacity pairs.old }
 {
@@ -250,7 +248,7 @@ fn retain_pairs<T: Drop, F: FnMut(&T) -> bool>(pairs: &mut Vec<(u64, T)>, f: &mu
     }
 }
 
-// Puts the answer at each pair's value in its place.
+// Replaces the value of each pair by what `f` returns for it.
 fn rewrite_pairs<T: Drop, F: Fn(&T) -> T>(pairs: &mut [(u64, T)], f: F)
     requires { (v : _) → Contains (values pairs.old) v.now → F.pre f v }
     ensures { Rewrites (FnReturnsAt F.Fn f) pairs.old pairs.new }

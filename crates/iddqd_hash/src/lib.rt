@@ -1,10 +1,8 @@
-//! Tables of values under hashes.
+//! Hash tables, which keep each value with the full hash that it was inserted under.
 //!
-//! [`open_table::OpenHashTable`] keeps each value beside the full hash that it was inserted with, in
-//! cells that are found by open addressing. [`hash_table_reference::HashTable`] has the same calls
-//! and the same contract over a list that is walked: the plain reference.
-//! [`hash_table::MapHashTable`] stands on the former: it files each index of a store under the hash
-//! of its key, and holds no key.
+//! [`open_table::OpenHashTable`] has open addressing. [`hash_table_reference::HashTable`] has the same calls and the
+//! same contract over a plain list; both run the same tests. [`hash_table::MapHashTable`] is built on `OpenHashTable`:
+//! it files each index of a store under the hash of its key, and holds no key.
 #![tactic(auto)]
 
 pub mod hash_table;

@@ -1,41 +1,54 @@
-//! A table of values under hashes with open addressing: cells in a ring, each beside a tag.
+//! A hash table with open addressing: a ring of cells, and a tag of one byte for each cell.
 //!
-//! A pair stands in a cell that a walk by steps of one from cell `hash % cells` comes to before any
-//! empty cell, so a look-up ends at the first empty one. The full hash is kept beside each value, and a
-//! byte for each cell has seven bits of it, so that a walk reads few cells. A removed pair leaves a
-//! mark, which a walk passes and an insert takes. At least one cell of eight is empty. To insert n
-//! pairs whose hashes share the low bits costs n * n / 2 steps. The contracts are those of
-//! [`HashTable`](crate::hash_table_reference::HashTable).
+//! A full cell has a value and the value's full hash. A tag says whether its cell is empty, full or marked; a mark is
+//! what a removal leaves. The tag of a full cell has seven bits of the hash, so a look-up reads few cells. The home of
+//! a hash is the cell `hash % cells`. A probe goes from there by steps of one, from the last cell on to the first, past
+//! full and marked cells, up to an empty one. An insert takes the first cell of its probe that is marked or empty. The
+//! contracts are those of [`HashTable`](crate::hash_table_reference::HashTable).
 //!
-//! The cell is a type parameter. [`OptionCell`], for any value, has an option beside the hash. [`IndexCell`], for
-//! indexes, has none: its tag alone tells whether it is full, and what an emptied one keeps is never read.
+//! What always holds (`IsSoundTable`):
 //!
-//! At most thirteen of sixteen cells have a pair, and at most seven of eight are full or marked. Where an
-//! insert finds so many in use, the pairs are first placed anew in the same cells, and no mark is left:
-//! so the capacity doesn't depend on what was removed. One cell of sixteen is then free to be filled,
-//! so that a table near its capacity isn't rebuilt again and again. More pairs take twice as many cells.
-//! Thirteen of sixteen keeps 100,000 pairs in 131,072 cells, which three of four would double.
+//! 1. The number of cells is 0 or a power of two from 16 on.
+//! 2. The tag of a full cell is that of its pair's hash, and the tag of any other cell is 0 or `MARK`.
+//! 3. A probe for the hash of a pair reaches the pair before any empty cell. So a look-up ends at the first empty cell.
+//! 4. `len` is the number of pairs, and `used` the number of full and marked cells.
+//! 5. At most thirteen of sixteen cells are full, and at most seven of eight are full or marked. So in a table with
+//!    cells one of eight is empty, and every probe ends.
+//! 6. The vectors have memory for their items and no more, so contracts measure all memory by the number of cells.
 //!
-//! Tags stand apart from cells, since at 1,000 entries a miss took 1.4 times hashbrown's time so, and 7.7 times in one
-//! vector of cells. Up to 65536 cells a walk begins with sixteen tags, which spares a branch guessed wrong: at 1,000 a
-//! hit took 2.1 times hashbrown's time without that, and 1.8 with it. The first of the sixteen that stops the walk
-//! mostly decides the look-up, so it is tried before the loop: a hit takes a tenth less time. Past them it begins with
-//! the home's tag alone, since then the processor fetches the home's cell before it has the tag: with sixteen a hit
-//! took 1.5 times as long.
+//! An insert that finds seven of eight cells full or marked first rebuilds the table: it places all pairs again in the
+//! same cells, without marks. So the capacity doesn't depend on what was removed. After a rebuild one cell of sixteen
+//! may be filled before the next one, so a table near its capacity isn't rebuilt at each insert. A table at its
+//! capacity grows to twice as many cells. Since thirteen of sixteen may be full, 100,000 pairs fit in 131,072 cells;
+//! with three of four they would take twice as many. To insert n pairs whose hashes share the low bits costs n * n / 2
+//! steps.
 //!
-//! An insert writes its cell unread, since safe code would load an [`OptionCell`] to drop what stood there: the
-//! one `unsafe` line. `grow`, `rebuild` and `later_match` stand apart, so that what runs mostly is short
-//! enough for the caller's loop, and an insert is inlined there: called, it took an eighth more
-//! instructions. A walk keeps the full ones of its sixteen places as bits. A clone leaves each pair
-//! in its place, and marks too, so that no hash is looked at. That of a table of indexes copies tags and cells
-//! as memory. Value by value it goes from one full cell to the next: with a test of each cell it took 4.8
-//! times hashbrown's time at 1,000 entries, and 1.3 so, since the processor guessed half of the tests wrong.
+//! The kind of cell is a type parameter. [`OptionCell`] is for any value, and has an option beside the hash.
+//! [`IndexCell`] is for indexes, and has none: its tag alone says whether it is full, and what is left in an emptied
+//! one is never read.
+//!
+//! Measured, and compared with hashbrown's time at 1,000 entries:
+//!
+//! 1. Tags and cells have a vector each. A miss takes 1.4 times hashbrown's time, and took 7.7 in one vector of both.
+//! 2. Up to 65536 cells a probe begins with sixteen tags, which saves a mispredicted branch: a hit takes 1.8 times
+//!    hashbrown's time, and took 2.1 without. The first of the sixteen at which the probe stops mostly decides the
+//!    look-up. It is tried before the loop, so a hit takes a tenth less time.
+//! 3. In a larger table a probe begins with the home's tag alone, and the processor fetches the home's cell before it
+//!    has the tag. With sixteen tags a hit took 1.5 times as long.
+//! 4. An insert doesn't read the cell that it writes. Safe code would load an [`OptionCell`] to drop its old value, so
+//!    one line is `unsafe`.
+//! 5. `grow`, `rebuild` and `later_match` are out of line, so the common path is short enough to be inlined into the
+//!    caller's loop. An insert that is called takes an eighth more instructions than an inlined one.
+//! 6. A walk over all pairs keeps a bit for each of sixteen cells (`FullPlaces`).
+//! 7. A clone leaves pairs and marks in their places, so it probes for nothing. A clone of a table of indexes copies
+//!    tags and cells as memory. Any other clone goes from one full cell to the next, and takes 1.3 times hashbrown's
+//!    time. A test of each cell took 4.8, since the processor mispredicted half of the tests.
 ghost use Rattle.std.specs.Prelude.{◌≡◌, ◌∷◌, ◌≤◌, ◌<◌, ◌+◌, ◌-◌, [], Some, length, option_copied, IfOk, IfSome, OnOk, OnErr};
 ghost use Rattle.std.specs.List.Sorted.{IsPermutation};
 ghost use Rattle.std.specs.List.{Contains};
 ghost use Rattle.std.specs.Option.{option_map};
 ghost use Rattle.std.specs.Fn.{TakesAt, CalledAt, FnReturnsAt};
-ghost use Rattle.iddqd_hash.specs.Asks.{CanAsk, LooksUp, HitsPair, FindsPlace, Misses, Keeps};
+ghost use Rattle.iddqd_hash.specs.Asks.{CanAsk, LooksUp, HitsPair, FindsPlace, Misses, RetainsPairs};
 ghost use Rattle.iddqd_hash.specs.HashTable.{entries, room, capacity, memory, pair_at, under, values, Rewrites, HasNoMemory, KeepsMemory, UsesRoom};
 ghost use Rattle.iddqd_hash.specs.Sizes.{Reserves};
 ghost use Rattle.iddqd_hash.specs.OpenTable.{usable_of, IsPowerOfTwo};
@@ -72,13 +85,13 @@ pub use iter_hash::IterHash;
 
 /// Values under hashes, in no order that a caller can rely on.
 ///
-/// A contract sees it as a bag of pairs of a hash and a value, as the number of inserts that need
-/// no memory, and as the number of cells that its memory holds.
+/// Contracts see a bag of pairs of a hash and a value, how many inserts need no memory, and how many cells the memory
+/// has.
 #[derive(Drop)]
 pub struct OpenHashTable<T, C: Cell<T> = OptionCell<T>> {
     tags: Vec<u8>,
-    // How many cells are full or marked. It stands apart from `len`: side by side the two are read as one, and such
-    // a read waits for a write of one of them.
+    // How many cells are full or marked. It isn't beside `len`, since the compiler would read the two at once, and such
+    // a read waits for an earlier write of either.
     used: usize,
     cells: Vec<C>,
     len: usize,
@@ -87,18 +100,18 @@ pub struct OpenHashTable<T, C: Cell<T> = OptionCell<T>> {
 
 impl<T, C: Cell<T>> Model for OpenHashTable<T, C> {
     ghost use Rattle.iddqd_hash.specs.HashTable.{Table, table_code};
-    ghost use Rattle.iddqd_hash.specs.OpenTable.{opened, slots_of, IsSoundTable};
+    ghost use Rattle.iddqd_hash.specs.OpenTable.{table_of, slots_of, IsSoundTable};
 
     ghost Value = { Table T };
 
     ghost coded = { table_code T.code };
 
-    ghost view = { λ s. opened (slots_of C.slot s.tags.items s.cells.items) };
+    ghost view = { λ s. table_of (slots_of C.slot s.tags.items s.cells.items) };
 
     ghost invariant = { λ s. IsSoundTable C.slot s.tags s.cells s.len s.used };
 }
 
-/// A pair that stands in a table.
+/// The entry of a pair that is in a table.
 pub type OccupiedEntry<'a, T, C = OptionCell<T>> = table_entry::OccupiedEntry<
     'a,
     OpenHashTable<T, C>,
@@ -166,7 +179,7 @@ impl<T, C: Cell<T>> OpenHashTable<T, C> {
     ghost use Rattle.iddqd_hash.specs.contracts.open_table.OpenHashTable.{the_row};
     ghost use Rattle.iddqd_hash.specs.TableEntry.{entry_table, entry_pair, entry_lender};
 
-    /// The same as `new`, of any cells.
+    /// The same as `new`, for any kind of cell.
     pub fn of_cells(alloc: Global) -> Self
         ensures empty { entries result ≡ [] }
         ensures memory { HasNoMemory result }
@@ -203,8 +216,8 @@ impl<T, C: Cell<T>> OpenHashTable<T, C> {
 
     /// Makes room for `additional` more pairs.
     ///
-    /// An `AllocError` means that memory was refused, or that no vector can hold so many; the table
-    /// stays as it was. It stays so too, and takes no memory, where there is room for so many.
+    /// If there is room for them, nothing changes. `AllocError` means that an allocation failed, or that no vector can
+    /// hold that many; the table is then as it was.
     pub fn try_reserve(&mut self, additional: usize) -> Result<(), AllocError>
         ensures contents { IsPermutation (entries self.old) (entries self.new) }
         ensures memory { Reserves additional self.old result self.new }
@@ -215,10 +228,10 @@ impl<T, C: Cell<T>> OpenHashTable<T, C> {
         self.grow(additional)
     }
 
-    /// A value under `hash` at which `eq` answers `true`.
+    /// A value under `hash` for which `eq` answers `true`.
     ///
-    /// `eq` is asked of values under `hash` alone, of none twice, and no more after it answered
-    /// `true`. It misses only after each of them was asked.
+    /// `eq` is asked only about values under `hash`, about none twice, and not again after it answered `true`. `None`
+    /// means that it was asked about each of them.
     #[inline(always)]
     pub fn find<F: FnMut(&T) -> bool>(&self, hash: u64, eq: F) -> Option<&T>
         requires { CanAsk (TakesAt F.FnMut) (CalledAt F.FnMut) eq (under hash (entries self.now)) }
@@ -227,7 +240,7 @@ impl<T, C: Cell<T>> OpenHashTable<T, C> {
         Some(self.seek(hash, eq)?.1)
     }
 
-    /// The entry of a value under `hash` at which `eq` answers `true`, else `Err(())`.
+    /// The entry of a value under `hash` for which `eq` answers `true`, else `Err(())`.
     ///
     /// `eq` is asked as in `find`.
     pub fn find_entry<F: FnMut(&T) -> bool>(
@@ -237,7 +250,7 @@ impl<T, C: Cell<T>> OpenHashTable<T, C> {
     ) -> Result<OccupiedEntry<'_, T, C>, ()>
         requires { CanAsk (TakesAt F.FnMut) (CalledAt F.FnMut) eq (under hash (entries self.old)) }
 
-        // A hit is a pair under the hash, and the asks that led to it.
+        // A hit is a pair under the hash, and the asks before it were answered `false`.
         ensures found { IfOk result
             (λ e. HitsPair (CalledAt F.FnMut) eq hash (under hash (entries self.old)) (entry_pair e)) }
         ensures missed { OnErr result (Misses (CalledAt F.FnMut) eq (under hash (entries self.old))) }
@@ -245,7 +258,8 @@ impl<T, C: Cell<T>> OpenHashTable<T, C> {
         // The table is as it was, and an entry borrows it.
         ensures table { IfOk result (λ e. entry_table e ≡ self.old) }
         ensures same_reference { IfOk result (λ e. entry_lender e ≡ self.entry.ghost_name) }
-        ensures* unchanged { sem 𝓛 (RestsIfErr (the_row T.row C.row C.Cell) self.entry entry_lender result (λ t. t ≡ self.old)) }
+        ensures* unchanged { sem 𝓛
+            (RestsIfErr (the_row T.row C.row C.Cell) self.entry entry_lender result (λ t. t ≡ self.old)) }
     {
         match self.place_of(hash, eq) {
             Some(place) => Ok(OccupiedEntry { table: self, place }),
@@ -253,9 +267,9 @@ impl<T, C: Cell<T>> OpenHashTable<T, C> {
         }
     }
 
-    /// Adds a pair, and takes no memory.
+    /// Adds a pair, and takes no memory. It doesn't look for an equal value.
     ///
-    /// Where no more cells may be full or marked, it first costs a walk over all cells, which leaves no mark.
+    /// If seven of eight cells are full or marked, it first places all pairs again, which costs a walk over all cells.
     #[inline(always)]
     pub fn insert_unique(&mut self, hash: u64, value: T) -> OccupiedEntry<'_, T, C>
         requires { 1 ≤ room self.old }
@@ -268,14 +282,14 @@ impl<T, C: Cell<T>> OpenHashTable<T, C> {
         OccupiedEntry { table: self, place }
     }
 
-    /// Keeps exactly the values at which `f` answers `true`.
+    /// Keeps exactly the values for which `f` answers `true`.
     ///
-    /// `f` is asked once of each value. No memory is taken or given back.
+    /// `f` is asked once about each value. No memory is taken or given back.
     pub fn retain<F: FnMut(&T) -> bool>(&mut self, mut f: F)
     where
         T: Drop,
         requires { CanAsk (TakesAt F.FnMut) (CalledAt F.FnMut) f (values (entries self.old)) }
-        ensures kept { Keeps (CalledAt F.FnMut) f (entries self.old) (entries self.new) }
+        ensures kept { RetainsPairs (CalledAt F.FnMut) f (entries self.old) (entries self.new) }
         ensures memory { KeepsMemory self.old self.new }
     {
         let removed = retain_cells(
@@ -287,10 +301,10 @@ impl<T, C: Cell<T>> OpenHashTable<T, C> {
         self.len -= removed;
     }
 
-    /// Puts what `f` answers at each value in its place, under the hash that the value had.
+    /// Replaces each value by what `f` returns for it, under the same hash.
     ///
-    /// `f` is called once on each value, and on no other. No memory is taken or given back. It costs
-    /// a walk over the cells, and nothing without a pair.
+    /// `f` is called once on each value. No memory is taken or given back. It costs a walk over all cells, or nothing
+    /// if there is no pair.
     pub fn rewrite<F: Fn(&T) -> T>(&mut self, f: F)
     where
         T: Drop,
@@ -304,7 +318,7 @@ impl<T, C: Cell<T>> OpenHashTable<T, C> {
         rewrite_cells(self.tags.as_slice(), self.cells.as_mut_slice(), f);
     }
 
-    /// Removes every pair, and keeps the memory. Without a pair or a mark it looks at no cell.
+    /// Removes every pair, and keeps the memory. If no cell is full or marked, it reads none.
     pub fn clear(&mut self)
     where
         T: Drop,
@@ -321,7 +335,7 @@ impl<T, C: Cell<T>> OpenHashTable<T, C> {
         self.used = 0;
     }
 
-    // The cell and the value of the pair that a look-up hits.
+    // The place and the value of the pair that a look-up hits.
     #[inline(always)]
     fn seek<F: FnMut(&T) -> bool>(&self, hash: u64, eq: F) -> Option<(usize, &T)>
         requires { CanAsk (TakesAt F.FnMut) (CalledAt F.FnMut) eq (under hash (entries self.now)) }
@@ -336,7 +350,7 @@ impl<T, C: Cell<T>> OpenHashTable<T, C> {
         find_cell(self.tags.as_slice(), self.cells.as_slice(), hash, eq)
     }
 
-    // Makes room where there is less. It stands apart so that `try_reserve` is short where nothing is to do.
+    // What `try_reserve` does if there is too little room. It is out of line, so that `try_reserve` is short otherwise.
     #[inline(never)]
     fn grow(&mut self, additional: usize) -> Result<(), AllocError>
         requires { room self.old < additional }
@@ -345,11 +359,11 @@ impl<T, C: Cell<T>> OpenHashTable<T, C> {
     {
         let needed = self.len.checked_add(additional).ok_or(AllocError)?;
         let count = count_for(needed).ok_or(AllocError)?;
-        self.place_anew(count)
+        self.resize(count)
     }
 
-    // Moves every pair into so many new cells.
-    fn place_anew(&mut self, count: usize) -> Result<(), AllocError>
+    // Moves every pair into `count` new cells.
+    fn resize(&mut self, count: usize) -> Result<(), AllocError>
         requires power { IsPowerOfTwo count }
         requires fits { length (entries self.old) ≤ usable_of count }
         ensures contents { IsPermutation (entries self.old) (entries self.new) }
@@ -372,7 +386,7 @@ impl<T, C: Cell<T>> OpenHashTable<T, C> {
         Ok(())
     }
 
-    // Where the table's memory comes from.
+    // The allocator that the table's memory comes from.
     pub(crate) fn allocator(&self) -> Global {
         *self.cells.allocator()
     }

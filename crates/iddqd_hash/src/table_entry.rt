@@ -1,40 +1,41 @@
-//! Entries of a table of cells, whichever table it is: the place of a value, or room for one that isn't there.
+//! Entries of any table that implements `PairCells`: a pair that was found, or room for one.
 //!
-//! A table names them by aliases, and has its own `find_entry` and `entry`: so callers import no
-//! trait, and where the lender is a type parameter, the check proves no clause on what it ends as.
+//! A table names them by aliases, and has its own `find_entry` and `entry`, for two reasons. Callers import no trait.
+//! And if the type of the borrowed table were a type parameter, the check would prove no clause on what the table is
+//! after the borrow.
 ghost use Rattle.std.specs.Prelude.{◌≡◌, ◌∷◌, ◌+◌, ◌≤◌, Some, IsSome};
 ghost use Rattle.std.specs.List.Sorted.{IsPermutation};
 ghost use Rattle.std.specs.Fn.{TakesAt, CalledAt};
 ghost use Rattle.iddqd_hash.specs.Asks.{CanAsk, FindsPlace};
-ghost use Rattle.iddqd_hash.specs.HashTable.{Table, entries, room, pair_at, under, TakesOut, KeepsMemory, UsesRoom};
+ghost use Rattle.iddqd_hash.specs.HashTable.{Table, entries, room, pair_at, under, RemovesPair, KeepsMemory, UsesRoom};
 
-/// Cells, in some of which a pair of a hash and a value stands: what entries need of a table.
+/// What entries need of a table: places, each of which may have a pair of a hash and a value.
 pub trait PairCells {
-    /// What stands beside a hash.
+    /// The type of the values.
     type Value;
 
     // The table as a contract sees it.
     ghost seen: { Self → Table Self.Value };
 
-    /// The cell of the pair that a look-up hits.
+    /// The place of the pair that a look-up hits.
     fn place_of<F: FnMut(&Self::Value) -> bool>(&self, hash: u64, eq: F) -> Option<usize>
         requires { CanAsk (TakesAt F.FnMut) (CalledAt F.FnMut) eq (under hash (entries (seen self.now))) }
         ensures { FindsPlace (CalledAt F.FnMut) eq hash (under hash (entries (seen self.now))) (pair_at (seen self.now))
             result };
 
-    /// The pair in a cell.
+    /// The pair at a place.
     fn pair_at(&self, place: usize) -> (u64, &Self::Value)
         requires { IsSome (pair_at (seen self.now) place) }
         ensures { pair_at (seen self.now) place ≡ Some (result.0, result.1.now) };
 
-    /// Takes the pair in a cell out of the table. No memory is taken or given back.
+    /// Removes the pair at a place, and returns its value. No memory is taken or given back.
     fn take_at(&mut self, place: usize) -> Self::Value
         requires { IsSome (pair_at (seen self.old) place) }
-        ensures removed { TakesOut (seen self.old) (pair_at (seen self.old) place) result (seen self.new) }
+        ensures removed { RemovesPair (seen self.old) (pair_at (seen self.old) place) result (seen self.new) }
         ensures memory { KeepsMemory (seen self.old) (seen self.new) }
         ensures room { room (seen self.new) ≡ room (seen self.old) + 1 };
 
-    /// Adds a pair, and returns its cell. No memory is taken.
+    /// Adds a pair, and returns its place. No memory is taken.
     fn add(&mut self, hash: u64, value: Self::Value) -> usize
         requires { 1 ≤ room (seen self.old) }
         ensures pair { pair_at (seen self.new) result ≡ Some (hash, value) }
@@ -42,16 +43,16 @@ pub trait PairCells {
         ensures memory { UsesRoom (seen self.old) (seen self.new) };
 }
 
-/// Where a value that was looked up stands, or could stand.
+/// The result of `entry`: the pair that it found, or room for one.
 #[derive(Drop)]
 pub enum Entry<'a, C: PairCells> {
-    /// It stands there.
+    /// The pair that was found.
     Occupied(OccupiedEntry<'a, C>),
-    /// It doesn't, and there is room for it.
+    /// None was found, and there is room for one.
     Vacant(VacantEntry<'a, C>),
 }
 
-/// A pair that stands in a table.
+/// The entry of a pair that is in a table.
 #[derive(Drop)]
 pub struct OccupiedEntry<'a, C: PairCells> {
     pub(crate) table: &'a mut C,
@@ -59,7 +60,7 @@ pub struct OccupiedEntry<'a, C: PairCells> {
     ghost stands: { IsSome (pair_at (C.seen table.now) place) },
 }
 
-/// Room for one pair under a hash. An entry that is let go leaves the pairs as they were.
+/// Room for one pair under a hash. If the entry is dropped, the pairs stay as they were.
 #[derive(Drop)]
 pub struct VacantEntry<'a, C: PairCells> {
     pub(crate) table: &'a mut C,
@@ -77,9 +78,9 @@ impl<'a, C: PairCells> OccupiedEntry<'a, C> {
         self.table.pair_at(self.place).1
     }
 
-    /// Takes the pair out of the table, and hands back its value. No memory is taken or given back.
+    /// Removes the pair from the table, and returns its value. No memory is taken or given back.
     pub fn remove(self) -> C::Value
-        ensures removed { TakesOut (entry_table self.entry) (entry_pair self.entry) result (C.seen self.exit.0.now) }
+        ensures removed { RemovesPair (entry_table self.entry) (entry_pair self.entry) result (C.seen self.exit.0.now) }
         ensures memory { KeepsMemory (entry_table self.entry) (C.seen self.exit.0.now) }
         ensures room { room (C.seen self.exit.0.now) ≡ room (entry_table self.entry) + 1 }
     {

@@ -1,11 +1,11 @@
-//! Copies of a table of indexes.
+//! Clones of a table of indexes.
 ghost use Rattle.std.specs.Prelude.{◌≡◌, IfOk, MatchResult};
 ghost use Rattle.iddqd_hash.specs.MapHashTable.{filed};
 
 use super::MapHashTable;
 use std::alloc::AllocError;
 
-/// A copy has the same memory as the table.
+/// A clone has as much memory as the table.
 impl Clone for MapHashTable {
     ghost use Rattle.std.specs.Prelude.{◌≡◌};
     ghost use Rattle.iddqd_hash.specs.MapHashTable.{filed};

@@ -1,4 +1,4 @@
-//! The place of an index in a table, or room for one that isn't there.
+//! Entries of a table of indexes: an index that was found, or room for one.
 ghost use Rattle.std.specs.Prelude.{◌≡◌, ◌≤◌, ℕ, Contains, None, IfOk, OnErr};
 ghost use Rattle.std.specs.FinMap as finite;
 ghost use Rattle.iddqd.specs.MapHash.{hash_one};
@@ -14,16 +14,16 @@ use iddqd::map_hash::MapHash;
 use std::alloc::AllocError;
 use std::hash::{BuildHasher, Hash};
 
-/// Where an index that was looked up stands, or could stand.
+/// The result of `entry`: the index that it found, or room for one.
 #[derive(Drop)]
 pub enum Entry<'a> {
-    /// It stands there.
+    /// The index that was found.
     Occupied(OccupiedEntry<'a>),
-    /// It doesn't, and there is room for it.
+    /// None was found, and there is room for one.
     Vacant(VacantEntry<'a>),
 }
 
-/// Room for one index under a hash. An entry that is dropped leaves the indexes as they were.
+/// Room for one index under a hash. If the entry is dropped, the indexes stay as they were.
 #[derive(Drop)]
 pub struct VacantEntry<'a> {
     table: &'a mut MapHashTable,
@@ -36,11 +36,11 @@ impl MapHashTable {
     ghost use Rattle.iddqd_hash.specs.contracts.hash_table.MapHashTable.{the_row};
     ghost use Rattle.iddqd_hash.specs.MapHashTableEntry.{entry_table, entry_pair, vacant_table, vacant_hash, lender_of, IfOccupied, IfVacant, UnlessOccupied};
 
-    /// The entry of an index under the key's hash whose key equals it, else a vacant one, which has its room.
+    /// The entry of an index under the key's hash whose key equals it, else a vacant one, with room for an index.
     ///
-    /// `lookup` is called as in `find_index_prehashed`. An `AllocError` comes only at a miss for which
-    /// there was no room; the table stays as it was. Where there is room no memory is taken. The key is
-    /// let go when the call ends.
+    /// `lookup` is called as in `find_index_prehashed`. A miss makes room as `try_reserve` does, so it takes memory
+    /// only if there is no room. `AllocError` means that this failed; the table is then as it was. The key is dropped
+    /// when the call ends.
     pub fn entry<S: BuildHasher, K: Hash + Eq + Drop, F: Fn(ItemIndex) -> K>(
         &mut self,
         state: &S,
@@ -50,13 +50,13 @@ impl MapHashTable {
         requires { let hash = hash_one S.BuildHasher S.Hasher.Hasher state.now (K.hash_input key) in
             (ix : ℕ) → Contains (indexes_under hash (filed self.old)) ix → F.pre lookup ix }
 
-        // A hit is an index under the hash, in the table as it was, and the asks that led to it.
+        // A hit is an index under the hash, and the asks before it were answered `false`. The table is as it was.
         ensures found { let hash = hash_one S.BuildHasher S.Hasher.Hasher state.now (K.hash_input key) in
             IfOccupied result (λ e. HitsPair (AsksKey F.Fn (λ k other. K.eq other k) lookup key) tt hash
             (indexes_under hash (filed self.old)) (entry_pair e)) }
         ensures same_table { IfOccupied result (λ e. entry_table e ≡ self.old) }
 
-        // Else each key of an index under the hash differed, and the indexes stay.
+        // Otherwise the key of each index under the hash differs, and the indexes stay.
         ensures missed { let hash = hash_one S.BuildHasher S.Hasher.Hasher state.now (K.hash_input key) in
             UnlessOccupied result
             (Misses (AsksKey F.Fn (λ k other. K.eq other k) lookup key) tt (indexes_under hash (filed self.old))) }
@@ -65,7 +65,7 @@ impl MapHashTable {
         ensures contents { IfVacant result (λ e. filed (vacant_table e) ≡ filed self.old) }
         ensures refused { OnErr result (room self.old ≡ 0) }
 
-        // An entry borrows the table, and without one it is as it was.
+        // An entry borrows the table. Without an entry the table is as it was.
         ensures same_reference { IfOk result (λ e. lender_of e ≡ self.entry.ghost_name) }
         ensures* unchanged { sem 𝓛 (RestsIfErr the_row self.entry lender_of result (λ t. t ≡ self.old)) }
     {
@@ -79,7 +79,7 @@ impl MapHashTable {
         Ok(Entry::Vacant(VacantEntry { table: self, hash }))
     }
 
-    // The cell of the index that a look-up by a key hits.
+    // The place of the index that a look-up by a key hits.
     fn place_of_key<K: Eq + Drop, F: Fn(ItemIndex) -> K>(
         &self,
         hash: u64,

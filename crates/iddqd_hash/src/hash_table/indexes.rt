@@ -1,10 +1,10 @@
-//! All indexes of a table: walks over them.
+//! Calls that go over all indexes of a table.
 ghost use Rattle.std.specs.Prelude.{◌≡◌, Some, IfSome, length, is_some};
 ghost use Rattle.std.specs.Iterator.{YieldsFirst, item_count, at_most, UpTo};
 ghost use Rattle.std.specs.Iterator.SizeHint.{IsWithinCount};
 ghost use Rattle.std.specs.List.Sorted.{IsPermutation};
 ghost use Rattle.std.specs.FinMap as finite;
-ghost use Rattle.iddqd_hash.specs.Asks.{CanAsk, Keeps};
+ghost use Rattle.iddqd_hash.specs.Asks.{CanAsk, RetainsPairs};
 ghost use Rattle.iddqd_hash.specs.HashTable.{KeepsMemory};
 ghost use Rattle.iddqd_hash.specs.MapHashTable.{filed, indexes_of, pairs_of};
 
@@ -32,7 +32,7 @@ impl<'a> Model for Indexes<'a> {
 }
 
 impl MapHashTable {
-    /// The indexes, each once. A whole walk looks at the tags of sixteen cells at a time.
+    /// An iterator over the indexes, each once. It reads the tags of sixteen cells at a time.
     pub fn indexes(&self) -> Indexes<'_>
         ensures { IsPermutation (indexes_of (filed self.now)) result }
     {
@@ -41,7 +41,7 @@ impl MapHashTable {
         }
     }
 
-    /// Whether an index is filed, under whatever hash. It costs a walk over the table.
+    /// Whether an index is filed, under any hash. It costs a walk over the table.
     pub fn contains_index(&self, ix: ItemIndex) -> bool
         ensures { result ≡ is_some (finite.get (filed self.now) ix) }
     {
@@ -54,12 +54,12 @@ impl MapHashTable {
         false
     }
 
-    /// Keeps exactly the indexes at which `f` answers `true`, under their hashes.
+    /// Keeps exactly the indexes for which `f` answers `true`, under their hashes.
     ///
-    /// `f` is asked once of each index. No memory is taken or given back.
+    /// `f` is asked once about each index. No memory is taken or given back.
     pub fn retain<F: FnMut(ItemIndex) -> bool>(&mut self, mut f: F)
         requires { CanAsk F.pre F.step f (indexes_of (filed self.old)) }
-        ensures kept { Keeps F.step f (pairs_of (filed self.old)) (pairs_of (filed self.new)) }
+        ensures kept { RetainsPairs F.step f (pairs_of (filed self.old)) (pairs_of (filed self.new)) }
         ensures memory { KeepsMemory self.old self.new }
     {
         self.table.retain(

@@ -1,4 +1,4 @@
-//! The indexes of a table under one hash: the walk over them.
+//! The iterator over the indexes of a table under one hash.
 ghost use Rattle.std.specs.Prelude.{◌≡◌, IfSome, IsSome, length};
 ghost use Rattle.std.specs.Iterator.{YieldsFirst, item_count, at_most, UpTo};
 ghost use Rattle.std.specs.Iterator.SizeHint.{IsWithinCount};
@@ -30,7 +30,7 @@ impl<'a> Model for IndexesUnder<'a> {
 }
 
 impl MapHashTable {
-    /// The indexes under a hash, each once. A whole walk reads what a look-up reads that misses.
+    /// An iterator over the indexes under a hash, each once. Run to its end, it reads what a look-up that misses reads.
     pub fn indexes_under(&self, hash: MapHash) -> IndexesUnder<'_>
         ensures { IsPermutation (indexes_under hash (filed self.now)) result }
     {

@@ -1,4 +1,4 @@
-//! Memory that a table of indexes takes ahead, and gives back.
+//! How a table of indexes reserves memory, and gives it back.
 ghost use Rattle.std.specs.Prelude.{◌≡◌, ◌+◌, ◌≤◌, min, max, IfOk};
 ghost use Rattle.std.specs.FinMap as finite;
 ghost use Rattle.iddqd_hash.specs.HashTable.{capacity, room, memory};
@@ -10,7 +10,7 @@ use crate::open_table::OpenHashTable;
 use std::alloc::{AllocError, Global};
 
 impl MapHashTable {
-    /// An empty table with room for so many indexes. With 0 it takes no memory.
+    /// An empty table with room for `capacity` indexes. With 0 it takes no memory.
     pub fn with_capacity(alloc: Global, capacity: usize) -> Result<MapHashTable, AllocError>
         ensures empty { IfOk result (λ t. filed t ≡ finite.empty) }
         ensures memory { TakesRoom capacity result }
@@ -20,14 +20,14 @@ impl MapHashTable {
         })
     }
 
-    /// The same as `try_reserve`, under the name that it has where it can't be refused.
+    /// The same as `try_reserve`. Unlike `reserve` of Rust's collections it returns an error if memory runs out.
     pub fn reserve(&mut self, additional: usize) -> Result<(), AllocError>
         ensures contents { filed self.new ≡ filed self.old }
         ensures memory { Reserves additional self.old result self.new }
         ensures few { memory self.new ≤ max (memory self.old) (most_cells (finite.len (filed self.old) + additional)) }
         ensures capacity { capacity self.old ≤ capacity self.new }
 
-        // What every table keeps.
+        // This holds of every table.
         ensures counted { capacity self.old ≡ finite.len (filed self.old) + room self.old }
     {
         self.try_reserve(additional)
@@ -35,7 +35,7 @@ impl MapHashTable {
 
     /// Gives back the memory that the indexes don't need.
     ///
-    /// Where the smaller memory is refused, the indexes stay. Where none is needed, nothing can be refused.
+    /// If the smaller memory can't be allocated, the indexes stay. If none is needed, it can't fail.
     pub fn shrink_to_fit(&mut self) -> Result<(), AllocError>
         ensures contents { filed self.new ≡ filed self.old }
         ensures memory { Shrinks 0 (finite.len (filed self.old)) self.old result self.new }
@@ -44,9 +44,9 @@ impl MapHashTable {
         self.shrink_to(0)
     }
 
-    /// Gives back the memory that so many indexes don't need, or those that there are where these are more.
+    /// Gives back memory that is needed neither for the indexes that there are nor for `least` of them.
     ///
-    /// Where the smaller memory is refused, the indexes stay. Where none is needed, nothing can be refused.
+    /// If the smaller memory can't be allocated, the indexes stay. If none is needed, it can't fail.
     pub fn shrink_to(&mut self, least: usize) -> Result<(), AllocError>
         ensures contents { filed self.new ≡ filed self.old }
         ensures memory { Shrinks least (finite.len (filed self.old)) self.old result self.new }

@@ -1,4 +1,4 @@
-//! The check of a table's indexes, which the invariant makes distinct.
+//! The check that a table has the indexes that are expected. By the invariant no index stands in it twice.
 ghost use Rattle.std.specs.Prelude.{IfOk};
 ghost use Rattle.std.specs.List.Sorted.{IsPermutation};
 ghost use Rattle.iddqd.specs.Validation.{AreAsExpected, Validates};
@@ -12,9 +12,10 @@ use iddqd::item_index::ItemIndex;
 use std::alloc::AllocError;
 
 impl MapHashTable {
-    /// Whether there are as many indexes as expected; in `Compact`, whether they are those from 0 on as well.
+    /// Checks that there are as many indexes as expected and, if `compactness` is `Compact`, that they are those from 0
+    /// on.
     ///
-    /// It sorts a copy of the indexes, whose memory may be refused.
+    /// It sorts a copy of the indexes, so it can run out of memory.
     pub fn validate(
         &self,
         expected_len: usize,
@@ -33,7 +34,7 @@ impl MapHashTable {
         }
     }
 
-    // The indexes, in memory of their own.
+    // A copy of the indexes.
     fn list(&self) -> Result<Vec<ItemIndex>, AllocError>
         ensures { IfOk result (λ list. IsPermutation (indexes_of (filed self.now)) list.items) }
     {

@@ -1,4 +1,4 @@
-//! Copies of a linear table.
+//! Clones of the reference table.
 ghost use Rattle.std.specs.Prelude.{◌≡◌, ◌≤◌, length, IfOk, MatchResult, vec_capacity};
 ghost use Rattle.std.specs.List.{AllZip};
 ghost use Rattle.iddqd_hash.specs.HashTable.{entries, memory, Rewrites};
@@ -6,11 +6,11 @@ ghost use Rattle.iddqd_hash.specs.HashTable.{entries, memory, Rewrites};
 use super::HashTable;
 use std::alloc::{AllocError, Global};
 
-/// A copy has no more memory than the table. Where memory is refused, the clones made so far are dropped.
+/// A clone has no more memory than the table. If an allocation fails, the clones made so far are dropped.
 impl<T: Clone> Clone for HashTable<T> {
     ghost use Rattle.iddqd_hash.specs.HashTable.{entries, Rewrites};
 
-    // A clone of each value under the hash of that value, and no other.
+    // The copy has a clone of each value under that value's hash, and no other value.
     ghost is_clone = { λ t copy. Rewrites T.is_clone (entries t) (entries copy) };
 
     fn clone(&self) -> Result<HashTable<T>, AllocError>
@@ -23,7 +23,7 @@ impl<T: Clone> Clone for HashTable<T> {
     }
 }
 
-// A clone of each value under its hash, in memory for exactly so many.
+// A clone of each value under its hash, in memory for these pairs alone.
 fn cloned_pairs<T: Clone>(alloc: Global, pairs: &[(u64, T)]) -> Result<Vec<(u64, T)>, AllocError>
     ensures clones { IfOk result
         (λ copies. AllZip (λ e w. (w.0 ≡ e.0) × T.is_clone e.1 w.1) pairs.now copies.items) }

@@ -1,4 +1,4 @@
-//! The walk over the values of a linear table.
+//! The iterator over the values of the reference table.
 ghost use Rattle.std.specs.Prelude.{◌≡◌, Some, IfSome, length};
 ghost use Rattle.std.specs.Iterator.{YieldsFirstRef, item_count, at_most, UpTo};
 ghost use Rattle.std.specs.Iterator.SizeHint.{IsWithinCount};
@@ -28,7 +28,7 @@ impl<'a, T> Model for TableIter<'a, T> {
 }
 
 impl<T> HashTable<T> {
-    /// The values, each once. A whole walk costs a step a pair.
+    /// An iterator over the values, each once.
     pub fn iter(&self) -> TableIter<'_, T>
         ensures { IsPermutation (values (entries self.now)) result }
     {

@@ -1,4 +1,4 @@
-//! The walk over the values under one hash of a linear table.
+//! The iterator over the values under one hash of the reference table.
 ghost use Rattle.std.specs.Prelude.{◌≡◌, ◌∷◌, [], IfSome, IfNone, IsSome, length};
 ghost use Rattle.std.specs.Iterator.{YieldsFirstRef, item_count, at_most, UpTo};
 ghost use Rattle.std.specs.Iterator.SizeHint.{IsWithinCount};
@@ -29,7 +29,7 @@ impl<'a, T> Model for IterHash<'a, T> {
 }
 
 impl<T> HashTable<T> {
-    /// The values under a hash, each once. A whole walk costs a step a pair.
+    /// An iterator over the values under a hash, each once. It compares the hash of each pair.
     pub fn iter_hash(&self, hash: u64) -> IterHash<'_, T>
         ensures { IsPermutation (under hash (entries self.now)) result }
     {
@@ -77,7 +77,7 @@ impl<'a, T> fmt::Debug for IterHash<'a, T> {
     }
 }
 
-// The first value under a hash, and the pairs behind it.
+// The first value under a hash, and the pairs after it.
 fn split_under<'a, T>(pairs: &'a [(u64, T)], hash: u64) -> Option<(&'a T, &'a [(u64, T)])>
     ensures found { IfSome result (λ found. under hash pairs.now ≡ found.0.now ∷ under hash found.1.now) }
     ensures missed { IfNone result (under hash pairs.now ≡ []) }

@@ -1,4 +1,4 @@
-//! Memory that a linear table takes ahead, and gives back.
+//! How the reference table reserves memory, and gives it back.
 ghost use Rattle.std.specs.Prelude.{◌≡◌, [], length, IfOk};
 ghost use Rattle.std.specs.List.Sorted.{IsPermutation};
 ghost use Rattle.iddqd_hash.specs.HashTable.{entries};
@@ -8,7 +8,7 @@ use super::HashTable;
 use std::alloc::{AllocError, Global};
 
 impl<T> HashTable<T> {
-    /// An empty table with room for so many pairs. With 0 it takes no memory.
+    /// An empty table with room for `capacity` pairs. With 0 it takes no memory.
     pub fn with_capacity(alloc: Global, capacity: usize) -> Result<HashTable<T>, AllocError>
         ensures empty { IfOk result (λ t. entries t ≡ []) }
         ensures memory { TakesRoom capacity result }
@@ -18,7 +18,7 @@ impl<T> HashTable<T> {
         })
     }
 
-    /// The same as `try_reserve`, under the name that it has where it can't be refused.
+    /// The same as `try_reserve`. Unlike `reserve` of Rust's collections it returns an error if memory runs out.
     pub fn reserve(&mut self, additional: usize) -> Result<(), AllocError>
         ensures contents { IsPermutation (entries self.old) (entries self.new) }
         ensures memory { Reserves additional self.old result self.new }
@@ -28,7 +28,7 @@ impl<T> HashTable<T> {
 
     /// Gives back the memory that the pairs don't need.
     ///
-    /// Where the smaller memory is refused, the pairs stay. Where none is needed, nothing can be refused.
+    /// If the smaller memory can't be allocated, the pairs stay. If none is needed, it can't fail.
     pub fn shrink_to_fit(&mut self) -> Result<(), AllocError>
         ensures contents { IsPermutation (entries self.old) (entries self.new) }
         ensures memory { Shrinks 0 (length (entries self.old)) self.old result self.new }
@@ -36,9 +36,9 @@ impl<T> HashTable<T> {
         self.shrink_to(0)
     }
 
-    /// Gives back the memory that so many pairs don't need, or those that there are where these are more.
+    /// Gives back memory that is needed neither for the pairs that there are nor for `least` of them.
     ///
-    /// Where the smaller memory is refused, the pairs stay. Where none is needed, nothing can be refused.
+    /// If the smaller memory can't be allocated, the pairs stay. If none is needed, it can't fail.
     pub fn shrink_to(&mut self, least: usize) -> Result<(), AllocError>
         ensures contents { IsPermutation (entries self.old) (entries self.new) }
         ensures memory { Shrinks least (length (entries self.old)) self.old result self.new }
@@ -51,7 +51,7 @@ impl<T> HashTable<T> {
         Ok(())
     }
 
-    /// Lets go of a table without a pair, and gives back its memory, also where a value can't be let go.
+    /// Drops a table that has no pair, and gives back its memory. The type of its values needn't be `Drop`.
     pub fn destroy_empty(self)
         requires { entries self ≡ [] }
     {

@@ -1,25 +1,26 @@
-//! What a cell of a table with open addressing is: a type parameter of the table.
+//! The kinds of cells that a table with open addressing may have. The kind is a type parameter of the table.
 //!
-//! [`OptionCell`] is for any value. [`IndexCell`] is for indexes, and has 12 bytes where an option would make it 16: its
-//! tag alone tells whether it is full, and what an emptied one keeps is never read.
+//! 1. [`OptionCell`] is for any value: its option says whether it has one.
+//! 2. [`IndexCell`] is for indexes, and has 12 bytes; an option would make that 16. Its tag alone says whether it is
+//!    full, and what is left in an emptied one is never read.
 ghost use Rattle.std.specs.Prelude.{◌≡◌, ◌⊎◌, ◌+◌, ◌*◌, ◌/◌, ◌%◌, ◌^◌, ℕ, Bool, true, false, Option, None, Some, IsSome};
 
 use iddqd::item_index::ItemIndex;
 use std::mem::{self, ManuallyDrop};
 
-/// A cell in which a pair of a hash and a value may stand. Its tag is kept apart, and tells whether the cell is full.
+/// A cell, which may have a pair of a hash and a value. Its tag, which is not a part of it, says whether it is full.
 pub trait Cell<T> {
-    // The pair in a cell, by whether its tag says that it is full.
+    // The pair in a cell. The `Bool` is whether its tag is that of a full cell.
     ghost slot: { Bool → Self → Option (ℕ × T) };
 
-    // With the tag of a cell that isn't full, it either has no pair, or has the one that it has with any tag.
-    ghost told: { (cell : Self) → (slot false cell ≡ None) ⊎ (slot false cell ≡ slot true cell) };
+    // Without the tag of a full cell, a cell shows either no pair, or the pair that it shows with that tag.
+    ghost by_tag: { (cell : Self) → (slot false cell ≡ None) ⊎ (slot false cell ≡ slot true cell) };
 
     /// A cell with no pair.
     fn empty() -> Self
         ensures { slot false result ≡ None };
 
-    /// The pair.
+    /// The pair of a full cell.
     fn pair(&self) -> (u64, &T)
         requires { IsSome (slot true self.now) }
         ensures { slot true self.now ≡ Some (result.0, result.1.now) };
@@ -29,19 +30,19 @@ pub trait Cell<T> {
         requires { slot false self.old ≡ None }
         ensures { slot true self.new ≡ Some (hash, value) };
 
-    /// Takes the pair out.
+    /// Removes the pair of a full cell, and returns it.
     fn take(&mut self) -> (u64, T)
         requires { IsSome (slot true self.old) }
         ensures pair { slot true self.old ≡ Some result }
         ensures empty { slot false self.new ≡ None };
 
-    /// Puts a pair in the place of the one that stands there, and returns that.
+    /// Puts a pair into a full cell, and returns the pair that it had.
     fn replace(&mut self, hash: u64, value: T) -> (u64, T)
         requires { IsSome (slot true self.old) }
         ensures before { slot true self.old ≡ Some result }
         ensures after { slot true self.new ≡ Some (hash, value) };
 
-    /// The pair of a cell that is given up, by whether its tag says that it is full.
+    /// Consumes the cell, and returns its pair if it has one. `full` is whether its tag is that of a full cell.
     fn into_pair(self, full: bool) -> Option<(u64, T)>
         ensures { result ≡ slot full self };
 
@@ -52,7 +53,7 @@ pub trait Cell<T> {
         ensures { slot false self.new ≡ None };
 }
 
-/// A cell for any value. The hash means something where there is a value.
+/// A cell for any value. The hash is meaningless if there is no value.
 #[derive(Drop)]
 pub struct OptionCell<T> {
     hash: u64,
@@ -65,7 +66,7 @@ impl<T> Cell<T> for OptionCell<T> {
 
     ghost slot = { λ _ cell. pair_in cell };
 
-    ghost told = { λ cell. inr refl };
+    ghost by_tag = { λ cell. inr refl };
 
     fn empty() -> OptionCell<T> {
         OptionCell {
@@ -119,7 +120,7 @@ impl<T> Cell<T> for OptionCell<T> {
     }
 }
 
-// Writes a value where there is none, without a look at what was there: a look would load the cell first.
+// Writes a value over `None` without reading the slot. An assignment would load it, to drop its old value.
 fn fill<T>(slot: &mut Option<T>, value: T)
     requires { slot.old ≡ None }
     ensures { slot.new ≡ Some value }
@@ -128,7 +129,7 @@ fn fill<T>(slot: &mut Option<T>, value: T)
     let _kept = unsafe { ManuallyDrop::new_unchecked(none) };
 }
 
-/// A cell for an index: the two halves of its hash, and the index.
+/// A cell for an index. The hash is in two halves, since a `u64` would be aligned to 8 bytes.
 #[derive(Clone, Copy)]
 pub struct IndexCell {
     low: u32,
@@ -142,7 +143,7 @@ impl Cell<ItemIndex> for IndexCell {
 
     ghost slot = { index_slot };
 
-    ghost told = { λ cell. inl refl };
+    ghost by_tag = { λ cell. inl refl };
 
     fn empty() -> IndexCell {
         index_cell(0, ItemIndex::new(0))
@@ -150,7 +151,7 @@ impl Cell<ItemIndex> for IndexCell {
 
     #[inline(always)]
     fn pair(&self) -> (u64, &ItemIndex) {
-        (whole(self.low, self.high), &self.index)
+        (hash_of_halves(self.low, self.high), &self.index)
     }
 
     #[inline(always)]
@@ -159,18 +160,18 @@ impl Cell<ItemIndex> for IndexCell {
     }
 
     fn take(&mut self) -> (u64, ItemIndex) {
-        (whole(self.low, self.high), self.index)
+        (hash_of_halves(self.low, self.high), self.index)
     }
 
     fn replace(&mut self, hash: u64, value: ItemIndex) -> (u64, ItemIndex) {
-        let pair = (whole(self.low, self.high), self.index);
+        let pair = (hash_of_halves(self.low, self.high), self.index);
         *self = index_cell(hash, value);
         pair
     }
 
     fn into_pair(self, full: bool) -> Option<(u64, ItemIndex)> {
         if full {
-            Some((whole(self.low, self.high), self.index))
+            Some((hash_of_halves(self.low, self.high), self.index))
         } else {
             None
         }
@@ -182,7 +183,6 @@ impl Cell<ItemIndex> for IndexCell {
     {}
 }
 
-// A cell with an index under a hash.
 #[inline(always)]
 fn index_cell(hash: u64, index: ItemIndex) -> IndexCell
     ensures low { result.low ≡ hash % 2 ^ 32 }
@@ -196,9 +196,8 @@ fn index_cell(hash: u64, index: ItemIndex) -> IndexCell
     }
 }
 
-// The hash of two halves.
 #[inline(always)]
-fn whole(low: u32, high: u32) -> u64
+fn hash_of_halves(low: u32, high: u32) -> u64
     ensures { result ≡ low + high * 2 ^ 32 }
 {
     (high as u64) << 32 | low as u64

@@ -1,12 +1,12 @@
-//! The cells of a table with open addressing, beside their tags.
+//! Look-ups and changes in the cells of a table with open addressing, by their tags.
 ghost use Rattle.std.specs.Prelude.{◌≡◌, ◌+◌, ◌<◌, ◌≤◌, ◌%◌, vec_len, count_by, Some, None, IsSome, IfSome, length, replicate, slice_index, slice_set};
 ghost use Rattle.std.specs.Fn.{TakesAt, CalledAt, FnReturnsAt};
 ghost use Rattle.std.specs.List.{Contains};
 ghost use Rattle.std.specs.Option.{option_map};
 ghost use Rattle.std.specs.List.Sorted.{IsPermutation};
-ghost use Rattle.iddqd_hash.specs.Asks.{CanAsk, FindsPlace, KeepsTo};
+ghost use Rattle.iddqd_hash.specs.Asks.{CanAsk, FindsPlace, RetainsPairsTo};
 ghost use Rattle.iddqd_hash.specs.HashTable.{under, value_of, values, Rewrites};
-ghost use Rattle.iddqd_hash.specs.OpenWalk.{IsInSixteens};
+ghost use Rattle.iddqd_hash.specs.OpenWalk.{IsMultipleOf16};
 ghost use Rattle.iddqd_hash.specs.OpenTable.{tag_of, limit_of, is_used, hashes_of, has_pair, slots_of, slot_at, pairs, IsPowerOfTwo, HasEmpty, IsProbed, FindsNext};
 
 use crate::open_table::cell_kinds::Cell;
@@ -27,7 +27,7 @@ pub fn pair_at<'a, T, C: Cell<T>>(tags: &[u8], cells: &'a [C], place: usize) -> 
     cells[place].pair()
 }
 
-/// The first place from `from` on that has a pair under the hash, or none where an empty cell comes first.
+/// The first place from `from` on that has a pair under the hash, or `None` if an empty cell comes first.
 #[inline(always)]
 pub fn next_match<T, C: Cell<T>>(tags: &[u8], cells: &[C], from: usize, hash: u64) -> Option<usize>
     requires power { IsPowerOfTwo (length tags.now) }
@@ -48,8 +48,8 @@ pub fn next_match<T, C: Cell<T>>(tags: &[u8], cells: &[C], from: usize, hash: u6
     None
 }
 
-// The same, out of line: after a refused value, which is rare. So the code of a look-up that ends at its first one is
-// short, and the processor works on more of them at a time.
+// The same, out of line, for the rare look-up whose first value doesn't match. So the code of a look-up that ends at
+// its first value is short, and the processor works on more look-ups at a time.
 #[cold]
 #[inline(never)]
 fn later_match<T, C: Cell<T>>(tags: &[u8], cells: &[C], from: usize, hash: u64) -> Option<usize>
@@ -62,7 +62,7 @@ fn later_match<T, C: Cell<T>>(tags: &[u8], cells: &[C], from: usize, hash: u64) 
     next_match(tags, cells, from, hash)
 }
 
-/// What `next_match` gives, for a place that is mostly near: that is tried before the loop.
+/// The same answer as `next_match`. The place is mostly near, so the first stop is tried before the loop.
 #[inline(always)]
 pub fn near_match<T, C: Cell<T>>(tags: &[u8], cells: &[C], from: usize, hash: u64) -> Option<usize>
     requires power { IsPowerOfTwo (length tags.now) }
@@ -98,10 +98,12 @@ pub fn find_cell<'a, T, C: Cell<T>, F: FnMut(&T) -> bool>(
     requires power { IsPowerOfTwo (length tags.now) }
     requires ends { HasEmpty tags.now }
     requires probed { IsProbed tags.now (slots_of C.slot tags.now cells.now) }
-    requires callable { CanAsk (TakesAt F.FnMut) (CalledAt F.FnMut) eq (under hash (pairs (slots_of C.slot tags.now cells.now))) }
+    requires callable { CanAsk (TakesAt F.FnMut) (CalledAt F.FnMut) eq
+        (under hash (pairs (slots_of C.slot tags.now cells.now))) }
     ensures place { FindsPlace (CalledAt F.FnMut) eq hash (under hash (pairs (slots_of C.slot tags.now cells.now)))
         (slot_at (slots_of C.slot tags.now cells.now)) (option_map (λ found. found.0) result) }
-    ensures value { IfSome result (λ found. slot_at (slots_of C.slot tags.now cells.now) found.0 ≡ Some (hash, found.1.now)) }
+    ensures value { IfSome result
+        (λ found. slot_at (slots_of C.slot tags.now cells.now) found.0 ≡ Some (hash, found.1.now)) }
 {
     let mut found = near_match(tags, cells, home_of(hash, tags.len()), hash);
     while let Some(place) = found {
@@ -127,7 +129,7 @@ pub fn put<T, C: Cell<T>>(tags: &mut [u8], cells: &mut [C], place: usize, hash: 
     cells[place].fill(hash, value);
 }
 
-/// Takes a pair out of its cell, which gets the tag of a cell that isn't full: that of an empty one, or of a mark.
+/// Removes the pair of a full cell, and returns it. `tag` is the cell's new tag: 0, as of an empty cell, or `MARK`.
 pub fn take<T, C: Cell<T>>(tags: &mut [u8], cells: &mut [C], place: usize, tag: u8) -> (u64, T)
     requires inside { place < length tags.old }
     requires same_length { length cells.old ≡ length tags.old }
@@ -142,7 +144,7 @@ pub fn take<T, C: Cell<T>>(tags: &mut [u8], cells: &mut [C], place: usize, tag: 
     cells[place].take()
 }
 
-/// Moves every pair into cells that are empty.
+/// Moves every pair of the old cells into the new ones, which are empty.
 pub fn move_cells<T, C: Cell<T>>(
     old_tags: &[u8],
     old: &mut Vec<C>,
@@ -168,21 +170,24 @@ pub fn move_cells<T, C: Cell<T>>(
     }
 }
 
-/// Asks once of each value, of which there are `len`, and takes out those that are refused. Returns how many it took.
+/// Asks once about each of the `len` values, removes those about which `f` answers `false`, and returns how many.
 pub fn retain_cells<T: Drop, C: Cell<T>, F: FnMut(&T) -> bool>(
     tags: &mut [u8],
     cells: &mut [C],
     len: usize,
     f: &mut F,
 ) -> usize
-    requires sixteens { IsInSixteens (length tags.old) }
+    requires sixteens { IsMultipleOf16 (length tags.old) }
     requires probed { IsProbed tags.old (slots_of C.slot tags.old cells.old) }
     requires len { len ≡ length (pairs (slots_of C.slot tags.old cells.old)) }
-    requires callable { CanAsk (TakesAt F.FnMut) (CalledAt F.FnMut) f.old (values (pairs (slots_of C.slot tags.old cells.old))) }
-    ensures kept { KeepsTo (CalledAt F.FnMut) f.old (pairs (slots_of C.slot tags.old cells.old)) (pairs (slots_of C.slot tags.new cells.new)) f.new }
+    requires callable { CanAsk (TakesAt F.FnMut) (CalledAt F.FnMut) f.old
+        (values (pairs (slots_of C.slot tags.old cells.old))) }
+    ensures kept { RetainsPairsTo (CalledAt F.FnMut) f.old (pairs (slots_of C.slot tags.old cells.old))
+        (pairs (slots_of C.slot tags.new cells.new)) f.new }
     ensures probed { IsProbed tags.new (slots_of C.slot tags.new cells.new) }
     ensures marked { count_by is_used tags.new ≡ count_by is_used tags.old }
-    ensures counted { result + length (pairs (slots_of C.slot tags.new cells.new)) ≡ length (pairs (slots_of C.slot tags.old cells.old)) }
+    ensures counted { result + length (pairs (slots_of C.slot tags.new cells.new))
+        ≡ length (pairs (slots_of C.slot tags.old cells.old)) }
 {
     let mut places = FullPlaces::new();
     let mut left = len;
@@ -199,7 +204,7 @@ pub fn retain_cells<T: Drop, C: Cell<T>, F: FnMut(&T) -> bool>(
     removed
 }
 
-/// Puts the answer at each value in its place.
+/// Replaces each value by what `f` returns for it.
 pub fn rewrite_cells<T: Drop, C: Cell<T>, F: Fn(&T) -> T>(tags: &[u8], cells: &mut [C], f: F)
     requires probed { IsProbed tags.now (slots_of C.slot tags.now cells.old) }
     requires callable { (v : _) → Contains (values (pairs (slots_of C.slot tags.now cells.old))) v.now → F.pre f v }
@@ -219,7 +224,7 @@ pub fn rewrite_cells<T: Drop, C: Cell<T>, F: Fn(&T) -> T>(tags: &[u8], cells: &m
     }
 }
 
-/// Makes every cell empty. The tags are to be those of empty cells then.
+/// Drops every pair. The caller clears the tags.
 pub fn clear_cells<T: Drop, C: Cell<T>>(cells: &mut [C])
     ensures { slots_of C.slot (replicate (length cells.old) 0) cells.new ≡ replicate (length cells.old) None }
 {
@@ -228,7 +233,7 @@ pub fn clear_cells<T: Drop, C: Cell<T>>(cells: &mut [C])
     }
 }
 
-/// Gives every cell the tag of an empty one.
+/// Makes every tag that of an empty cell.
 pub fn clear_tags(tags: &mut [u8])
     ensures { tags.new ≡ replicate (length tags.old) 0 }
 {

@@ -1,9 +1,9 @@
-//! Copies of a table with open addressing.
+//! Clones of a table with open addressing.
 ghost use Rattle.std.specs.Prelude.{◌≡◌, ◌≤◌, IfOk, MatchResult, length, vec_len};
 ghost use Rattle.std.specs.List.{AllZip};
 ghost use Rattle.iddqd_hash.specs.Clones.{IsSlotClone};
 ghost use Rattle.iddqd_hash.specs.OpenTable.{slots_of, pairs, IsExact, IsProbed};
-ghost use Rattle.iddqd_hash.specs.OpenWalk.{IsInSixteens};
+ghost use Rattle.iddqd_hash.specs.OpenWalk.{IsMultipleOf16};
 ghost use Rattle.iddqd_hash.specs.HashTable.{entries, memory, Rewrites};
 
 use super::OpenHashTable;
@@ -15,9 +15,9 @@ use std::alloc::{AllocError, Global};
 use std::marker::PhantomData;
 
 impl<T, C: Cell<T> + Copy> OpenHashTable<T, C> {
-    /// A table with the same value: its memory, copied as it is, with no look at a cell.
+    /// A table with the same value. It copies tags and cells as memory.
     ///
-    /// An `AllocError` means that memory was refused.
+    /// `AllocError` means that an allocation failed.
     pub(crate) fn copied(&self) -> Result<OpenHashTable<T, C>, AllocError>
         ensures { IfOk result (λ copy. copy ≡ self.now) }
     {
@@ -34,12 +34,12 @@ impl<T, C: Cell<T> + Copy> OpenHashTable<T, C> {
     }
 }
 
-/// A copy has no more cells than the table. Each pair keeps its place, so no hash is looked at. Where memory is
-/// refused, the clones made so far are dropped.
+/// A clone has no more cells than the table. Each pair keeps its place, so none is probed for. If an allocation fails,
+/// the clones made so far are dropped.
 impl<T: Clone, C: Cell<T> + Drop> Clone for OpenHashTable<T, C> {
     ghost use Rattle.iddqd_hash.specs.HashTable.{entries, Rewrites};
 
-    // A clone of each value under the hash of that value, and no other.
+    // The copy has a clone of each value under that value's hash, and no other value.
     ghost is_clone = { λ t copy. Rewrites T.is_clone (entries t) (entries copy) };
 
     fn clone(&self) -> Result<OpenHashTable<T, C>, AllocError>
@@ -57,15 +57,15 @@ impl<T: Clone, C: Cell<T> + Drop> Clone for OpenHashTable<T, C> {
     }
 }
 
-// A clone of each value in the place of that value, in memory for so many cells and no more. Going from one full cell
-// to the next guesses fewer branches wrong than a test of each cell.
+// The cells of a clone: each value's clone is at the value's place, and the memory is for these cells alone. Going from
+// one full cell to the next mispredicts fewer branches than a test of each cell.
 fn cloned_cells<T: Clone, C: Cell<T> + Drop>(
     alloc: Global,
     tags: &[u8],
     cells: &[C],
     len: usize,
 ) -> Result<Vec<C>, AllocError>
-    requires sixteens { IsInSixteens (length tags.now) }
+    requires sixteens { IsMultipleOf16 (length tags.now) }
     requires probed { IsProbed tags.now (slots_of C.slot tags.now cells.now) }
     requires len { len ≡ length (pairs (slots_of C.slot tags.now cells.now)) }
     ensures clones { IfOk result (λ copies.

@@ -1,4 +1,4 @@
-//! The place of a value in a table, or room for one that isn't there.
+//! Entries of a table with open addressing: a pair that was found, or room for one.
 ghost use Rattle.std.specs.Prelude.{◌≡◌, IfOk, OnErr};
 ghost use Rattle.std.specs.List.Sorted.{IsPermutation};
 ghost use Rattle.std.specs.Fn.{TakesAt, CalledAt};
@@ -11,10 +11,10 @@ use super::{OccupiedEntry, OpenHashTable};
 use crate::table_entry::{self, PairCells};
 use std::alloc::AllocError;
 
-/// Where a value that was looked up stands, or could stand.
+/// The result of `entry`: the pair that it found, or room for one.
 pub type Entry<'a, T, C = OptionCell<T>> = table_entry::Entry<'a, OpenHashTable<T, C>>;
 
-/// Room for one pair under a hash. An entry that is let go leaves the pairs as they were.
+/// Room for one pair under a hash. If the entry is dropped, the pairs stay as they were.
 pub type VacantEntry<'a, T, C = OptionCell<T>> = table_entry::VacantEntry<'a, OpenHashTable<T, C>>;
 
 impl<T, C: Cell<T>> OpenHashTable<T, C> {
@@ -22,10 +22,10 @@ impl<T, C: Cell<T>> OpenHashTable<T, C> {
     ghost use Rattle.iddqd_hash.specs.contracts.open_table.OpenHashTable.{the_row};
     ghost use Rattle.iddqd_hash.specs.TableEntry.{entry_table, entry_pair, vacant_table, vacant_hash, lender_of, IfOccupied, IfVacant, UnlessOccupied};
 
-    /// The entry of a value under `hash` at which `eq` answers `true`, else a vacant one, which has its room.
+    /// The entry of a value under `hash` for which `eq` answers `true`, else a vacant one, with room for a pair.
     ///
-    /// `eq` is asked as in `find`. An `AllocError` comes only at a miss for which there was no room; the table stays as it
-    /// was. Room is made as in `try_reserve`, and where there is some no memory is taken.
+    /// `eq` is asked as in `find`. A miss makes room as `try_reserve` does, so it takes memory only if there is no
+    /// room. `AllocError` means that this failed; the table is then as it was.
     pub fn entry<F: FnMut(&T) -> bool>(
         &mut self,
         hash: u64,
@@ -33,20 +33,21 @@ impl<T, C: Cell<T>> OpenHashTable<T, C> {
     ) -> Result<Entry<'_, T, C>, AllocError>
         requires { CanAsk (TakesAt F.FnMut) (CalledAt F.FnMut) eq (under hash (entries self.old)) }
 
-        // A hit is a pair under the hash, in the table as it was, and the asks that led to it.
+        // A hit is a pair under the hash, and the asks before it were answered `false`. The table is as it was.
         ensures found { IfOccupied result
             (λ e. HitsPair (CalledAt F.FnMut) eq hash (under hash (entries self.old)) (entry_pair e)) }
         ensures same_table { IfOccupied result (λ e. entry_table e ≡ self.old) }
 
-        // Else each value under the hash was refused, and the pairs stay.
+        // Otherwise `eq` answered `false` about each value under the hash, and the pairs stay.
         ensures missed { UnlessOccupied result (Misses (CalledAt F.FnMut) eq (under hash (entries self.old))) }
         ensures vacant { IfVacant result (λ e. IsVacancy hash self.old (vacant_hash e) (vacant_table e)) }
         ensures contents { IfVacant result (λ e. IsPermutation (entries self.old) (entries (vacant_table e))) }
         ensures refused { OnErr result (room self.old ≡ 0) }
 
-        // An entry borrows the table, and without one it is as it was.
+        // An entry borrows the table. Without an entry the table is as it was.
         ensures same_reference { IfOk result (λ e. lender_of e ≡ self.entry.ghost_name) }
-        ensures* unchanged { sem 𝓛 (RestsIfErr (the_row T.row C.row C.Cell) self.entry lender_of result (λ t. t ≡ self.old)) }
+        ensures* unchanged { sem 𝓛
+            (RestsIfErr (the_row T.row C.row C.Cell) self.entry lender_of result (λ t. t ≡ self.old)) }
     {
         if let Some(place) = self.place_of(hash, eq) {
             return Ok(Entry::Occupied(OccupiedEntry { table: self, place }));

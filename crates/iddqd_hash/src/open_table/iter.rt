@@ -1,4 +1,4 @@
-//! The walk over the values of a table with open addressing.
+//! The iterator over the values of a table with open addressing.
 ghost use Rattle.std.specs.Prelude.{◌≡◌, Some, IfSome, length};
 ghost use Rattle.std.specs.Iterator.{YieldsFirstRef, item_count, at_most, UpTo};
 ghost use Rattle.std.specs.Iterator.SizeHint.{IsWithinCount};
@@ -41,7 +41,7 @@ impl<'a, T, C: Cell<T>> Model for TableIter<'a, T, C> {
 }
 
 impl<T, C: Cell<T>> OpenHashTable<T, C> {
-    /// The values, each once. A whole walk looks at the tags of sixteen cells at a time.
+    /// An iterator over the values, each once. It reads the tags of sixteen cells at a time.
     pub fn iter(&self) -> TableIter<'_, T, C>
         ensures { IsPermutation (values (entries self.now)) result }
     {

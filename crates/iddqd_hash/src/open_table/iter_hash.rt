@@ -1,4 +1,4 @@
-//! The walk over the values under one hash.
+//! The iterator over the values under one hash.
 ghost use Rattle.std.specs.Prelude.{◌≡◌, Some, IfSome, IsSome, length};
 ghost use Rattle.std.specs.Iterator.{YieldsFirstRef, item_count, at_most, UpTo};
 ghost use Rattle.std.specs.Iterator.SizeHint.{IsWithinCount};
@@ -21,9 +21,9 @@ pub struct IterHash<'a, T, C: Cell<T> = OptionCell<T>> {
     tags: &'a [u8],
     cells: &'a [C],
     hash: u64,
-    // Where the walk goes on, unless it has ended.
+    // The place where the probe goes on, or `None` once it has ended.
     from: Option<usize>,
-    // How many pairs the table has.
+    // The number of pairs in the table, which bounds how many values there are.
     len: usize,
     value_type: PhantomData<&'a T>,
 }
@@ -37,11 +37,12 @@ impl<'a, T, C: Cell<T>> Model for IterHash<'a, T, C> {
 
     ghost view = { λ it. rest_under it.hash (slots_of C.slot it.tags.now it.cells.now) it.from };
 
-    ghost invariant = { λ it. IsWalkUnder it.tags.now (slots_of C.slot it.tags.now it.cells.now) it.hash it.from it.len };
+    ghost invariant = { λ it. IsWalkUnder it.tags.now (slots_of C.slot it.tags.now it.cells.now)
+        it.hash it.from it.len };
 }
 
 impl<T, C: Cell<T>> OpenHashTable<T, C> {
-    /// The values under a hash, each once. A whole walk reads what a look-up reads that misses.
+    /// An iterator over the values under a hash, each once. Run to its end, it reads what a look-up that misses reads.
     pub fn iter_hash(&self, hash: u64) -> IterHash<'_, T, C>
         ensures { IsPermutation (under hash (entries self.now)) result }
     {

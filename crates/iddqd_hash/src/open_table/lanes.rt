@@ -1,4 +1,4 @@
-//! Sixteen tags at a time.
+//! Tests of sixteen tags at a time.
 ghost use Rattle.std.specs.Int.{w64, trailing_zeros};
 ghost use Rattle.std.specs.Prelude.{if◌then◌else◌, ◌==◌, ◌≡◌, ◌+◌, ◌<◌, ◌≤◌, true, length, slice_index};
 ghost use Rattle.iddqd_hash.specs.OpenTable.{is_stop, NoStops, AllFull};
@@ -6,8 +6,8 @@ ghost use Rattle.iddqd_hash.specs.OpenWalk.{full_mask};
 
 use std::simd::prelude::*;
 
-/// How many places from `at` on, up to sixteen, are not empty and have another tag, where that is
-/// known at once.
+/// How many of the sixteen places from `at` on come before the first one that is empty or has the tag, or 0 if there
+/// are fewer than sixteen.
 pub fn run_of_others(tags: &[u8], at: usize, tag: u8) -> usize
     requires { at < length tags.now }
     ensures inside { at + result ≤ length tags.now }
@@ -20,8 +20,8 @@ pub fn run_of_others(tags: &[u8], at: usize, tag: u8) -> usize
     }
 }
 
-/// How many of the sixteen places from `at` on come before the first one that is empty or has the tag: 16 where none
-/// is.
+/// How many of the sixteen places from `at` on come before the first one that is empty or has the tag: 16 if there is
+/// no such one.
 pub fn first_stop(tags: &[u8], at: usize, tag: u8) -> usize
     requires { at + 16 ≤ length tags.now }
     ensures inside { at + result ≤ length tags.now }
@@ -33,7 +33,8 @@ pub fn first_stop(tags: &[u8], at: usize, tag: u8) -> usize
     first_set(stops.to_bitmask())
 }
 
-/// How many places from `at` on, up to sixteen, are full, where that is known at once.
+/// How many of the sixteen places from `at` on come before the first one that isn't full, or 0 if there are fewer than
+/// sixteen.
 pub fn run_of_full(tags: &[u8], at: usize) -> usize
     requires { at < length tags.now }
     ensures inside { at + result ≤ length tags.now }
@@ -64,7 +65,7 @@ pub fn full_places(tags: &[u8], at: usize) -> u64
     lanes.simd_ge(u8x16::splat(128)).to_bitmask()
 }
 
-// The lowest of sixteen bits that is set, or 16.
+// The number of the lowest bit that is set, or 16 if none is.
 fn first_set(mask: u64) -> usize
     ensures { result ≡ (if mask == 0 then 16 else trailing_zeros w64 mask) }
 {

@@ -1,26 +1,28 @@
-//! A walk over the full places of a table, by the tags of sixteen at a time.
+//! A walk over the full cells of a table, by the tags of sixteen at a time.
 //!
-//! The walk keeps a bit for each of sixteen places that is full and that it hasn't come to yet, and
-//! clears the lowest one at each step. Who walks knows how many entries are left, so the walk is never
-//! asked beyond the last full place, and needs no test for the end.
+//! 1. A mask has a bit for each of sixteen places: whether it is full and the walk hasn't come to it. Each step clears
+//!    the lowest bit that is set.
+//! 2. The caller knows how many pairs are left, and takes no step if there is none. So the walk never tests for its
+//!    end.
 ghost use Rattle.std.specs.Prelude.{◌≡◌, ◌+◌, ◌-◌, ◌≤◌, ◌<◌, length, slice_index};
 ghost use Rattle.iddqd_hash.specs.OpenTable.{NoneFull};
-ghost use Rattle.iddqd_hash.specs.OpenWalk.{IsAhead, IsInSixteens, SomeFull};
+ghost use Rattle.iddqd_hash.specs.OpenWalk.{IsAhead, IsMultipleOf16, SomeFull};
 
 use super::lanes::full_places;
 
-/// Where a walk stands, and which of the places from there up to the end of its sixteen are full: bits
-/// of a mask whose lowest one is for the first of the sixteen.
+/// How far a walk over the full places of a table has come.
 #[derive(Drop)]
 pub struct FullPlaces {
-    // For the contracts alone: nothing reads it.
+    // The place after the last one that the walk came to. Only contracts read it.
     pub at: usize,
+    // The end of the sixteen places that the mask is for.
     pub end: usize,
+    // Which of them are full and still ahead. The lowest bit is for the first one.
     pub mask: u64,
 }
 
 impl FullPlaces {
-    /// At the first place.
+    /// A walk from the first place on.
     pub fn new() -> FullPlaces
         ensures at { result.at ≡ 0 }
         ensures end { result.end ≡ 0 }
@@ -33,10 +35,10 @@ impl FullPlaces {
         }
     }
 
-    /// The first full place from here on. The walk goes on behind it.
+    /// The next full place.
     #[inline(always)]
     pub fn next(&mut self, tags: &[u8]) -> usize
-        requires sixteens { IsInSixteens (length tags.now) }
+        requires sixteens { IsMultipleOf16 (length tags.now) }
         requires ahead { IsAhead tags.now self.old.at self.old.end self.old.mask }
         requires some { SomeFull tags.now self.old.at }
         ensures onward { self.old.at ≤ result }

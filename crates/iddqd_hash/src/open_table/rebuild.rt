@@ -4,9 +4,9 @@
 //! pending pair is taken out of its cell and put into the first cell from its home that is empty or pending. If that
 //! cell is pending, its own pair is taken out in exchange and placed next.
 //!
-//! A placed pair never moves again, and a walk from its home comes to it past placed pairs alone: this is what
-//! `IsPartlyPlaced` says. Each exchange leaves one pending tag fewer, so the exchanges end. The full hashes are kept beside
-//! the values, so no value is looked at.
+//! A placed pair never moves again, and a probe for its hash comes to it past placed pairs alone: this is what
+//! `IsPartlyPlaced` says. Each exchange leaves one pending tag fewer, so the exchanges end. The full hashes are kept
+//! beside the values, so no value is hashed again.
 ghost use Rattle.std.specs.Prelude.{◌≡◌, ◌≢◌, ◌<◌, ◌≤◌, ℕ, count_by, Some, None, IsSome, length, slice_index, slice_set};
 ghost use Rattle.std.specs.List.Sorted.{IsPermutation};
 ghost use Rattle.iddqd_hash.specs.OpenTable.{tag_of, limit_of, is_used, slots_of, slot_at, pairs, IsPowerOfTwo, IsProbed};
@@ -19,9 +19,9 @@ use crate::open_table::tags::{free_place, limit_of, tag_of};
 // The tag of a cell whose pair isn't placed yet.
 const PENDING: u8 = 2;
 
-/// Rebuilds a table where no more cells may be full or marked. Returns how many are then.
+/// Rebuilds the table if no more cells may be full or marked. Returns how many are full or marked afterwards.
 ///
-/// So a pair that is added next finds an empty cell that it may fill, or a mark.
+/// They are below the limit then, so one more pair may be added.
 pub fn rebuild_at_limit<T, C: Cell<T>>(
     tags: &mut [u8],
     cells: &mut [C],
@@ -33,7 +33,8 @@ pub fn rebuild_at_limit<T, C: Cell<T>>(
     requires used { used ≡ count_by is_used tags.old }
     requires len { len ≡ length (pairs (slots_of C.slot tags.old cells.old)) }
     requires fits { len < limit_of (length tags.old) }
-    ensures moved { IsPermutation (pairs (slots_of C.slot tags.old cells.old)) (pairs (slots_of C.slot tags.new cells.new)) }
+    ensures moved { IsPermutation (pairs (slots_of C.slot tags.old cells.old))
+        (pairs (slots_of C.slot tags.new cells.new)) }
     ensures probed { IsProbed tags.new (slots_of C.slot tags.new cells.new) }
     ensures used { result ≡ count_by is_used tags.new }
     ensures limited { result < limit_of (length tags.old) }
@@ -45,15 +46,16 @@ pub fn rebuild_at_limit<T, C: Cell<T>>(
     len
 }
 
-// Places every pair anew in the same cells, and leaves no mark. It costs a walk over the cells, and one from the home
-// of each pair.
+// Places every pair again in the same cells, and leaves no mark. It costs a walk over the cells, and a probe for each
+// pair.
 #[cold]
 #[inline(never)]
 fn rebuild<T, C: Cell<T>>(tags: &mut [u8], cells: &mut [C])
     requires power { IsPowerOfTwo (length tags.old) }
     requires probed { IsProbed tags.old (slots_of C.slot tags.old cells.old) }
     requires fits { length (pairs (slots_of C.slot tags.old cells.old)) ≤ limit_of (length tags.old) }
-    ensures moved { IsPermutation (pairs (slots_of C.slot tags.old cells.old)) (pairs (slots_of C.slot tags.new cells.new)) }
+    ensures moved { IsPermutation (pairs (slots_of C.slot tags.old cells.old))
+        (pairs (slots_of C.slot tags.new cells.new)) }
     ensures probed { IsProbed tags.new (slots_of C.slot tags.new cells.new) }
     ensures unmarked { count_by is_used tags.new ≡ length (pairs (slots_of C.slot tags.new cells.new)) }
 {
@@ -76,7 +78,7 @@ fn reset_tags(tags: &mut [u8])
     }
 }
 
-// What the tag of a cell becomes.
+// The tag that a rebuild gives to a cell at its start.
 fn reset_tag(tag: u8) -> u8
     ensures full { 128 ≤ tag → result ≡ pending }
     ensures others { tag < 128 → result ≡ 0 }
@@ -84,14 +86,15 @@ fn reset_tag(tag: u8) -> u8
     if tag >= 128 { PENDING } else { 0 }
 }
 
-// Places the pair of a pending cell, and then each pair whose cell the one before took.
+// Places the pair of a pending cell, then the pair whose pending cell it took, and so on.
 fn place_pending<T, C: Cell<T>>(tags: &mut [u8], cells: &mut [C], at: usize)
     requires power { IsPowerOfTwo (length tags.old) }
     requires partly_placed { IsPartlyPlaced tags.old (slots_of C.slot tags.old cells.old) }
     requires fits { length (pairs (slots_of C.slot tags.old cells.old)) ≤ limit_of (length tags.old) }
     requires inside { at < length tags.old }
     requires pending { slice_index tags.old at ≡ pending }
-    ensures moved { IsPermutation (pairs (slots_of C.slot tags.old cells.old)) (pairs (slots_of C.slot tags.new cells.new)) }
+    ensures moved { IsPermutation (pairs (slots_of C.slot tags.old cells.old))
+        (pairs (slots_of C.slot tags.new cells.new)) }
     ensures partly_placed { IsPartlyPlaced tags.new (slots_of C.slot tags.new cells.new) }
     ensures not_pending { slice_index tags.new at ≢ pending }
     ensures no_more { NoMorePending tags.old tags.new }
@@ -105,7 +108,7 @@ fn place_pending<T, C: Cell<T>>(tags: &mut [u8], cells: &mut [C], at: usize)
     put(tags, cells, place, hash, value);
 }
 
-// Puts a pair into a cell, and takes out the one that stood there.
+// Puts a pair into a cell that has one, and returns the pair that it had.
 fn replace_pair<T, C: Cell<T>>(
     tags: &mut [u8],
     cells: &mut [C],

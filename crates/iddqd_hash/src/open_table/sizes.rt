@@ -1,4 +1,4 @@
-//! Memory that a table with open addressing takes ahead, and gives back.
+//! How a table with open addressing reserves memory, and gives it back.
 ghost use Rattle.std.specs.Prelude.{◌≡◌, ◌⊎◌, ◌<◌, ◌≤◌, [], length, IfOk, vec_len};
 ghost use Rattle.std.specs.List.Sorted.{IsPermutation};
 ghost use Rattle.iddqd_hash.specs.HashTable.{entries, HasNoMemory};
@@ -15,7 +15,7 @@ use std::marker::PhantomData;
 use std::mem;
 
 impl<T> OpenHashTable<T> {
-    /// An empty table with room for so many pairs. With 0 it takes no memory.
+    /// An empty table with room for `capacity` pairs. With 0 it takes no memory.
     pub fn with_capacity(alloc: Global, capacity: usize) -> Result<OpenHashTable<T>, AllocError>
         ensures empty { IfOk result (λ t. entries t ≡ []) }
         ensures memory { TakesRoom capacity result }
@@ -25,7 +25,7 @@ impl<T> OpenHashTable<T> {
 }
 
 impl<T, C: Cell<T>> OpenHashTable<T, C> {
-    /// The same as `with_capacity`, of any cells.
+    /// The same as `with_capacity`, for any kind of cell.
     pub fn of_cells_with_capacity(
         alloc: Global,
         capacity: usize,
@@ -48,7 +48,7 @@ impl<T, C: Cell<T>> OpenHashTable<T, C> {
         })
     }
 
-    /// The same as `try_reserve`, under the name that it has where it can't be refused.
+    /// The same as `try_reserve`. Unlike `reserve` of Rust's collections it returns an error if memory runs out.
     pub fn reserve(&mut self, additional: usize) -> Result<(), AllocError>
         ensures contents { IsPermutation (entries self.old) (entries self.new) }
         ensures memory { Reserves additional self.old result self.new }
@@ -58,7 +58,7 @@ impl<T, C: Cell<T>> OpenHashTable<T, C> {
 
     /// Gives back the memory that the pairs don't need.
     ///
-    /// Where the smaller memory is refused, the pairs stay. Where none is needed, nothing can be refused.
+    /// If the smaller memory can't be allocated, the pairs stay. If none is needed, it can't fail.
     pub fn shrink_to_fit(&mut self) -> Result<(), AllocError>
         ensures contents { IsPermutation (entries self.old) (entries self.new) }
         ensures memory { Shrinks 0 (length (entries self.old)) self.old result self.new }
@@ -66,10 +66,10 @@ impl<T, C: Cell<T>> OpenHashTable<T, C> {
         self.shrink_to(0)
     }
 
-    /// Gives back the memory that so many pairs don't need, or those that there are where these are more.
+    /// Gives back memory that is needed neither for the pairs that there are nor for `least` of them.
     ///
-    /// Every pair is placed anew in fewer cells. Where these are refused, the pairs stay. Where none is needed, nothing
-    /// can be refused.
+    /// It moves every pair into fewer cells. If these can't be allocated, the pairs stay. If no cell is needed, it
+    /// can't fail.
     pub fn shrink_to(&mut self, least: usize) -> Result<(), AllocError>
         ensures contents { IsPermutation (entries self.old) (entries self.new) }
         ensures memory { Shrinks least (length (entries self.old)) self.old result self.new }
@@ -83,15 +83,15 @@ impl<T, C: Cell<T>> OpenHashTable<T, C> {
         if count == self.tags.len() {
             return Ok(());
         }
-        self.place_anew(count)
+        self.resize(count)
     }
 
-    /// Lets go of a table without a pair, and gives back its memory, also where a value can't be let go.
+    /// Drops a table that has no pair, and gives back its memory. The type of its values needn't be `Drop`.
     pub fn destroy_empty(self)
         requires { entries self ≡ [] }
     {
         let mut cells = self.cells;
-        let_go(self.tags.as_slice(), &mut cells);
+        drop_empty_cells(self.tags.as_slice(), &mut cells);
         cells.destroy_empty();
     }
 
@@ -102,20 +102,20 @@ impl<T, C: Cell<T>> OpenHashTable<T, C> {
         ensures memory { HasNoMemory self.new }
     {
         let alloc = *self.cells.allocator();
-        let_go(self.tags.as_slice(), &mut self.cells);
+        drop_empty_cells(self.tags.as_slice(), &mut self.cells);
         self.tags = Vec::new(alloc);
         mem::replace(&mut self.cells, Vec::new(alloc)).destroy_empty();
         self.used = 0;
     }
 }
 
-// Lets go of cells with no pair.
-fn let_go<T, C: Cell<T>>(tags: &[u8], cells: &mut Vec<C>)
+// Drops cells that have no pair, one by one: a vector of them can't be dropped if their type isn't `Drop`.
+fn drop_empty_cells<T, C: Cell<T>>(tags: &[u8], cells: &mut Vec<C>)
     requires same_length { vec_len cells.old ≡ length tags.now }
     requires empty { pairs (slots_of C.slot tags.now cells.old.items) ≡ [] }
     ensures { vec_len cells.new ≡ 0 }
 {
-    'letting_go: while let Some(cell) = cells.pop() {
+    'dropping: while let Some(cell) = cells.pop() {
         match cell.into_pair(has_pair(tags[cells.len()])) {
             None => {}
             Some(_) => unreachable!(),
@@ -123,7 +123,7 @@ fn let_go<T, C: Cell<T>>(tags: &[u8], cells: &mut Vec<C>)
     }
 }
 
-// The number of cells, halved as long as so many pairs fit.
+// The number of cells, halved as long as `needed` pairs fit.
 fn fewer_cells(current: usize, needed: usize) -> usize
     requires count { (current ≡ 0) ⊎ IsPowerOfTwo current }
     requires some { 0 < needed }

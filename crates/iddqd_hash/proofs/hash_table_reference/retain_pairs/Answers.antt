@@ -1,7 +1,7 @@
 use Rattle.std.proofs.Common.{◌∙◌, ◌<◌, true, false, length, refl, arith}
 use Rattle.std.specs.Fn.{TakesAt, CalledAt}
 use Rattle.iddqd_hash.proofs.AskLemmas.{CanAsk-takes, CanAsk-asked}
-use Rattle.iddqd_hash.proofs.RetainLemmas.{Retaining-start, Contains-read_now, Retaining-keep, Retaining-drop, Keeps-from_retaining}
+use Rattle.iddqd_hash.proofs.RetainLemmas.{Retaining-start, Contains-read_now, Retaining-keep, Retaining-drop, RetainsPairs-from_retaining}
 use Rattle.iddqd_hash.proofs.hash_table_reference.retain_pairs.Goals as goal
 
 pub f-requires : goal.f-requires
@@ -39,4 +39,5 @@ loop-place-preserved g c =
     )
 
 pub returns-clause-kept : goal.returns-clause-kept
-returns-clause-kept g c = Keeps-from_retaining (CalledAt g.F.FnMut) _ _ _ _ c.loop-place.place (omega arith) c.loop-place.invariant.3
+returns-clause-kept g c =
+    RetainsPairs-from_retaining (CalledAt g.F.FnMut) _ _ _ _ c.loop-place.place (omega arith) c.loop-place.invariant.3

@@ -12,7 +12,8 @@ returns-then-eq c =
     let steps : c.walking.walk ≡ c.in-Some.at.now ∷ c.next.new.self = c.in-Some.ensures.steps in
     let here : (c.in-Some.at.now == c.args.ix) ≡ true = search rules in
     let yes : list_any (λ at. at == c.args.ix) c.walking.walk ≡ true =
-    ap (list_any (λ at. at == c.args.ix)) steps ∙ ap (λ b. b || list_any (λ at. at == c.args.ix) c.next.new.self) here in
+    ap (list_any (λ at. at == c.args.ix)) steps
+    ∙ ap (λ b. b || list_any (λ at. at == c.args.ix) c.next.new.self) here in
     rw (← c.self.view_is) (sym yes ∙ c.walking.invariant ∙ contains_is c.args.ix (entries c.self.inside.table) c.iter-walk.result c.iter-walk.ensures)
 
 pub returns : goal.returns

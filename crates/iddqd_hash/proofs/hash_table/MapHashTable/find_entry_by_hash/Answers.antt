@@ -15,7 +15,8 @@ place_of-place-requires g c =
     let xs : List ℕ = indexes_under c.args.hash (filed_from (entries c.self.inside.table)) in
     let takes : g.row.F.Denot → ℕ → Type 0 = λ f ix. g.F.FnMut.pre f (ix, tt) in
     let ask : g.row.F.Denot → ℕ → Bool → g.row.F.Denot → Type 0 = λ f ix b f'. Called g.F.FnMut f (ix, tt) b f' in
-    let filed_too : (x : ℕ) → Contains (under c.args.hash (entries c.self.inside.table)) x → Contains xs x = λ x h. Contains-permutation _ _ x (under_filed _ _ c.self.invariant) h in
+    let filed_too : (x : ℕ) → Contains (under c.args.hash (entries c.self.inside.table)) x → Contains xs x =
+    λ x h. Contains-permutation _ _ x (under_filed _ _ c.self.invariant) h in
     CanAsk-by _ _ (λ s. CanAsk takes ask s.0.now xs) _ (λ s x here i y is. rw is (CanAsk-takes takes ask _ xs x i (filed_too x here)))
     (λ s x r t here i called.
     let stepped : ask s.0.now called.shown.now r t.0.now = search rules in

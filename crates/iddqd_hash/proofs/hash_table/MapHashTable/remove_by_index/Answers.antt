@@ -4,7 +4,7 @@ use Rattle.iddqd_hash.specs.HashTable.{entries}
 use Rattle.iddqd_hash.specs.MapHashTable.{filed, filed_from}
 use Rattle.iddqd_hash.proofs.AskLemmas.{CanAsk-everywhere}
 use Rattle.iddqd_hash.proofs.MapHashTableLemmas.{distinct_kept, removed_len}
-use Rattle.iddqd_hash.proofs.RetainLemmas.{Keeps-tested}
+use Rattle.iddqd_hash.proofs.RetainLemmas.{RetainsPairs-tested}
 use Rattle.iddqd_hash.proofs.hash_table.MapHashTable.remove_by_index.Goals as goal
 
 pub retain-requires : goal.retain-requires
@@ -13,22 +13,26 @@ retain-requires c = CanAsk-everywhere _ _ _ _ (λ s x. search rules)
 pub invariant_of-self : goal.invariant_of-self
 invariant_of-self c =
     let test = λ (x : ℕ). not (x == c.args.ix) in
-    let kept = Keeps-tested _ (λ s. s.0.now ≡ c.args.ix) test (λ s x b t i called. search rules) _ _ _ refl c.retain.ensures.kept in
+    let kept =
+    RetainsPairs-tested _ (λ s. s.0.now ≡ c.args.ix) test (λ s x b t i called. search rules) _ _ _ refl c.retain.ensures.kept in
     (distinct_kept c.args.ix _ _ kept c.self.invariant).0
 
 pub returns-clause-removed : goal.returns-clause-removed
 unfolding filed
 returns-clause-removed c =
     let test = λ (x : ℕ). not (x == c.args.ix) in
-    let kept = Keeps-tested _ (λ s. s.0.now ≡ c.args.ix) test (λ s x b t i called. search rules) _ _ _ refl c.retain.ensures.kept in
+    let kept =
+    RetainsPairs-tested _ (λ s. s.0.now ≡ c.args.ix) test (λ s x b t i called. search rules) _ _ _ refl c.retain.ensures.kept in
     rw (← c.self.view_is) (distinct_kept c.args.ix _ _ kept c.self.invariant).1
 
 pub returns-clause-room : goal.returns-clause-room
 unfolding filed
 returns-clause-room c =
     let test = λ (x : ℕ). not (x == c.args.ix) in
-    let kept = Keeps-tested _ (λ s. s.0.now ≡ c.args.ix) test (λ s x b t i called. search rules) _ _ _ refl c.retain.ensures.kept in
+    let kept =
+    RetainsPairs-tested _ (λ s. s.0.now ≡ c.args.ix) test (λ s x b t i called. search rules) _ _ _ refl c.retain.ensures.kept in
     let both = distinct_kept c.args.ix _ _ kept c.self.invariant in
-    let here : IsSome (finite.get (filed_from (entries c.self.inside.table)) c.args.ix) = rw (← c.self.view_is) at c.requires in
+    let here : IsSome (finite.get (filed_from (entries c.self.inside.table)) c.args.ix) =
+    rw (← c.self.view_is) at c.requires in
     let fewer = removed_len _ _ c.args.ix c.self.invariant both.0 both.1 here in
     rw (← c.self.view_is) (omega (arith, fewer, c.retain.ensures.memory.same_capacity))

@@ -16,13 +16,15 @@ returns-clause-contents c = rw (← c.self.view_is) (sym (filed_moved _ _ c.shri
 pub returns-clause-memory : goal.returns-clause-memory
 unfolding filed
 returns-clause-memory c =
-    let long : length (entries c.self.inside.table) ≡ finite.len (filed_from (entries c.self.inside.table)) = len_filed _ c.self.invariant in
+    let long : length (entries c.self.inside.table) ≡ finite.len (filed_from (entries c.self.inside.table)) =
+    len_filed _ c.self.invariant in
     rw (← c.self.view_is, ← long) c.shrink_to.ensures.memory
 
 pub returns-clause-capacity : goal.returns-clause-capacity
 unfolding filed
 returns-clause-capacity c =
-    let long : length (entries c.self.inside.table) ≡ finite.len (filed_from (entries c.self.inside.table)) = len_filed _ c.self.invariant in
+    let long : length (entries c.self.inside.table) ≡ finite.len (filed_from (entries c.self.inside.table)) =
+    len_filed _ c.self.invariant in
     let moved = length_permutation _ _ c.shrink_to.ensures.contents in
     let stays = c.shrink_to.ensures.memory.room_stays in
     rw (← c.self.view_is, ← long) (omega (arith, moved, stays))

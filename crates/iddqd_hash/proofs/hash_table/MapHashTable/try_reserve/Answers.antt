@@ -11,7 +11,8 @@ invariant_of-self c = distinct_moved _ _ c.try_reserve.ensures.contents c.self.i
 
 pub returns-clause-contents : goal.returns-clause-contents
 unfolding filed
-returns-clause-contents c = rw (← c.self.view_is) (sym (filed_moved _ _ c.try_reserve.ensures.contents c.self.invariant))
+returns-clause-contents c =
+    rw (← c.self.view_is) (sym (filed_moved _ _ c.try_reserve.ensures.contents c.self.invariant))
 
 pub returns-clause-memory : goal.returns-clause-memory
 returns-clause-memory c = rw (← c.self.view_is) c.try_reserve.ensures.memory
@@ -19,7 +20,8 @@ returns-clause-memory c = rw (← c.self.view_is) c.try_reserve.ensures.memory
 pub returns-clause-few : goal.returns-clause-few
 unfolding filed
 returns-clause-few c =
-    let long : length (entries c.self.inside.table) ≡ finite.len (filed_from (entries c.self.inside.table)) = len_filed _ c.self.invariant in
+    let long : length (entries c.self.inside.table) ≡ finite.len (filed_from (entries c.self.inside.table)) =
+    len_filed _ c.self.invariant in
     rw (← c.self.view_is, ← long) c.try_reserve.ensures.memory.few
 
 pub returns-clause-capacity : goal.returns-clause-capacity
@@ -31,5 +33,6 @@ returns-clause-capacity c =
 pub returns-clause-counted : goal.returns-clause-counted
 unfolding filed
 returns-clause-counted c =
-    let long : length (entries c.self.inside.table) ≡ finite.len (filed_from (entries c.self.inside.table)) = len_filed _ c.self.invariant in
+    let long : length (entries c.self.inside.table) ≡ finite.len (filed_from (entries c.self.inside.table)) =
+    len_filed _ c.self.invariant in
     rw (← c.self.view_is, ← long)

@@ -9,6 +9,7 @@ pair_at-requires g c = rw c.in_ok-place.ensures.is_pair refl
 pub returns : goal.returns
 returns g c =
     let hit = c.in_ok-place.ensures in
-    let both : Some (c.args.hash, hit.value) ≡ Some (c.pair_at.result.0, c.pair_at.result.1.now) = sym hit.is_pair ∙ c.pair_at.ensures in
+    let both : Some (c.args.hash, hit.value) ≡ Some (c.pair_at.result.0, c.pair_at.result.1.now) =
+    sym hit.is_pair ∙ c.pair_at.ensures in
     let same : hit.value ≡ c.pair_at.result.1.now = ap (λ o. unwrap_or (value_of o) hit.value) both in
     rw (← same) hit.hit

@@ -8,11 +8,14 @@ rewrite_pairs-requires g c = rw (c.as_mut_slice.ensures.value) (rw (← c.self.v
 
 pub returns-clause-rewritten : goal.returns-clause-rewritten
 returns-clause-rewritten g c =
-    let is = with_items_is c.self.inside.pairs c.rewrite_pairs.new.pairs (c.rewrite_pairs.auto.pairs ∙ c.as_mut_slice.ensures.len) in
+    let is =
+    with_items_is c.self.inside.pairs c.rewrite_pairs.new.pairs (c.rewrite_pairs.auto.pairs ∙ c.as_mut_slice.ensures.len) in
     rw (← c.self.view_is, entries-listed, entries-listed, is, ← c.as_mut_slice.ensures.value) c.rewrite_pairs.ensures
 
 pub returns-clause-memory : goal.returns-clause-memory
 returns-clause-memory g c =
-    let is = with_items_is c.self.inside.pairs c.rewrite_pairs.new.pairs (c.rewrite_pairs.auto.pairs ∙ c.as_mut_slice.ensures.len) in
-    let long : length c.rewrite_pairs.new.pairs ≡ length c.self.inside.pairs.items = c.rewrite_pairs.auto.pairs ∙ ap length c.as_mut_slice.ensures.value in
+    let is =
+    with_items_is c.self.inside.pairs c.rewrite_pairs.new.pairs (c.rewrite_pairs.auto.pairs ∙ c.as_mut_slice.ensures.len) in
+    let long : length c.rewrite_pairs.new.pairs ≡ length c.self.inside.pairs.items =
+    c.rewrite_pairs.auto.pairs ∙ ap length c.as_mut_slice.ensures.value in
     rw (← c.self.view_is) (KeepsMemory-listed _ _ _ _ _ _ refl (omega (arith, ap length is, long)) (omega arith))

@@ -7,4 +7,5 @@ pub returns-clause-empty : goal.returns-clause-empty
 returns-clause-empty g c = entries-listed _ _ _ ∙ c.in_ok-with_capacity.ensures.items
 
 pub returns-clause-memory : goal.returns-clause-memory
-returns-clause-memory g c = TakesRoom-listed _ _ _ _ (omega (arith, c.in_ok-with_capacity.ensures.exact, c.in_ok-with_capacity.ensures.len)) c.in_ok-with_capacity.ensures.exact
+returns-clause-memory g c =
+    TakesRoom-listed _ _ _ _ (omega (arith, c.in_ok-with_capacity.ensures.exact, c.in_ok-with_capacity.ensures.len)) c.in_ok-with_capacity.ensures.exact

@@ -5,7 +5,8 @@ use Rattle.iddqd_hash.proofs.hash_table_reference.HashTablePairCells.add.Goals a
 
 pub push_reserved-requires : goal.push_reserved-requires
 push_reserved-requires g c =
-    let room : 1 ≤ vec_capacity c.self.inside.pairs - vec_len c.self.inside.pairs = rw (← c.self.view_is, room-listed) at c.requires in
+    let room : 1 ≤ vec_capacity c.self.inside.pairs - vec_len c.self.inside.pairs =
+    rw (← c.self.view_is, room-listed) at c.requires in
     omega arith
 
 pub returns-clause-pair : goal.returns-clause-pair
@@ -18,5 +19,6 @@ returns-clause-added g c =
 
 pub returns-clause-memory : goal.returns-clause-memory
 returns-clause-memory g c =
-    let room : 1 ≤ vec_capacity c.self.inside.pairs - vec_len c.self.inside.pairs = rw (← c.self.view_is, room-listed) at c.requires in
+    let room : 1 ≤ vec_capacity c.self.inside.pairs - vec_len c.self.inside.pairs =
+    rw (← c.self.view_is, room-listed) at c.requires in
     rw (← c.self.view_is) (UsesRoom-listed _ _ _ _ _ _ c.push_reserved.ensures.capacity (omega arith) (omega arith))

@@ -5,7 +5,7 @@ use Rattle.iddqd_hash.specs.OpenTable.{tag_of, slots_of, IsFree}
 use Rattle.iddqd_hash.proofs.OpenAddLemmas.{Roomy, Roomy-rebuilt, add-free, add-within, add-sound, add-pairs, add-counted}
 use Rattle.iddqd_hash.proofs.OpenCellLemmas.{cells_long}
 use Rattle.iddqd_hash.proofs.OpenSlotLemmas.{length_pairs}
-use Rattle.iddqd_hash.proofs.OpenTableLemmas.{entries-opened, pair_at-opened, power_from, empty_from, fits_from, room_of, was_empty_counts, UsesRoom-opened}
+use Rattle.iddqd_hash.proofs.OpenTableLemmas.{entries-table_of, pair_at-table_of, power_from, empty_from, fits_from, room_of, was_empty_counts, UsesRoom-table_of}
 use Rattle.iddqd_hash.proofs.open_table.OpenHashTablePairCells.add.Goals as goal
 
 pub rebuild_at_limit-self-inside-requires-clause-power : goal.rebuild_at_limit-self-inside-requires-clause-power
@@ -35,8 +35,10 @@ free_place-place-requires-clause-power g c =
     let cells = c.self.inside.cells in
     let now_tags = c.rebuild_at_limit-self-inside.new.tags in
     let now_cells = c.rebuild_at_limit-self-inside.new.cells in
-    let tags-is : (with_items tags now_tags).items ≡ now_tags = with_items_is tags now_tags (c.rebuild_at_limit-self-inside.auto.tags ∙ c.as_mut_slice.ensures.len) in
-    let cells-is : (with_items cells now_cells).items ≡ now_cells = with_items_is cells now_cells (c.rebuild_at_limit-self-inside.auto.cells ∙ c.as_mut_slice-2.ensures.len) in
+    let tags-is : (with_items tags now_tags).items ≡ now_tags =
+    with_items_is tags now_tags (c.rebuild_at_limit-self-inside.auto.tags ∙ c.as_mut_slice.ensures.len) in
+    let cells-is : (with_items cells now_cells).items ≡ now_cells =
+    with_items_is cells now_cells (c.rebuild_at_limit-self-inside.auto.cells ∙ c.as_mut_slice-2.ensures.len) in
     let roomy : Roomy tags.items (slots_of g.C.Cell.slot tags.items cells.items) c.self.inside.len now_tags (slots_of g.C.Cell.slot now_tags now_cells) c.rebuild_at_limit-self-inside.result =
     Roomy-rebuilt _ _ _ _ _ _ _ c.self.invariant.sound (room_of _ _ _ _ c.self.invariant.sound (rw (← c.self.view_is) at c.requires)) (c.rebuild_at_limit-self-inside.auto.tags ∙ ap length c.as_mut_slice.ensures.value)
     c.rebuild_at_limit-self-inside.ensures.probed (rw (c.as_mut_slice.ensures.value, c.as_mut_slice-2.ensures.value) at c.rebuild_at_limit-self-inside.ensures.moved) c.rebuild_at_limit-self-inside.ensures.used (rw c.as_mut_slice.ensures.value at c.rebuild_at_limit-self-inside.ensures.limited) in
@@ -48,8 +50,10 @@ free_place-place-requires-clause-ends g c =
     let cells = c.self.inside.cells in
     let now_tags = c.rebuild_at_limit-self-inside.new.tags in
     let now_cells = c.rebuild_at_limit-self-inside.new.cells in
-    let tags-is : (with_items tags now_tags).items ≡ now_tags = with_items_is tags now_tags (c.rebuild_at_limit-self-inside.auto.tags ∙ c.as_mut_slice.ensures.len) in
-    let cells-is : (with_items cells now_cells).items ≡ now_cells = with_items_is cells now_cells (c.rebuild_at_limit-self-inside.auto.cells ∙ c.as_mut_slice-2.ensures.len) in
+    let tags-is : (with_items tags now_tags).items ≡ now_tags =
+    with_items_is tags now_tags (c.rebuild_at_limit-self-inside.auto.tags ∙ c.as_mut_slice.ensures.len) in
+    let cells-is : (with_items cells now_cells).items ≡ now_cells =
+    with_items_is cells now_cells (c.rebuild_at_limit-self-inside.auto.cells ∙ c.as_mut_slice-2.ensures.len) in
     let roomy : Roomy tags.items (slots_of g.C.Cell.slot tags.items cells.items) c.self.inside.len now_tags (slots_of g.C.Cell.slot now_tags now_cells) c.rebuild_at_limit-self-inside.result =
     Roomy-rebuilt _ _ _ _ _ _ _ c.self.invariant.sound (room_of _ _ _ _ c.self.invariant.sound (rw (← c.self.view_is) at c.requires)) (c.rebuild_at_limit-self-inside.auto.tags ∙ ap length c.as_mut_slice.ensures.value)
     c.rebuild_at_limit-self-inside.ensures.probed (rw (c.as_mut_slice.ensures.value, c.as_mut_slice-2.ensures.value) at c.rebuild_at_limit-self-inside.ensures.moved) c.rebuild_at_limit-self-inside.ensures.used (rw c.as_mut_slice.ensures.value at c.rebuild_at_limit-self-inside.ensures.limited) in
@@ -61,8 +65,10 @@ overflow_add-self g c =
     let cells = c.self.inside.cells in
     let now_tags = c.rebuild_at_limit-self-inside.new.tags in
     let now_cells = c.rebuild_at_limit-self-inside.new.cells in
-    let tags-is : (with_items tags now_tags).items ≡ now_tags = with_items_is tags now_tags (c.rebuild_at_limit-self-inside.auto.tags ∙ c.as_mut_slice.ensures.len) in
-    let cells-is : (with_items cells now_cells).items ≡ now_cells = with_items_is cells now_cells (c.rebuild_at_limit-self-inside.auto.cells ∙ c.as_mut_slice-2.ensures.len) in
+    let tags-is : (with_items tags now_tags).items ≡ now_tags =
+    with_items_is tags now_tags (c.rebuild_at_limit-self-inside.auto.tags ∙ c.as_mut_slice.ensures.len) in
+    let cells-is : (with_items cells now_cells).items ≡ now_cells =
+    with_items_is cells now_cells (c.rebuild_at_limit-self-inside.auto.cells ∙ c.as_mut_slice-2.ensures.len) in
     let roomy : Roomy tags.items (slots_of g.C.Cell.slot tags.items cells.items) c.self.inside.len now_tags (slots_of g.C.Cell.slot now_tags now_cells) c.rebuild_at_limit-self-inside.result =
     Roomy-rebuilt _ _ _ _ _ _ _ c.self.invariant.sound (room_of _ _ _ _ c.self.invariant.sound (rw (← c.self.view_is) at c.requires)) (c.rebuild_at_limit-self-inside.auto.tags ∙ ap length c.as_mut_slice.ensures.value)
     c.rebuild_at_limit-self-inside.ensures.probed (rw (c.as_mut_slice.ensures.value, c.as_mut_slice-2.ensures.value) at c.rebuild_at_limit-self-inside.ensures.moved) c.rebuild_at_limit-self-inside.ensures.used (rw c.as_mut_slice.ensures.value at c.rebuild_at_limit-self-inside.ensures.limited) in
@@ -82,8 +88,10 @@ put-requires-clause-same_length g c =
     let cells = c.self.inside.cells in
     let now_tags = c.rebuild_at_limit-self-inside.new.tags in
     let now_cells = c.rebuild_at_limit-self-inside.new.cells in
-    let tags-is : (with_items tags now_tags).items ≡ now_tags = with_items_is tags now_tags (c.rebuild_at_limit-self-inside.auto.tags ∙ c.as_mut_slice.ensures.len) in
-    let cells-is : (with_items cells now_cells).items ≡ now_cells = with_items_is cells now_cells (c.rebuild_at_limit-self-inside.auto.cells ∙ c.as_mut_slice-2.ensures.len) in
+    let tags-is : (with_items tags now_tags).items ≡ now_tags =
+    with_items_is tags now_tags (c.rebuild_at_limit-self-inside.auto.tags ∙ c.as_mut_slice.ensures.len) in
+    let cells-is : (with_items cells now_cells).items ≡ now_cells =
+    with_items_is cells now_cells (c.rebuild_at_limit-self-inside.auto.cells ∙ c.as_mut_slice-2.ensures.len) in
     let roomy : Roomy tags.items (slots_of g.C.Cell.slot tags.items cells.items) c.self.inside.len now_tags (slots_of g.C.Cell.slot now_tags now_cells) c.rebuild_at_limit-self-inside.result =
     Roomy-rebuilt _ _ _ _ _ _ _ c.self.invariant.sound (room_of _ _ _ _ c.self.invariant.sound (rw (← c.self.view_is) at c.requires)) (c.rebuild_at_limit-self-inside.auto.tags ∙ ap length c.as_mut_slice.ensures.value)
     c.rebuild_at_limit-self-inside.ensures.probed (rw (c.as_mut_slice.ensures.value, c.as_mut_slice-2.ensures.value) at c.rebuild_at_limit-self-inside.ensures.moved) c.rebuild_at_limit-self-inside.ensures.used (rw c.as_mut_slice.ensures.value at c.rebuild_at_limit-self-inside.ensures.limited) in
@@ -95,8 +103,10 @@ put-requires-clause-free g c =
     let cells = c.self.inside.cells in
     let now_tags = c.rebuild_at_limit-self-inside.new.tags in
     let now_cells = c.rebuild_at_limit-self-inside.new.cells in
-    let tags-is : (with_items tags now_tags).items ≡ now_tags = with_items_is tags now_tags (c.rebuild_at_limit-self-inside.auto.tags ∙ c.as_mut_slice.ensures.len) in
-    let cells-is : (with_items cells now_cells).items ≡ now_cells = with_items_is cells now_cells (c.rebuild_at_limit-self-inside.auto.cells ∙ c.as_mut_slice-2.ensures.len) in
+    let tags-is : (with_items tags now_tags).items ≡ now_tags =
+    with_items_is tags now_tags (c.rebuild_at_limit-self-inside.auto.tags ∙ c.as_mut_slice.ensures.len) in
+    let cells-is : (with_items cells now_cells).items ≡ now_cells =
+    with_items_is cells now_cells (c.rebuild_at_limit-self-inside.auto.cells ∙ c.as_mut_slice-2.ensures.len) in
     let roomy : Roomy tags.items (slots_of g.C.Cell.slot tags.items cells.items) c.self.inside.len now_tags (slots_of g.C.Cell.slot now_tags now_cells) c.rebuild_at_limit-self-inside.result =
     Roomy-rebuilt _ _ _ _ _ _ _ c.self.invariant.sound (room_of _ _ _ _ c.self.invariant.sound (rw (← c.self.view_is) at c.requires)) (c.rebuild_at_limit-self-inside.auto.tags ∙ ap length c.as_mut_slice.ensures.value)
     c.rebuild_at_limit-self-inside.ensures.probed (rw (c.as_mut_slice.ensures.value, c.as_mut_slice-2.ensures.value) at c.rebuild_at_limit-self-inside.ensures.moved) c.rebuild_at_limit-self-inside.ensures.used (rw c.as_mut_slice.ensures.value at c.rebuild_at_limit-self-inside.ensures.limited) in
@@ -111,8 +121,10 @@ invariant_of-self g c =
     let cells = c.self.inside.cells in
     let now_tags = c.rebuild_at_limit-self-inside.new.tags in
     let now_cells = c.rebuild_at_limit-self-inside.new.cells in
-    let tags-is : (with_items tags now_tags).items ≡ now_tags = with_items_is tags now_tags (c.rebuild_at_limit-self-inside.auto.tags ∙ c.as_mut_slice.ensures.len) in
-    let cells-is : (with_items cells now_cells).items ≡ now_cells = with_items_is cells now_cells (c.rebuild_at_limit-self-inside.auto.cells ∙ c.as_mut_slice-2.ensures.len) in
+    let tags-is : (with_items tags now_tags).items ≡ now_tags =
+    with_items_is tags now_tags (c.rebuild_at_limit-self-inside.auto.tags ∙ c.as_mut_slice.ensures.len) in
+    let cells-is : (with_items cells now_cells).items ≡ now_cells =
+    with_items_is cells now_cells (c.rebuild_at_limit-self-inside.auto.cells ∙ c.as_mut_slice-2.ensures.len) in
     let roomy : Roomy tags.items (slots_of g.C.Cell.slot tags.items cells.items) c.self.inside.len now_tags (slots_of g.C.Cell.slot now_tags now_cells) c.rebuild_at_limit-self-inside.result =
     Roomy-rebuilt _ _ _ _ _ _ _ c.self.invariant.sound (room_of _ _ _ _ c.self.invariant.sound (rw (← c.self.view_is) at c.requires)) (c.rebuild_at_limit-self-inside.auto.tags ∙ ap length c.as_mut_slice.ensures.value)
     c.rebuild_at_limit-self-inside.ensures.probed (rw (c.as_mut_slice.ensures.value, c.as_mut_slice-2.ensures.value) at c.rebuild_at_limit-self-inside.ensures.moved) c.rebuild_at_limit-self-inside.ensures.used (rw c.as_mut_slice.ensures.value at c.rebuild_at_limit-self-inside.ensures.limited) in
@@ -120,9 +132,12 @@ invariant_of-self g c =
     let read : c.as_slice.result.now ≡ now_tags = c.as_slice.ensures.value ∙ tags-is in
     let free : IsFree now_tags place = rw read at c.free_place-place.ensures.free in
     let put-tags : (with_items (with_items tags now_tags) c.put.new.tags).items ≡ set now_tags place (tag_of c.args.hash) =
-    with_items_is (with_items tags now_tags) c.put.new.tags (c.put.auto.tags ∙ c.as_mut_slice-3.ensures.len) ∙ c.put.ensures.tags ∙ ap (λ xs. set xs place (tag_of c.args.hash)) (c.as_mut_slice-3.ensures.value ∙ tags-is) in
-    let put-tags-is = with_items_is (with_items tags now_tags) c.put.new.tags (c.put.auto.tags ∙ c.as_mut_slice-3.ensures.len) in
-    let put-cells-is = with_items_is (with_items cells now_cells) c.put.new.cells (c.put.auto.cells ∙ c.as_mut_slice-4.ensures.len) in
+    with_items_is (with_items tags now_tags) c.put.new.tags (c.put.auto.tags ∙ c.as_mut_slice-3.ensures.len)
+    ∙ c.put.ensures.tags ∙ ap (λ xs. set xs place (tag_of c.args.hash)) (c.as_mut_slice-3.ensures.value ∙ tags-is) in
+    let put-tags-is =
+    with_items_is (with_items tags now_tags) c.put.new.tags (c.put.auto.tags ∙ c.as_mut_slice-3.ensures.len) in
+    let put-cells-is =
+    with_items_is (with_items cells now_cells) c.put.new.cells (c.put.auto.cells ∙ c.as_mut_slice-4.ensures.len) in
     let tags-were = c.as_mut_slice-3.ensures.value ∙ tags-is in
     let cells-were = c.as_mut_slice-4.ensures.value ∙ cells-is in
     let put-slots : slots_of g.C.Cell.slot (with_items (with_items tags now_tags) c.put.new.tags).items (with_items (with_items cells now_cells) c.put.new.cells).items ≡ set (slots_of g.C.Cell.slot now_tags now_cells) place (Some (c.args.hash, c.args.value)) =
@@ -130,7 +145,8 @@ invariant_of-self g c =
     ∙ (λ i. set (slots_of g.C.Cell.slot (tags-were i) (cells-were i)) place (Some (c.args.hash, c.args.value))) in
     let counts = was_empty_counts now_tags place c.index.result.now free.within (rw tags-is at c.index.ensures) in
     record {
-      sound = rw (put-slots, put-tags) (add-sound _ _ _ _ _ _ roomy place c.args.hash c.args.value free (rw read at c.free_place-place.ensures.past_full) _ (omega (arith, counts)));
+      sound =
+          rw (put-slots, put-tags) (add-sound _ _ _ _ _ _ roomy place c.args.hash c.args.value free (rw read at c.free_place-place.ensures.past_full) _ (omega (arith, counts)));
       exact_tags = c.self.invariant.exact_tags;
       exact_cells = c.self.invariant.exact_cells;
     }
@@ -141,8 +157,10 @@ returns-clause-pair g c =
     let cells = c.self.inside.cells in
     let now_tags = c.rebuild_at_limit-self-inside.new.tags in
     let now_cells = c.rebuild_at_limit-self-inside.new.cells in
-    let tags-is : (with_items tags now_tags).items ≡ now_tags = with_items_is tags now_tags (c.rebuild_at_limit-self-inside.auto.tags ∙ c.as_mut_slice.ensures.len) in
-    let cells-is : (with_items cells now_cells).items ≡ now_cells = with_items_is cells now_cells (c.rebuild_at_limit-self-inside.auto.cells ∙ c.as_mut_slice-2.ensures.len) in
+    let tags-is : (with_items tags now_tags).items ≡ now_tags =
+    with_items_is tags now_tags (c.rebuild_at_limit-self-inside.auto.tags ∙ c.as_mut_slice.ensures.len) in
+    let cells-is : (with_items cells now_cells).items ≡ now_cells =
+    with_items_is cells now_cells (c.rebuild_at_limit-self-inside.auto.cells ∙ c.as_mut_slice-2.ensures.len) in
     let roomy : Roomy tags.items (slots_of g.C.Cell.slot tags.items cells.items) c.self.inside.len now_tags (slots_of g.C.Cell.slot now_tags now_cells) c.rebuild_at_limit-self-inside.result =
     Roomy-rebuilt _ _ _ _ _ _ _ c.self.invariant.sound (room_of _ _ _ _ c.self.invariant.sound (rw (← c.self.view_is) at c.requires)) (c.rebuild_at_limit-self-inside.auto.tags ∙ ap length c.as_mut_slice.ensures.value)
     c.rebuild_at_limit-self-inside.ensures.probed (rw (c.as_mut_slice.ensures.value, c.as_mut_slice-2.ensures.value) at c.rebuild_at_limit-self-inside.ensures.moved) c.rebuild_at_limit-self-inside.ensures.used (rw c.as_mut_slice.ensures.value at c.rebuild_at_limit-self-inside.ensures.limited) in
@@ -150,15 +168,18 @@ returns-clause-pair g c =
     let read : c.as_slice.result.now ≡ now_tags = c.as_slice.ensures.value ∙ tags-is in
     let free : IsFree now_tags place = rw read at c.free_place-place.ensures.free in
     let put-tags : (with_items (with_items tags now_tags) c.put.new.tags).items ≡ set now_tags place (tag_of c.args.hash) =
-    with_items_is (with_items tags now_tags) c.put.new.tags (c.put.auto.tags ∙ c.as_mut_slice-3.ensures.len) ∙ c.put.ensures.tags ∙ ap (λ xs. set xs place (tag_of c.args.hash)) (c.as_mut_slice-3.ensures.value ∙ tags-is) in
-    let put-tags-is = with_items_is (with_items tags now_tags) c.put.new.tags (c.put.auto.tags ∙ c.as_mut_slice-3.ensures.len) in
-    let put-cells-is = with_items_is (with_items cells now_cells) c.put.new.cells (c.put.auto.cells ∙ c.as_mut_slice-4.ensures.len) in
+    with_items_is (with_items tags now_tags) c.put.new.tags (c.put.auto.tags ∙ c.as_mut_slice-3.ensures.len)
+    ∙ c.put.ensures.tags ∙ ap (λ xs. set xs place (tag_of c.args.hash)) (c.as_mut_slice-3.ensures.value ∙ tags-is) in
+    let put-tags-is =
+    with_items_is (with_items tags now_tags) c.put.new.tags (c.put.auto.tags ∙ c.as_mut_slice-3.ensures.len) in
+    let put-cells-is =
+    with_items_is (with_items cells now_cells) c.put.new.cells (c.put.auto.cells ∙ c.as_mut_slice-4.ensures.len) in
     let tags-were = c.as_mut_slice-3.ensures.value ∙ tags-is in
     let cells-were = c.as_mut_slice-4.ensures.value ∙ cells-is in
     let put-slots : slots_of g.C.Cell.slot (with_items (with_items tags now_tags) c.put.new.tags).items (with_items (with_items cells now_cells) c.put.new.cells).items ≡ set (slots_of g.C.Cell.slot now_tags now_cells) place (Some (c.args.hash, c.args.value)) =
     (λ i. slots_of g.C.Cell.slot (put-tags-is i) (put-cells-is i)) ∙ c.put.ensures.slots
     ∙ (λ i. set (slots_of g.C.Cell.slot (tags-were i) (cells-were i)) place (Some (c.args.hash, c.args.value))) in
-    rw (pair_at-opened, put-slots) (get_or-set_same (slots_of g.C.Cell.slot now_tags now_cells) place _ None (add-within _ _ _ _ _ _ roomy place c.args.hash c.args.value free))
+    rw (pair_at-table_of, put-slots) (get_or-set_same (slots_of g.C.Cell.slot now_tags now_cells) place _ None (add-within _ _ _ _ _ _ roomy place c.args.hash c.args.value free))
 
 pub returns-clause-added : goal.returns-clause-added
 returns-clause-added g c =
@@ -166,8 +187,10 @@ returns-clause-added g c =
     let cells = c.self.inside.cells in
     let now_tags = c.rebuild_at_limit-self-inside.new.tags in
     let now_cells = c.rebuild_at_limit-self-inside.new.cells in
-    let tags-is : (with_items tags now_tags).items ≡ now_tags = with_items_is tags now_tags (c.rebuild_at_limit-self-inside.auto.tags ∙ c.as_mut_slice.ensures.len) in
-    let cells-is : (with_items cells now_cells).items ≡ now_cells = with_items_is cells now_cells (c.rebuild_at_limit-self-inside.auto.cells ∙ c.as_mut_slice-2.ensures.len) in
+    let tags-is : (with_items tags now_tags).items ≡ now_tags =
+    with_items_is tags now_tags (c.rebuild_at_limit-self-inside.auto.tags ∙ c.as_mut_slice.ensures.len) in
+    let cells-is : (with_items cells now_cells).items ≡ now_cells =
+    with_items_is cells now_cells (c.rebuild_at_limit-self-inside.auto.cells ∙ c.as_mut_slice-2.ensures.len) in
     let roomy : Roomy tags.items (slots_of g.C.Cell.slot tags.items cells.items) c.self.inside.len now_tags (slots_of g.C.Cell.slot now_tags now_cells) c.rebuild_at_limit-self-inside.result =
     Roomy-rebuilt _ _ _ _ _ _ _ c.self.invariant.sound (room_of _ _ _ _ c.self.invariant.sound (rw (← c.self.view_is) at c.requires)) (c.rebuild_at_limit-self-inside.auto.tags ∙ ap length c.as_mut_slice.ensures.value)
     c.rebuild_at_limit-self-inside.ensures.probed (rw (c.as_mut_slice.ensures.value, c.as_mut_slice-2.ensures.value) at c.rebuild_at_limit-self-inside.ensures.moved) c.rebuild_at_limit-self-inside.ensures.used (rw c.as_mut_slice.ensures.value at c.rebuild_at_limit-self-inside.ensures.limited) in
@@ -175,15 +198,18 @@ returns-clause-added g c =
     let read : c.as_slice.result.now ≡ now_tags = c.as_slice.ensures.value ∙ tags-is in
     let free : IsFree now_tags place = rw read at c.free_place-place.ensures.free in
     let put-tags : (with_items (with_items tags now_tags) c.put.new.tags).items ≡ set now_tags place (tag_of c.args.hash) =
-    with_items_is (with_items tags now_tags) c.put.new.tags (c.put.auto.tags ∙ c.as_mut_slice-3.ensures.len) ∙ c.put.ensures.tags ∙ ap (λ xs. set xs place (tag_of c.args.hash)) (c.as_mut_slice-3.ensures.value ∙ tags-is) in
-    let put-tags-is = with_items_is (with_items tags now_tags) c.put.new.tags (c.put.auto.tags ∙ c.as_mut_slice-3.ensures.len) in
-    let put-cells-is = with_items_is (with_items cells now_cells) c.put.new.cells (c.put.auto.cells ∙ c.as_mut_slice-4.ensures.len) in
+    with_items_is (with_items tags now_tags) c.put.new.tags (c.put.auto.tags ∙ c.as_mut_slice-3.ensures.len)
+    ∙ c.put.ensures.tags ∙ ap (λ xs. set xs place (tag_of c.args.hash)) (c.as_mut_slice-3.ensures.value ∙ tags-is) in
+    let put-tags-is =
+    with_items_is (with_items tags now_tags) c.put.new.tags (c.put.auto.tags ∙ c.as_mut_slice-3.ensures.len) in
+    let put-cells-is =
+    with_items_is (with_items cells now_cells) c.put.new.cells (c.put.auto.cells ∙ c.as_mut_slice-4.ensures.len) in
     let tags-were = c.as_mut_slice-3.ensures.value ∙ tags-is in
     let cells-were = c.as_mut_slice-4.ensures.value ∙ cells-is in
     let put-slots : slots_of g.C.Cell.slot (with_items (with_items tags now_tags) c.put.new.tags).items (with_items (with_items cells now_cells) c.put.new.cells).items ≡ set (slots_of g.C.Cell.slot now_tags now_cells) place (Some (c.args.hash, c.args.value)) =
     (λ i. slots_of g.C.Cell.slot (put-tags-is i) (put-cells-is i)) ∙ c.put.ensures.slots
     ∙ (λ i. set (slots_of g.C.Cell.slot (tags-were i) (cells-were i)) place (Some (c.args.hash, c.args.value))) in
-    rw (← c.self.view_is, entries-opened, entries-opened, put-slots) (add-pairs _ _ _ _ _ _ roomy place c.args.hash c.args.value free)
+    rw (← c.self.view_is, entries-table_of, entries-table_of, put-slots) (add-pairs _ _ _ _ _ _ roomy place c.args.hash c.args.value free)
 
 pub returns-clause-memory : goal.returns-clause-memory
 returns-clause-memory g c =
@@ -191,8 +217,10 @@ returns-clause-memory g c =
     let cells = c.self.inside.cells in
     let now_tags = c.rebuild_at_limit-self-inside.new.tags in
     let now_cells = c.rebuild_at_limit-self-inside.new.cells in
-    let tags-is : (with_items tags now_tags).items ≡ now_tags = with_items_is tags now_tags (c.rebuild_at_limit-self-inside.auto.tags ∙ c.as_mut_slice.ensures.len) in
-    let cells-is : (with_items cells now_cells).items ≡ now_cells = with_items_is cells now_cells (c.rebuild_at_limit-self-inside.auto.cells ∙ c.as_mut_slice-2.ensures.len) in
+    let tags-is : (with_items tags now_tags).items ≡ now_tags =
+    with_items_is tags now_tags (c.rebuild_at_limit-self-inside.auto.tags ∙ c.as_mut_slice.ensures.len) in
+    let cells-is : (with_items cells now_cells).items ≡ now_cells =
+    with_items_is cells now_cells (c.rebuild_at_limit-self-inside.auto.cells ∙ c.as_mut_slice-2.ensures.len) in
     let roomy : Roomy tags.items (slots_of g.C.Cell.slot tags.items cells.items) c.self.inside.len now_tags (slots_of g.C.Cell.slot now_tags now_cells) c.rebuild_at_limit-self-inside.result =
     Roomy-rebuilt _ _ _ _ _ _ _ c.self.invariant.sound (room_of _ _ _ _ c.self.invariant.sound (rw (← c.self.view_is) at c.requires)) (c.rebuild_at_limit-self-inside.auto.tags ∙ ap length c.as_mut_slice.ensures.value)
     c.rebuild_at_limit-self-inside.ensures.probed (rw (c.as_mut_slice.ensures.value, c.as_mut_slice-2.ensures.value) at c.rebuild_at_limit-self-inside.ensures.moved) c.rebuild_at_limit-self-inside.ensures.used (rw c.as_mut_slice.ensures.value at c.rebuild_at_limit-self-inside.ensures.limited) in
@@ -200,16 +228,20 @@ returns-clause-memory g c =
     let read : c.as_slice.result.now ≡ now_tags = c.as_slice.ensures.value ∙ tags-is in
     let free : IsFree now_tags place = rw read at c.free_place-place.ensures.free in
     let put-tags : (with_items (with_items tags now_tags) c.put.new.tags).items ≡ set now_tags place (tag_of c.args.hash) =
-    with_items_is (with_items tags now_tags) c.put.new.tags (c.put.auto.tags ∙ c.as_mut_slice-3.ensures.len) ∙ c.put.ensures.tags ∙ ap (λ xs. set xs place (tag_of c.args.hash)) (c.as_mut_slice-3.ensures.value ∙ tags-is) in
-    let put-tags-is = with_items_is (with_items tags now_tags) c.put.new.tags (c.put.auto.tags ∙ c.as_mut_slice-3.ensures.len) in
-    let put-cells-is = with_items_is (with_items cells now_cells) c.put.new.cells (c.put.auto.cells ∙ c.as_mut_slice-4.ensures.len) in
+    with_items_is (with_items tags now_tags) c.put.new.tags (c.put.auto.tags ∙ c.as_mut_slice-3.ensures.len)
+    ∙ c.put.ensures.tags ∙ ap (λ xs. set xs place (tag_of c.args.hash)) (c.as_mut_slice-3.ensures.value ∙ tags-is) in
+    let put-tags-is =
+    with_items_is (with_items tags now_tags) c.put.new.tags (c.put.auto.tags ∙ c.as_mut_slice-3.ensures.len) in
+    let put-cells-is =
+    with_items_is (with_items cells now_cells) c.put.new.cells (c.put.auto.cells ∙ c.as_mut_slice-4.ensures.len) in
     let tags-were = c.as_mut_slice-3.ensures.value ∙ tags-is in
     let cells-were = c.as_mut_slice-4.ensures.value ∙ cells-is in
     let put-slots : slots_of g.C.Cell.slot (with_items (with_items tags now_tags) c.put.new.tags).items (with_items (with_items cells now_cells) c.put.new.cells).items ≡ set (slots_of g.C.Cell.slot now_tags now_cells) place (Some (c.args.hash, c.args.value)) =
     (λ i. slots_of g.C.Cell.slot (put-tags-is i) (put-cells-is i)) ∙ c.put.ensures.slots
     ∙ (λ i. set (slots_of g.C.Cell.slot (tags-were i) (cells-were i)) place (Some (c.args.hash, c.args.value))) in
-    let long : length (slots_of g.C.Cell.slot now_tags now_cells) ≡ length (slots_of g.C.Cell.slot tags.items cells.items) = omega (arith, roomy.same, roomy.sound.probed.same_length, c.self.invariant.sound.probed.same_length) in
+    let long : length (slots_of g.C.Cell.slot now_tags now_cells) ≡ length (slots_of g.C.Cell.slot tags.items cells.items) =
+    omega (arith, roomy.same, roomy.sound.probed.same_length, c.self.invariant.sound.probed.same_length) in
     let more = add-counted _ _ _ _ _ _ roomy place c.args.hash c.args.value free in
     rw (← c.self.view_is)
-    (UsesRoom-opened _ _ (ap length put-slots ∙ length-set (slots_of g.C.Cell.slot now_tags now_cells) place _ ∙ long) (fits_from _ _ _ _ c.self.invariant.sound)
+    (UsesRoom-table_of _ _ (ap length put-slots ∙ length-set (slots_of g.C.Cell.slot now_tags now_cells) place _ ∙ long) (fits_from _ _ _ _ c.self.invariant.sound)
     (rw put-slots more) (omega (arith, roomy.room, c.self.invariant.sound.counted, c.self.invariant.sound.probed.same_length)))

@@ -10,8 +10,10 @@ loop-at-preserved g c =
     let n = length c.args.cells.now in
     let at = c.loop-at.at in
     let slots = slots_of g.C.Cell.slot (replicate n 0) c.loop-at.cells in
-    let inside : at < length slots = omega (arith, cells_long g.C.Cell.slot (replicate n 0) c.loop-at.cells, c.loop-at.auto.cells) in
-    ap (take (at + 1)) (slots-emptied g.C.Cell.slot n c.loop-at.cells at _ c.clear.ensures) ∙ take_more_set slots at None inside
+    let inside : at < length slots =
+    omega (arith, cells_long g.C.Cell.slot (replicate n 0) c.loop-at.cells, c.loop-at.auto.cells) in
+    ap (take (at + 1)) (slots-emptied g.C.Cell.slot n c.loop-at.cells at _ c.clear.ensures)
+    ∙ take_more_set slots at None inside
     ∙ ap (λ xs. xs ++ None ∷ []) c.loop-at.invariant ∙ replicate_more at None
 
 pub returns : goal.returns

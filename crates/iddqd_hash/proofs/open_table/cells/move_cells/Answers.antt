@@ -29,7 +29,8 @@ pub put-requires-clause-inside : goal.put-requires-clause-inside
 put-requires-clause-inside g c = c.free_near_home-place.ensures.free.within
 
 pub put-requires-clause-same_length : goal.put-requires-clause-same_length
-put-requires-clause-same_length g c = sym (cells_long g.C.Cell.slot c.moving.tags c.moving.cells) ∙ c.moving.invariant.moving.probed.same_length
+put-requires-clause-same_length g c =
+    sym (cells_long g.C.Cell.slot c.moving.tags c.moving.cells) ∙ c.moving.invariant.moving.probed.same_length
 
 pub put-requires-clause-free : goal.put-requires-clause-free
 put-requires-clause-free g c =
@@ -40,7 +41,8 @@ pub moving-preserved : goal.moving-preserved
 moving-preserved g c =
     let rest = c.pop.new.self.items in
     let last : c.len.result ≡ length rest = omega (arith, c.len.ensures) in
-    let split = slots-popped g.C.Cell.slot c.args.old_tags.now _ rest c.in-Some.cell _ _ None c.in-Some.ensures.items last c.has_pair.ensures (sym c.in_default-into_pair.is ∙ c.into_pair.ensures) in
+    let split =
+    slots-popped g.C.Cell.slot c.args.old_tags.now _ rest c.in-Some.cell _ _ None c.in-Some.ensures.items last c.has_pair.ensures (sym c.in_default-into_pair.is ∙ c.into_pair.ensures) in
     record {
       moving = Moving-skip _ _ _ _ c.moving.invariant.moving _ split;
       within = omega (arith, c.moving.invariant.within, c.in-Some.ensures.len);
@@ -51,7 +53,8 @@ moving-preserved-in-Some-into_pair g c =
     let rest = c.pop.new.self.items in
     let last : c.len.result ≡ length rest = omega (arith, c.len.ensures) in
     let pair : ℕ × g.row.T.Denot = (c.in-Some-into_pair.hash, c.in-Some-into_pair.value) in
-    let split = slots-popped g.C.Cell.slot c.args.old_tags.now _ rest c.in-Some.cell _ _ (Some pair) c.in-Some.ensures.items last c.has_pair.ensures (sym c.in-Some-into_pair.is ∙ c.into_pair.ensures) in
+    let split =
+    slots-popped g.C.Cell.slot c.args.old_tags.now _ rest c.in-Some.cell _ _ (Some pair) c.in-Some.ensures.items last c.has_pair.ensures (sym c.in-Some-into_pair.is ∙ c.into_pair.ensures) in
     let free = c.free_near_home-place.ensures.free in
     record {
       moving = rw (c.put.ensures.slots, c.put.ensures.tags)

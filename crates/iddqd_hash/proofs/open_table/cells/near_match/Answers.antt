@@ -15,12 +15,14 @@ pub returns-then-tags-near : goal.returns-then-tags-near
 returns-then-tags-near g c =
     let tags = c.args.tags.now in
     let skips = rw c.tag_of-tag.ensures at c.in-Some.ensures.skips in
-    let walk = PassesBy-skips tags (slots_of g.C.Cell.slot c.args.tags.now c.args.cells.now) _ _ _ _ c.requires.probed (omega arith) (PassesBy-start _ _ _ _ c.requires.inside) skips in
+    let walk =
+    PassesBy-skips tags (slots_of g.C.Cell.slot c.args.tags.now c.args.cells.now) _ _ _ _ c.requires.probed (omega arith) (PassesBy-start _ _ _ _ c.requires.inside) skips in
     (c.in-Some.near, walk, stop_empty c.tag_of-tag.result (slice_index tags c.in-Some.near) c.in-Some.ensures.stop c.if-tags-near.true)
 
 pub returns-then-pair_at-hash-2 : goal.returns-then-pair_at-hash-2
 returns-then-pair_at-hash-2 g c =
     let tags = c.args.tags.now in
     let skips = rw c.tag_of-tag.ensures at c.in-Some.ensures.skips in
-    let walk = PassesBy-skips tags (slots_of g.C.Cell.slot c.args.tags.now c.args.cells.now) _ _ _ _ c.requires.probed (omega arith) (PassesBy-start _ _ _ _ c.requires.inside) skips in
+    let walk =
+    PassesBy-skips tags (slots_of g.C.Cell.slot c.args.tags.now c.args.cells.now) _ _ _ _ c.requires.probed (omega arith) (PassesBy-start _ _ _ _ c.requires.inside) skips in
     (walk, full_read (slots_of g.C.Cell.slot c.args.tags.now c.args.cells.now) c.in-Some.near _ _ c.pair_at-in-Some.ensures _ c.if-pair_at-hash-2.true)

@@ -21,8 +21,10 @@ loop-at-smaller g c =
     let next = (c.loop-at.at + 1) % length tags in
     let used : 0 < slice_index tags c.loop-at.at = omega arith in
     let walk = c.loop-at.invariant.walk in
-    let further : Skips tags c.tag_of-tag.result next c.past_others-at-in-loop-at.result = rw c.next.ensures at c.past_others-at-in-loop-at.ensures in
-    let less : places_left (length tags) c.args.from next < places_left (length tags) c.args.from c.loop-at.at = places_left-next tags c.args.from c.loop-at.at c.requires.ends walk used in
+    let further : Skips tags c.tag_of-tag.result next c.past_others-at-in-loop-at.result =
+    rw c.next.ensures at c.past_others-at-in-loop-at.ensures in
+    let less : places_left (length tags) c.args.from next < places_left (length tags) c.args.from c.loop-at.at =
+    places_left-next tags c.args.from c.loop-at.at c.requires.ends walk used in
     let no_more : places_left (length tags) c.args.from c.past_others-at-in-loop-at.result ≤ places_left (length tags) c.args.from next =
     places_left-on tags c.args.from next _ (IsReached-next tags c.args.from c.loop-at.at walk used) (IsReached-skips _ _ _ _ further) c.requires.ends in
     omega arith
@@ -31,7 +33,8 @@ pub loop-at-preserved : goal.loop-at-preserved
 loop-at-preserved g c =
     let inside : c.loop-at.at < length c.args.tags.now = PassesBy-inside _ _ _ _ _ (omega arith) c.loop-at.invariant in
     let used : 0 < slice_index c.args.tags.now c.loop-at.at = omega arith in
-    let other : (value : g.row.T.Denot) → slot_at (slots_of g.C.Cell.slot c.args.tags.now c.args.cells.now) c.loop-at.at ≢ Some (c.args.hash, value) = λ value is.
+    let other : (value : g.row.T.Denot) → slot_at (slots_of g.C.Cell.slot c.args.tags.now c.args.cells.now) c.loop-at.at ≢ Some (c.args.hash, value) =
+    λ value is.
     elim c.else-tags-at.branch [
       | else-tags-at-via-then-tags-at+else-pair_at-hash w ↦
           w.if-pair_at-hash.false (hash_read (slots_of g.C.Cell.slot c.args.tags.now c.args.cells.now) c.loop-at.at _ _ w.pair_at.ensures c.args.hash value is)

@@ -18,7 +18,8 @@ loop-at-preserved-then-tags-at-lt128 g c =
     let old = slots_of g.C.Cell.slot c.args.tags.now c.args.cells.now in
     let now = slots_of g.C.Cell.slot c.args.tags.now c.loop-at.cells in
     let probed = IsProbed-rewritten _ old now c.requires.probed c.loop-at.invariant.same_hashes in
-    let none : slot_at now c.loop-at.at ≡ None = free_slot (slice_index c.args.tags.now c.loop-at.at) _ (probed.suited c.loop-at.at (omega arith)) (omega arith) in
+    let none : slot_at now c.loop-at.at ≡ None =
+    free_slot (slice_index c.args.tags.now c.loop-at.at) _ (probed.suited c.loop-at.at (omega arith)) (omega arith) in
     Rewriting-none (FnReturnsAt g.F.Fn c.args.f) old now _ (omega (arith, c.requires.probed.same_length)) (omega (arith, probed.same_length, c.requires.probed.same_length)) c.loop-at.invariant none
 
 pub f-answer-requires : goal.f-answer-requires
@@ -29,17 +30,21 @@ f-answer-requires g c =
     c.requires.callable _ (Contains-rewritten (FnReturnsAt g.F.Fn c.args.f) old now _ (omega (arith, c.requires.probed.same_length)) (omega (arith, probed.same_length, c.requires.probed.same_length)) c.loop-at.invariant _ _ c.pair_at-pair.ensures)
 
 pub bounds-cells-at : goal.bounds-cells-at
-bounds-cells-at g c = omega (arith, c.requires.probed.same_length, cells_long g.C.Cell.slot c.args.tags.now c.args.cells.now, c.loop-at.auto.cells)
+bounds-cells-at g c =
+    omega (arith, c.requires.probed.same_length, cells_long g.C.Cell.slot c.args.tags.now c.args.cells.now, c.loop-at.auto.cells)
 
 pub offset_bounds-cells-at : goal.offset_bounds-cells-at
 offset_bounds-cells-at g c =
-    let inside : c.loop-at.at < length c.loop-at.cells = omega (arith, c.requires.probed.same_length, cells_long g.C.Cell.slot c.args.tags.now c.args.cells.now, c.loop-at.auto.cells) in
+    let inside : c.loop-at.at < length c.loop-at.cells =
+    omega (arith, c.requires.probed.same_length, cells_long g.C.Cell.slot c.args.tags.now c.args.cells.now, c.loop-at.auto.cells) in
     grind (arith, common_steps)
 
 pub replace-requires : goal.replace-requires
 replace-requires g c =
-    let inside : c.loop-at.at < length c.loop-at.cells = omega (arith, c.requires.probed.same_length, cells_long g.C.Cell.slot c.args.tags.now c.args.cells.now, c.loop-at.auto.cells) in
-    let there = full_there g.C.Cell.slot c.args.tags.now c.loop-at.cells c.loop-at.at c.index-cells-at.result inside (omega arith) in
+    let inside : c.loop-at.at < length c.loop-at.cells =
+    omega (arith, c.requires.probed.same_length, cells_long g.C.Cell.slot c.args.tags.now c.args.cells.now, c.loop-at.auto.cells) in
+    let there =
+    full_there g.C.Cell.slot c.args.tags.now c.loop-at.cells c.loop-at.at c.index-cells-at.result inside (omega arith) in
     subst (λ o. IsSome o) (sym c.pair_at-pair.ensures ∙ there) refl
 
 pub loop-at-preserved : goal.loop-at-preserved
@@ -47,8 +52,10 @@ loop-at-preserved g c =
     let old = slots_of g.C.Cell.slot c.args.tags.now c.args.cells.now in
     let now = slots_of g.C.Cell.slot c.args.tags.now c.loop-at.cells in
     let probed = IsProbed-rewritten _ old now c.requires.probed c.loop-at.invariant.same_hashes in
-    let given : FnReturnsAt g.F.Fn c.args.f c.pair_at-pair.result.1.now c.f-answer.result = record { shown = _; shows = refl; says = record { met = c.f-answer.ensures } } in
-    let written = slots-replaced g.C.Cell.slot c.args.tags.now c.loop-at.cells c.loop-at.at _ _ (omega arith) c.replace.ensures.after in
+    let given : FnReturnsAt g.F.Fn c.args.f c.pair_at-pair.result.1.now c.f-answer.result =
+    record { shown = _; shows = refl; says = record { met = c.f-answer.ensures } } in
+    let written =
+    slots-replaced g.C.Cell.slot c.args.tags.now c.loop-at.cells c.loop-at.at _ _ (omega arith) c.replace.ensures.after in
     subst (λ xs. Rewriting (FnReturnsAt g.F.Fn c.args.f) old xs (c.loop-at.at + 1)) (sym written)
     (Rewriting-more (FnReturnsAt g.F.Fn c.args.f) old now _ (omega (arith, c.requires.probed.same_length)) (omega (arith, probed.same_length, c.requires.probed.same_length)) c.loop-at.invariant _ _ c.pair_at-pair.ensures c.f-answer.result given)
 

@@ -35,8 +35,11 @@ fill-requires g c =
     let copies = c.cloning.copies.items in
     let inside : c.next-here.result < length copies =
     omega (arith, c.cloning.invariant.len, c.next-here.ensures.inside, c.requires.probed.same_length, cells_long slot c.args.tags.now c.args.cells.now) in
-    let skipped = Cloning-gaps g.T.Clone.is_clone _ _ _ _ c.cloning.invariant.cloning c.args.tags.now c.requires.probed (slots_bare slot c.args.tags.now copies) c.next-here.result c.next-here.ensures.onward c.next-here.ensures.inside c.next-here.ensures.gaps in
-    ap (slot false) c.index_mut.ensures.value ∙ sym (slot_there slot [] copies c.next-here.result c.index_mut.result.now inside) ∙ skipped.empty c.next-here.result (omega arith)
+    let skipped =
+    Cloning-gaps g.T.Clone.is_clone _ _ _ _ c.cloning.invariant.cloning c.args.tags.now c.requires.probed (slots_bare slot c.args.tags.now copies) c.next-here.result c.next-here.ensures.onward c.next-here.ensures.inside c.next-here.ensures.gaps in
+    ap (slot false) c.index_mut.ensures.value
+    ∙ sym (slot_there slot [] copies c.next-here.result c.index_mut.result.now inside)
+    ∙ skipped.empty c.next-here.result (omega arith)
 
 pub cloning-preserved : goal.cloning-preserved
 cloning-preserved g c =
@@ -48,13 +51,16 @@ cloning-preserved g c =
     let here = c.next-here.result in
     let inside = c.next-here.ensures.inside in
     let within : here < length slots = omega (arith, inside, probed.same_length) in
-    let skipped = Cloning-gaps g.T.Clone.is_clone _ _ _ _ c.cloning.invariant.cloning tags probed (slots_bare slot tags copies) here c.next-here.ensures.onward inside c.next-here.ensures.gaps in
+    let skipped =
+    Cloning-gaps g.T.Clone.is_clone _ _ _ _ c.cloning.invariant.cloning tags probed (slots_bare slot tags copies) here c.next-here.ensures.onward inside c.next-here.ensures.gaps in
     let clone : IsSlotClone g.T.Clone.is_clone (slot_at slots here) (Some (c.pair_at-pair.result.0, c.in_ok-copy.copy)) =
     rw c.pair_at-pair.ensures (c.in_ok-copy.copy, refl, c.in_ok-copy.ensures.cases) in
-    let fewer = ap length (pairs-full tags slots probed _ here _ c.next-here.ensures.onward inside c.next-here.ensures.gaps c.pair_at-pair.ensures) in
+    let fewer =
+    ap length (pairs-full tags slots probed _ here _ c.next-here.ensures.onward inside c.next-here.ensures.gaps c.pair_at-pair.ensures) in
     let put = Cloning-put g.T.Clone.is_clone _ _ _ _ skipped _ (slot false c.fill.new.self) within clone in
     record {
-      cloning = rw (c.next-here.ensures.behind, slots-replaced slot tags copies here _ _ (omega (arith, c.next-here.ensures.full)) c.fill.ensures, slots-cell slot [] copies here c.fill.new.self) put;
+      cloning =
+          rw (c.next-here.ensures.behind, slots-replaced slot tags copies here _ _ (omega (arith, c.next-here.ensures.full)) c.fill.ensures, slots-cell slot [] copies here c.fill.new.self) put;
       len = c.cloning.invariant.len;
       exact = c.cloning.invariant.exact;
       ahead = c.next-here.ensures.ahead;

@@ -7,8 +7,8 @@ use Rattle.iddqd_hash.proofs.open_table.copies.cloned_cells.Given as goal
 
 abbrev pub invariant-cloning : goal.invariant-cloning
 invariant-cloning g l = record {
-  cloning : Cloning g.T.Clone.is_clone (slots_of g.C.Cell.slot l.tags l.cells) (slots_of g.C.Cell.slot l.tags l.copies.items)
-      (slots_of g.C.Cell.slot [] l.copies.items) l.places.at;
+  cloning : Cloning g.T.Clone.is_clone (slots_of g.C.Cell.slot l.tags l.cells)
+      (slots_of g.C.Cell.slot l.tags l.copies.items) (slots_of g.C.Cell.slot [] l.copies.items) l.places.at;
   len : vec_len l.copies ≡ length l.cells;
   exact : vec_capacity l.copies ≡ length l.cells;
   ahead : IsAhead l.tags l.places.at l.places.end l.places.mask;

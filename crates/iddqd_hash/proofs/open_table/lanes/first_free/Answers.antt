@@ -15,7 +15,8 @@ counted c =
     let long = length-chunk c.args.at 16 c.args.tags.now c.requires in
     let mask = mask_l (map (top 7) (zip2 less v (replicate 16 128))) % 2 ^ 64 in
     let first : c.first_set.result ≡ cond (mask == 0) 16 (trailing_zeros w64 mask) = c.first_set.ensures in
-    first ∙ ap (λ m. cond (m == 0) 16 (trailing_zeros w64 m)) (free_mask v long) ∙ first_set_mask_l is_free v 16 long (omega arith)
+    first ∙ ap (λ m. cond (m == 0) 16 (trailing_zeros w64 m)) (free_mask v long)
+    ∙ first_set_mask_l is_free v 16 long (omega arith)
 
 pub returns-clause-inside : goal.returns-clause-inside
 returns-clause-inside c =

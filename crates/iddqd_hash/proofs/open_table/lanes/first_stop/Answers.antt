@@ -14,9 +14,11 @@ counted :
 counted c =
     let v = chunk c.args.at 16 c.args.tags.now in
     let long = length-chunk c.args.at 16 c.args.tags.now c.requires in
-    let mask = mask_l (map (top 7) (zip2 bit_or (zip2 same v (replicate 16 c.args.tag)) (zip2 same v (replicate 16 0)))) % 2 ^ 64 in
+    let mask =
+    mask_l (map (top 7) (zip2 bit_or (zip2 same v (replicate 16 c.args.tag)) (zip2 same v (replicate 16 0)))) % 2 ^ 64 in
     let first : c.first_set.result ≡ cond (mask == 0) 16 (trailing_zeros w64 mask) = c.first_set.ensures in
-    first ∙ ap (λ m. cond (m == 0) 16 (trailing_zeros w64 m)) (stops_mask v c.args.tag long) ∙ first_set_mask_l (is_stop c.args.tag) v 16 long (omega arith)
+    first ∙ ap (λ m. cond (m == 0) 16 (trailing_zeros w64 m)) (stops_mask v c.args.tag long)
+    ∙ first_set_mask_l (is_stop c.args.tag) v 16 long (omega arith)
 
 pub returns-clause-inside : goal.returns-clause-inside
 returns-clause-inside c =
@@ -24,7 +26,8 @@ returns-clause-inside c =
     omega arith
 
 pub returns-clause-others : goal.returns-clause-others
-returns-clause-others c = run_in_chunk_fails (is_stop c.args.tag) c.args.tags.now c.args.at 16 _ 0 c.requires (counted c)
+returns-clause-others c =
+    run_in_chunk_fails (is_stop c.args.tag) c.args.tags.now c.args.at 16 _ 0 c.requires (counted c)
 
 pub returns-clause-stop : goal.returns-clause-stop
 returns-clause-stop c = run_in_chunk_stops (is_stop c.args.tag) c.args.tags.now c.args.at 16 _ 0 c.requires (counted c)

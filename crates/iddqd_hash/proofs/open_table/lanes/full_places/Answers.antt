@@ -10,4 +10,5 @@ returns c =
     let at = c.args.at in
     let tags = c.args.tags.now in
     let wide : 16 ≡ at + 16 - at = omega arith in
-    full_mask (chunk at 16 tags) (length-chunk at 16 tags c.requires) ∙ ap (λ n. mask_l (map is_full (take n (drop at tags)))) wide
+    full_mask (chunk at 16 tags) (length-chunk at 16 tags c.requires)
+    ∙ ap (λ n. mask_l (map is_full (take n (drop at tags)))) wide

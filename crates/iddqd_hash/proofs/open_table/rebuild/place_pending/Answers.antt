@@ -7,24 +7,28 @@ use Rattle.iddqd_hash.proofs.open_table.rebuild.place_pending.Goals as goal
 
 pub free_place-place-requires-clause-ends : goal.free_place-place-requires-clause-ends
 free_place-place-requires-clause-ends g c =
-    let carrying = Carrying-start c.args.tags.now (slots_of g.C.Cell.slot c.args.tags.now c.args.cells.now) c.args.at _ c.requires.partly_placed c.requires.inside c.requires.pending c.take-hash.ensures.pair in
+    let carrying =
+    Carrying-start c.args.tags.now (slots_of g.C.Cell.slot c.args.tags.now c.args.cells.now) c.args.at _ c.requires.partly_placed c.requires.inside c.requires.pending c.take-hash.ensures.pair in
     rw c.take-hash.ensures.tags (Carrying-room _ _ _ _ _ _ _ carrying (rw length-set c.requires.fits))
 
 pub placing-init : goal.placing-init
 placing-init g c = record {
-  carrying = rw (c.take-hash.ensures.slots, c.take-hash.ensures.tags) (Carrying-start c.args.tags.now (slots_of g.C.Cell.slot c.args.tags.now c.args.cells.now) c.args.at _ c.requires.partly_placed c.requires.inside c.requires.pending c.take-hash.ensures.pair);
+  carrying =
+      rw (c.take-hash.ensures.slots, c.take-hash.ensures.tags) (Carrying-start c.args.tags.now (slots_of g.C.Cell.slot c.args.tags.now c.args.cells.now) c.args.at _ c.requires.partly_placed c.requires.inside c.requires.pending c.take-hash.ensures.pair);
   free = c.free_place-place.ensures.free;
   past_full = c.free_place-place.ensures.past_full;
 }
 
 pub free_place-place-requires-in-placing-clause-ends : goal.free_place-place-requires-in-placing-clause-ends
 free_place-place-requires-in-placing-clause-ends g c =
-    let next = Carrying-next _ _ _ _ _ _ _ c.placing.invariant.carrying c.placing.place c.replace_pair.result c.placing.invariant.free.within c.placing-test.true c.placing.invariant.past_full c.replace_pair.ensures.pair in
+    let next =
+    Carrying-next _ _ _ _ _ _ _ c.placing.invariant.carrying c.placing.place c.replace_pair.result c.placing.invariant.free.within c.placing-test.true c.placing.invariant.past_full c.replace_pair.ensures.pair in
     rw c.replace_pair.ensures.tags (Carrying-room _ _ _ _ _ _ _ next (rw (length-set, c.placing.auto.tags, c.take-hash.auto.tags) c.requires.fits))
 
 pub placing-preserved : goal.placing-preserved
 placing-preserved g c = record {
-  carrying = rw (c.replace_pair.ensures.slots, c.replace_pair.ensures.tags) (Carrying-next _ _ _ _ _ _ _ c.placing.invariant.carrying c.placing.place c.replace_pair.result c.placing.invariant.free.within c.placing-test.true c.placing.invariant.past_full c.replace_pair.ensures.pair);
+  carrying =
+      rw (c.replace_pair.ensures.slots, c.replace_pair.ensures.tags) (Carrying-next _ _ _ _ _ _ _ c.placing.invariant.carrying c.placing.place c.replace_pair.result c.placing.invariant.free.within c.placing-test.true c.placing.invariant.past_full c.replace_pair.ensures.pair);
   free = c.free_place-place-in-placing.ensures.free;
   past_full = c.free_place-place-in-placing.ensures.past_full;
 }
@@ -55,7 +59,8 @@ returns-clause-no_more g c =
     rw c.put.ensures.tags (no_more-end _ _ _ _ _ _ _ at.carrying c.placing.place at.free.within at.free.free c.placing-test.false at.past_full)
 
 pub take-hash-requires-clause-same_length : goal.take-hash-requires-clause-same_length
-take-hash-requires-clause-same_length g c = sym (cells_long g.C.Cell.slot c.args.tags.now c.args.cells.now) ∙ c.requires.partly_placed.same_length
+take-hash-requires-clause-same_length g c =
+    sym (cells_long g.C.Cell.slot c.args.tags.now c.args.cells.now) ∙ c.requires.partly_placed.same_length
 
 pub replace_pair-requires-clause-same_length : goal.replace_pair-requires-clause-same_length
 replace_pair-requires-clause-same_length g c =

@@ -6,7 +6,8 @@ use Rattle.iddqd_hash.proofs.open_table.rebuild.place_pending.Given as goal
 
 abbrev pub invariant-placing : goal.invariant-placing
 invariant-placing g l = record {
-  carrying : Carrying l.fn.tags (slots_of g.C.Cell.slot l.fn.tags l.fn.cells) l.fn.at l.hash l.value l.tags (slots_of g.C.Cell.slot l.tags l.cells);
+  carrying : Carrying l.fn.tags (slots_of g.C.Cell.slot l.fn.tags l.fn.cells) l.fn.at l.hash l.value l.tags
+      (slots_of g.C.Cell.slot l.tags l.cells);
   free : IsFree l.tags l.place;
   past_full : IsPastFull l.tags l.hash l.place;
 }

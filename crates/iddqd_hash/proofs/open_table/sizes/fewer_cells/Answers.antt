@@ -6,8 +6,10 @@ use Rattle.iddqd_hash.proofs.open_table.sizes.fewer_cells.Goals as goal
 pub loop-count-preserved : goal.loop-count-preserved
 loop-count-preserved c =
     let more : 16 < c.loop-count.count = omega arith in
-    let power : IsPowerOfTwo (c.loop-count.count / 2) = elim c.loop-count.invariant.0 [ inl none ↦ absurd (omega arith) | inr power ↦ half_power c.loop-count.count power more ] in
-    let below : c.loop-count.count ≤ c.args.current = elim c.loop-count.invariant.1 [ inl same ↦ omega arith | inr fewer ↦ omega (arith, fewer.fewer) ] in
+    let power : IsPowerOfTwo (c.loop-count.count / 2) =
+    elim c.loop-count.invariant.0 [ inl none ↦ absurd (omega arith) | inr power ↦ half_power c.loop-count.count power more ] in
+    let below : c.loop-count.count ≤ c.args.current =
+    elim c.loop-count.invariant.1 [ inl same ↦ omega arith | inr fewer ↦ omega (arith, fewer.fewer) ] in
     let fits : c.args.needed ≤ usable_of (c.loop-count.count / 2) = omega arith in
     (inr power, inr (record { power = power; fits = fits; fewer = omega arith }))
 

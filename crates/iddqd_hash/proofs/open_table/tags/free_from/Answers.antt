@@ -14,7 +14,8 @@ loop-at-smaller c =
     let tags = c.args.tags.now in
     let full : 128 ≤ slice_index tags c.loop-at.at = omega arith in
     let on = IsReached-past_full _ _ _ (IsPastFull-next _ _ _ c.loop-at.invariant full) in
-    let further : IsPastFull tags ((c.loop-at.at + 1) % length tags) c.past_full-at.result = rw c.next.ensures at c.past_full-at.ensures in
+    let further : IsPastFull tags ((c.loop-at.at + 1) % length tags) c.past_full-at.result =
+    rw c.next.ensures at c.past_full-at.ensures in
     let less = places_left-next _ _ _ c.requires.ends (IsReached-past_full _ _ _ c.loop-at.invariant) (omega arith) in
     let no_more = places_left-on _ _ _ _ on (IsReached-past_full _ _ _ further) c.requires.ends in
     omega (arith, less, no_more)

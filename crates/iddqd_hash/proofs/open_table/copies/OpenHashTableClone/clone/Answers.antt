@@ -1,15 +1,15 @@
 use Rattle.std.proofs.Common.{◌∙◌, arith}
 use Rattle.iddqd_hash.specs.HashTable.{memory}
-use Rattle.iddqd_hash.specs.OpenTable.{opened}
+use Rattle.iddqd_hash.specs.OpenTable.{table_of}
 use Rattle.iddqd_hash.proofs.OpenCellLemmas.{cells_long}
-use Rattle.iddqd_hash.proofs.OpenAheadLemmas.{IsInSixteens-count}
+use Rattle.iddqd_hash.proofs.OpenAheadLemmas.{IsMultipleOf16-count}
 use Rattle.iddqd_hash.proofs.CopyLemmas.{hashes_of_clones, Rewrites-slots}
-use Rattle.iddqd_hash.proofs.OpenTableLemmas.{entries-opened, IsSound-rewritten}
+use Rattle.iddqd_hash.proofs.OpenTableLemmas.{entries-table_of, IsSound-rewritten}
 use Rattle.iddqd_hash.proofs.open_table.copies.OpenHashTableClone.clone.Goals as goal
 
 pub cloned_cells-requires-clause-sixteens : goal.cloned_cells-requires-clause-sixteens
 cloned_cells-requires-clause-sixteens g c =
-    rw c.as_slice-2.ensures.value (IsInSixteens-count _ c.self.invariant.sound.count)
+    rw c.as_slice-2.ensures.value (IsMultipleOf16-count _ c.self.invariant.sound.count)
 
 pub invariant_of-result : goal.invariant_of-result
 invariant_of-result g c =
@@ -22,9 +22,9 @@ invariant_of-result g c =
 
 pub returns-clause-cases : goal.returns-clause-cases
 returns-clause-cases g c =
-    rw (← c.self.view_is, entries-opened, entries-opened, c.in_ok-copied_exactly.ensures.items ∙ c.as_slice.ensures.value) (Rewrites-slots g.T.Clone.is_clone _ _ (rw (c.as_slice-2.ensures.value, c.as_slice-3.ensures.value) at c.in_ok-cloned_cells.ensures.clones))
+    rw (← c.self.view_is, entries-table_of, entries-table_of, c.in_ok-copied_exactly.ensures.items ∙ c.as_slice.ensures.value) (Rewrites-slots g.T.Clone.is_clone _ _ (rw (c.as_slice-2.ensures.value, c.as_slice-3.ensures.value) at c.in_ok-cloned_cells.ensures.clones))
 
 pub returns-clause-memory : goal.returns-clause-memory
-unfolding memory opened
+unfolding memory table_of
 returns-clause-memory g c =
     rw (← c.self.view_is) (omega (arith, c.in_ok-cloned_cells.ensures.len, c.as_slice-3.ensures.len, cells_long g.C.Cell.slot c.self.inside.tags.items c.self.inside.cells.items, cells_long g.C.Cell.slot c.in_ok-copied_exactly.field-0.items c.in_ok-cloned_cells.field-0.items))

@@ -2,12 +2,12 @@ use Rattle.std.proofs.lemmas.List.{nil_from_length}
 use Rattle.std.proofs.Common.{◌≡◌, ◌∙◌, ◌∷◌, length, sym, ap, arith, rules}
 use Rattle.iddqd_hash.specs.HashTable.{values}
 use Rattle.iddqd_hash.specs.OpenTable.{pairs, slots_of}
-use Rattle.iddqd_hash.proofs.OpenAheadLemmas.{IsInSixteens-count, SomeFull-pairs, pairs-full}
+use Rattle.iddqd_hash.proofs.OpenAheadLemmas.{IsMultipleOf16-count, SomeFull-pairs, pairs-full}
 use Rattle.std.specs.Prelude.{drop}
 use Rattle.iddqd_hash.proofs.open_table.iter.TableIterIterator.next.Goals as goal
 
 pub next-here-requires-clause-sixteens : goal.next-here-requires-clause-sixteens
-next-here-requires-clause-sixteens g c = IsInSixteens-count _ c.self.invariant.count
+next-here-requires-clause-sixteens g c = IsMultipleOf16-count _ c.self.invariant.count
 
 pub next-here-requires-clause-some : goal.next-here-requires-clause-some
 next-here-requires-clause-some g c =

@@ -24,13 +24,17 @@ pair_at-requires-clause-inside g c =
 
 pub pair_at-requires-clause-full : goal.pair_at-requires-clause-full
 pair_at-requires-clause-full g c =
-    let inside = place_inside _ _ _ c.self.invariant.probed _ _ (c.self.invariant.goes_on _ c.in_ok-from.was) c.in-Some.ensures.0 in
+    let inside =
+    place_inside _ _ _ c.self.invariant.probed _ _ (c.self.invariant.goes_on _ c.in_ok-from.was) c.in-Some.ensures.0 in
     omega (arith, tag_read _ _ _ _ _ inside c.self.invariant.probed c.in-Some.ensures.1.1)
 
 steps_here :
     (g : _) (c : goal.After-pair_at g)
-    → rest_under c.self.inside.hash (slots_of g.C.Cell.slot c.self.inside.tags.now c.self.inside.cells.now) c.self.inside.from ≡ c.pair_at.result.1.now ∷
-    rest_under c.self.inside.hash (slots_of g.C.Cell.slot c.self.inside.tags.now c.self.inside.cells.now) (Some c.next.result)
+    → rest_under c.self.inside.hash (slots_of g.C.Cell.slot c.self.inside.tags.now c.self.inside.cells.now)
+    c.self.inside.from
+    ≡ c.pair_at.result.1.now
+    ∷ rest_under c.self.inside.hash (slots_of g.C.Cell.slot c.self.inside.tags.now c.self.inside.cells.now)
+    (Some c.next.result)
 steps_here g c =
     let on = c.self.invariant.goes_on _ c.in_ok-from.was in
     let slots = slots_of g.C.Cell.slot c.self.inside.tags.now c.self.inside.cells.now in
@@ -41,7 +45,8 @@ pub invariant_of-self : goal.invariant_of-self
 invariant_of-self g c =
     let on = c.self.invariant.goes_on _ c.in_ok-from.was in
     let probed = c.self.invariant.probed in
-    let onward : GoesOn c.self.inside.tags.now c.self.inside.hash c.next.result = rw c.next.ensures (GoesOn-next _ _ _ probed _ _ on c.in-Some.ensures.0 _ c.in-Some.ensures.1.1) in
+    let onward : GoesOn c.self.inside.tags.now c.self.inside.hash c.next.result =
+    rw c.next.ensures (GoesOn-next _ _ _ probed _ _ on c.in-Some.ensures.0 _ c.in-Some.ensures.1.1) in
     record {
       probed = probed;
       goes_on = λ place is. subst (λ n. GoesOn c.self.inside.tags.now c.self.inside.hash n) (same_Some _ _ is) onward;

@@ -34,7 +34,8 @@ some : (n : ℕ) → (n ≡ 0 → ⊥) → 0 < n
 some n other = omega arith
 
 pub overflow_sub-here : goal.overflow_sub-here
-overflow_sub-here c = let enough = sixteen_before _ _ _ _ c.sixteens.invariant.0 (some _ c.sixteens-test.false) in search rules
+overflow_sub-here c =
+    let enough = sixteen_before _ _ _ _ c.sixteens.invariant.0 (some _ c.sixteens-test.false) in search rules
 
 pub overflow_add-here : goal.overflow_add-here
 overflow_add-here c =
@@ -47,7 +48,8 @@ overflow_add-self-2 c =
     search rules
 
 pub returns-clause-onward : goal.returns-clause-onward
-returns-clause-onward c = omega (arith, c.sixteens.invariant.1, first-onward _ _ _ _ c.sixteens.invariant.0 (some _ c.sixteens-test.false))
+returns-clause-onward c =
+    omega (arith, c.sixteens.invariant.1, first-onward _ _ _ _ c.sixteens.invariant.0 (some _ c.sixteens-test.false))
 
 pub returns-clause-inside : goal.returns-clause-inside
 returns-clause-inside c =
@@ -63,4 +65,5 @@ pub returns-clause-full : goal.returns-clause-full
 returns-clause-full c = first-full _ _ _ _ c.sixteens.invariant.0 (some _ c.sixteens-test.false)
 
 pub returns-clause-ahead : goal.returns-clause-ahead
-returns-clause-ahead c = IsAhead-behind _ _ _ _ c.sixteens.invariant.0 (some _ c.sixteens-test.false) c.sixteens.invariant.3
+returns-clause-ahead c =
+    IsAhead-behind _ _ _ _ c.sixteens.invariant.0 (some _ c.sixteens-test.false) c.sixteens.invariant.3
