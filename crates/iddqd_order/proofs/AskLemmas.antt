@@ -4,7 +4,8 @@ use Rattle.iddqd_order.proofs.Names.{◌≡◌, ◌+◌, ◌≤◌, suc, sym, su
 module _ {F R : Type 0} (g : Mut F (ℕ × Unit {0}) R) (P : ℕ → Type 0) where
   pub After-trans : {n m : ℕ} {a b c : F} → After g P n a b → After g P m b c → After g P (m + n) a c
   After-trans {n = n} {a = a} {c = c} p At_once = subst (λ k. After g P k a c) (sym (zero-add n)) p
-  After-trans {n = n} {m = suc m} {a = a} {c = c} p (One_more q h e) = subst (λ k. After g P k a c) (shift m n) (One_more (After-trans p q) h e)
+  After-trans {n = n} {m = suc m} {a = a} {c = c} p (One_more q h e) =
+      subst (λ k. After g P k a c) (shift m n) (One_more (After-trans p q) h e)
     where
       shift : (m n : ℕ) → suc (m + n) ≡ suc m + n
       shift m n = omega arith
@@ -19,7 +20,7 @@ module _ {F R : Type 0} (g : Mut F (ℕ × Unit {0}) R) (P : ℕ → Type 0) whe
       → Steady g P read answer b
   Steady-later p h = record { at = λ m f q. h.at _ f (After-trans p q) }
 
-  -- asks that join up
+  -- asks, and further asks after them
   pub asks_then :
       {k l : ℕ} {a b c : Asking F}
       → AsksWithin g P k a b
@@ -36,7 +37,8 @@ module _ {F R : Type 0} (g : Mut F (ℕ × Unit {0}) R) (P : ℕ → Type 0) whe
   asks_none a = record { asks = 0; within = omega arith; after = At_once; counted = omega arith }
 
   pub asks_more : {k l : ℕ} {a b : Asking F} → k ≤ l → AsksWithin g P k a b → AsksWithin g P l a b
-  asks_more h p = record { asks = p.asks; within = (let x = p.within in omega (arith, x, h)); after = p.after; counted = p.counted }
+  asks_more h p =
+      record { asks = p.asks; within = (let x = p.within in omega (arith, x, h)); after = p.after; counted = p.counted }
 
   pub asks_one :
       {a b : Asking F} {ix : ℕ} {r : R}
@@ -46,7 +48,7 @@ module _ {F R : Type 0} (g : Mut F (ℕ × Unit {0}) R) (P : ℕ → Type 0) whe
       → AsksWithin g P 1 a b
   asks_one h e c = record { asks = 1; within = omega arith; after = One_more At_once h e; counted = c }
 
--- asks of fewer indexes
+-- what may be asked about all indexes with Q may be asked about those with P, which are fewer
 module _ {F R : Type 0} (g : Mut F (ℕ × Unit {0}) R) (P Q : ℕ → Type 0) (wider : (ix : ℕ) → P ix → Q ix) where
   pub After-wider : {n : ℕ} {a b : F} → After g P n a b → After g Q n a b
   After-wider At_once = At_once
@@ -64,7 +66,7 @@ module _ {F R : Type 0} (g : Mut F (ℕ × Unit {0}) R) (P Q : ℕ → Type 0) (
   pub asks_wider : {k : ℕ} {a b : Asking F} → AsksWithin g P k a b → AsksWithin g Q k a b
   asks_wider p = record { asks = p.asks; within = p.within; after = After-wider p.after; counted = p.counted }
 
--- what each call of a closure keeps, all its calls keep
+-- if each call of a closure keeps a property of its state, so do any number of calls
 module _
     {F R : Type 0} (g : Mut F (ℕ × Unit {0}) R) (P : ℕ → Type 0) (I : F → Type 0)
     (keeps : (f f' : F) (ix : ℕ) (r : R) → I f → P ix → Called g f (ix, tt) r f' → I f')

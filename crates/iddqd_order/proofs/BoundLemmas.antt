@@ -3,7 +3,7 @@ use Rattle.iddqd_order.proofs.Names.{◌≡◌, ℕ, zero, suc, ◌-◌, Bool, n
 use Rattle.std.specs.Prelude.{◌&&◌}
 use Rattle.std.specs.Ordering.{is_gt}
 
--- whether an index stands behind the one bound, and before the other
+-- whether an index stands behind the lower bound and before the upper one
 abbrev pub is_within : (ℕ → Ordering) → (ℕ → Ordering) → ℕ → Bool
 is_within lower upper ix = not (is_gt (lower ix)) && is_gt (upper ix)
 
@@ -28,7 +28,7 @@ take-none (suc k) = refl
 none-left : (i : ℕ) (xs : List ℕ) → part i 0 xs ≡ []
 none-left i xs = let none : 0 - i ≡ 0 = omega arith in ap (λ k. take k (drop i xs)) none
 
--- the bounds are places, before which all is Greater, and behind which all is Less
+-- the indexes between the places of the two bounds are those within both
 pub part-within :
     (lower upper : ℕ → Ordering) (xs : List ℕ) (from to : ℕ)
     → IsPlace lower xs from

@@ -1,5 +1,5 @@
 -- A gap of a tree and the gaps beside it, one level at a time, and what a walk has left between two gaps.
-use Rattle.iddqd_order.proofs.Names.{◌≡◌, ◌≢◌, ◌∙◌, ℕ, zero, suc, ◌+◌, ◌-◌, ◌<◌, ◌≤◌, List, [], ◌∷◌, ◌++◌, End, Front, Back, opposite, Option, Some, None, IfSome, length, take, drop, get_or, length-set, set-get_or, slice_index, slice_set, refl, sym, ap, subst, arith, sub-one, append-nil, drop_all, length-append, length-drop, length-map, length-take-le, slice_get-get_or, cases_lt, inl, inr, Compares, Ordering, Less, Equal, Greater, Node, row, children, child, before, flat, IsFormed, ReachesGap, place, in_order, IsTree, place_in, AreBeside, AtEdge, Over, IsAt, IsBehind, IsGap, IsLeafParent, Steps, between, edge_of, leaf, leaf_parent, to_gap, CAPACITY, LEVELS, InGap}
+use Rattle.iddqd_order.proofs.Names.{◌≡◌, ◌≢◌, ◌∙◌, ℕ, zero, suc, ◌+◌, ◌-◌, ◌<◌, ◌≤◌, List, [], ◌∷◌, ◌++◌, End, Front, Back, opposite, Option, Some, None, IfSome, length, take, drop, get_or, length-set, set-get_or, slice_index, slice_set, refl, sym, ap, subst, arith, sub-one, append-nil, drop_all, length-append, length-drop, length-map, length-take-le, slice_get-get_or, cases_lt, inl, inr, Compares, Ordering, Less, Equal, Greater, Node, row, children, child, before, flat, IsFormed, ReachesGap, place, in_order, IsTree, place_in, AreBeside, AtEdge, StepsOver, IsAt, IsBehind, IsGap, IsLeafParent, Steps, between, edge_of, leaf, leaf_parent, to_gap, CAPACITY, LEVELS, InGap}
 use Rattle.std.proofs.Common.{get_or-drop}
 use Rattle.std.proofs.Math.Seq.{drop-cons, take-suc}
 use Rattle.std.proofs.lemmas.Option.{slice_get_past}
@@ -36,9 +36,14 @@ pub goes-in :
 goes-in h i n k p ne e f g is_k =
     let here = goes-here h i n p ne e g in
     let is = child_is n i k here is_k in
-    record { here = here; is = is; formed = rw is (child-formed h n i ne f here); goes = rw (is, e) (goes-inner h n p ne g).on }
+    record {
+      here = here;
+      is = is;
+      formed = rw is (child-formed h n i ne f here);
+      goes = rw (is, e) (goes-inner h n p ne g).on;
+    }
 
--- and the other way round
+-- conversely, a path that goes on below the i-th child goes to a gap of the whole
 pub goes-at :
     (h i : ℕ) (n : Node) (p : List ℕ)
     → h ≢ 0
@@ -105,7 +110,10 @@ behind-below :
     → IsBehind (flat (h - 1) (child n i)) j ix
     → IsBehind (flat h n) (length (before i (row n) (lists (h - 1) (children n))) + j) ix
 behind-below h i j ix n ne f here b =
-    let inside = within i (row n) (lists (h - 1) (children n)) [] (suc j) (omega (arith, length-map (children n) (λ k. flat (h - 1) k))) (lists-one_more h n ne f) (rw (lists-at (h - 1) n i here) (omega (arith, b.0))) in
+    let inside =
+    within i (row n) (lists (h - 1) (children n)) [] (suc j)
+    (omega (arith, length-map (children n) (λ k. flat (h - 1) k))) (lists-one_more h n ne f)
+    (rw (lists-at (h - 1) n i here) (omega (arith, b.0))) in
     (rw (flat-inner h n ne) (omega arith), b.1 ∙ sym (child-read h n i j ne f here b.0))
 
 -- a step below the i-th child is one in the whole
@@ -138,9 +146,12 @@ pub edge-inner :
 edge-inner Back h i n p ne f here ep ei on =
     let xs : List ℕ = row n in let ks : List (List ℕ) = lists (h - 1) (children n) in
     let one = lists-one_more h n ne f in
-    let whole : flat h n ≡ before i xs ks ++ (get_or ks i [] ++ []) = flat-inner h n ne ∙ apart i xs ks [] (omega arith) one ∙ ap (λ z. before i xs ks ++ (get_or ks i [] ++ z)) (after-last i xs ks (omega arith) one) in
+    let whole : flat h n ≡ before i xs ks ++ (get_or ks i [] ++ []) =
+    flat-inner h n ne ∙ apart i xs ks [] (omega arith) one
+    ∙ ap (λ z. before i xs ks ++ (get_or ks i [] ++ z)) (after-last i xs ks (omega arith) one) in
     let all : length (flat h n) ≡ length (before i xs ks) + length (flat (h - 1) (child n i)) =
-    ap length whole ∙ length-append (before i xs ks) (get_or ks i [] ++ []) ∙ ap (λ z. length (before i xs ks) + length z) (append-nil (get_or ks i []) ∙ lists-at (h - 1) n i here) in
+    ap length whole ∙ length-append (before i xs ks) (get_or ks i [] ++ [])
+    ∙ ap (λ z. length (before i xs ks) + length z) (append-nil (get_or ks i []) ∙ lists-at (h - 1) n i here) in
     let at = place-at h i n p ne ep in
     omega arith
 edge-inner Front h i n p ne f here ep ei on =
@@ -154,7 +165,8 @@ edge-leaf :
     → slice_index p h ≡ i
     → i ≡ edge_of end (length (row n))
     → place h n p ≡ edge_of end (length (flat h n))
-edge-leaf end h i n p e ep ei = place-leaf h n p e ∙ ap (slice_index p) (sym e) ∙ ep ∙ ei ∙ ap (λ z. edge_of end (length z)) (sym (flat-leaf h n e))
+edge-leaf end h i n p e ep ei =
+    place-leaf h n p e ∙ ap (slice_index p) (sym e) ∙ ep ∙ ei ∙ ap (λ z. edge_of end (length z)) (sym (flat-leaf h n e))
 
 pub at_edge-leaf :
     (end : End) (h i : ℕ) (n : Node) (xs p : List ℕ)
@@ -166,7 +178,11 @@ pub at_edge-leaf :
 at_edge-leaf end h i n xs p e ep ei ex =
     let within = edge-within end (length (row n)) i ei in
     let here = ap (slice_index p) (sym e) ∙ ep in
-    record { goes = rw e (reaches-here InGap 0 n p (omega arith)); place_is = edge-leaf end h i n p e ep ei; leaf_is = ex ∙ sym (leaf-zero h n p e) }
+    record {
+      goes = rw e (reaches-here InGap 0 n p (omega arith));
+      place_is = edge-leaf end h i n p e ep ei;
+      leaf_is = ex ∙ sym (leaf-zero h n p e);
+    }
 
 pub at_edge-inner :
     (end : End) (h i : ℕ) (n k : Node) (xs p : List ℕ)
@@ -218,9 +234,13 @@ steps-here :
     → place (h - 1) (child n r.1) q ≡ edge_of (opposite towards) (length (flat (h - 1) (child n r.1)))
     → Steps towards (flat h n) (place h n p) (Some (slice_index (row n) r.0)) (place h n q)
 steps-here Back h i r n p q ne f b ep eq last first =
-    let from = b.1 in let to = b.2 in turn-at h r.0 n p q ne f b.0 (ep ∙ from) (eq ∙ to) (rw from at last) (rw to at first)
+    let from = b.1 in
+    let to = b.2 in
+    turn-at h r.0 n p q ne f b.0 (ep ∙ from) (eq ∙ to) (rw from at last) (rw to at first)
 steps-here Front h i r n p q ne f b ep eq last first =
-    let from = b.1 in let to = b.2 in turn-at h r.0 n q p ne f b.0 (eq ∙ to) (ep ∙ from) (rw to at first) (rw from at last)
+    let from = b.1 in
+    let to = b.2 in
+    turn-at h r.0 n q p ne f b.0 (eq ∙ to) (ep ∙ from) (rw to at first) (rw from at last)
 
 steps-leaf :
     (towards : End) (h i : ℕ) (r : ℕ × ℕ) (n : Node) (p q : List ℕ)
@@ -243,8 +263,8 @@ pub over-below :
     → Below h i n k p
     → i ≡ slice_index p h
     → slice_index q h ≡ slice_index p h
-    → Over towards (h - 1) k p ix xs q
-    → Over towards h n p ix xs q
+    → StepsOver towards (h - 1) k p ix xs q
+    → StepsOver towards h n p ix xs q
 over-below towards h i ix n k p xs q ne f b ei eq o =
     let to = eq ∙ sym ei in
     record {
@@ -260,11 +280,15 @@ pub over-leaf :
     → i ≡ slice_index p h
     → slice_index q h ≡ r.1
     → xs ≡ row n
-    → Over towards h n p (slice_index (row n) r.0) xs q
+    → StepsOver towards h n p (slice_index (row n) r.0) xs q
 over-leaf towards h i r n p xs q e b ei eq ex =
     let inside = beside-within towards (length (row n)) i r b in
     let here = ap (slice_index q) (sym e) ∙ eq in
-    record { goes = rw e (reaches-here InGap 0 n q (omega arith)); steps = steps-leaf towards h i r n p q e b (sym ei) eq; leaf_is = ex ∙ sym (leaf-zero h n q e) }
+    record {
+      goes = rw e (reaches-here InGap 0 n q (omega arith));
+      steps = steps-leaf towards h i r n p q e b (sym ei) eq;
+      leaf_is = ex ∙ sym (leaf-zero h n q e);
+    }
 
 pub over-here :
     (towards : End) (h i : ℕ) (r : ℕ × ℕ) (n k j : Node) (p xs q : List ℕ)
@@ -278,7 +302,7 @@ pub over-here :
     → j ≡ child n r.1
     → slice_index q h ≡ r.1
     → AtEdge (opposite towards) (h - 1) j xs q
-    → Over towards h n p (slice_index (row n) r.0) xs q
+    → StepsOver towards h n p (slice_index (row n) r.0) xs q
 over-here towards h i r n k j p xs q ne f b ei beside last here is eq first =
     record {
       goes = goes-at h r.1 n q ne eq here (rw is at first.goes);
@@ -304,7 +328,8 @@ pub ended-here :
     → AreBeside towards (length (row n)) i None
     → place (h - 1) k p ≡ edge_of towards (length (flat (h - 1) k))
     → place h n p ≡ edge_of towards (length (flat h n))
-ended-here towards h i n k p ne f b ei beside last = edge-inner towards h i n p ne f b.here (sym ei) beside (rw b.is at last)
+ended-here towards h i n k p ne f b ei beside last =
+    edge-inner towards h i n p ne f b.here (sym ei) beside (rw b.is at last)
 
 -- another gap of the same leaf
 pub record Moved (h : ℕ) (n : Node) (p q : List ℕ) : Type 0 where
@@ -332,8 +357,10 @@ moved (suc h) n p q g le same =
     let at = goes-inner (suc h) n p ne g in
     let is : leaf (suc h) n p ≡ leaf h (child n i) p = rw sub-one at (leaf-at (suc h) i n p ne refl) in
     let m = moved h (child n i) p q (rw sub-one at at.on) (rw is at le) same in
-    let from : place (suc h) n p ≡ length (before i (row n) (lists h (children n))) + place h (child n i) p = rw sub-one at (place-at (suc h) i n p ne refl) in
-    let to : place (suc h) n q ≡ length (before i (row n) (lists h (children n))) + place h (child n i) q = rw sub-one at (place-at (suc h) i n q ne e) in
+    let from : place (suc h) n p ≡ length (before i (row n) (lists h (children n))) + place h (child n i) p =
+    rw sub-one at (place-at (suc h) i n p ne refl) in
+    let to : place (suc h) n q ≡ length (before i (row n) (lists h (children n))) + place h (child n i) q =
+    rw sub-one at (place-at (suc h) i n q ne e) in
     let moved = m.place_is in
     record {
       goes = goes-at (suc h) i n q ne e at.here (rw sub-one m.goes);
@@ -341,13 +368,14 @@ moved (suc h) n p q g le same =
       place_is = omega arith;
     }
 
--- a leaf, of which at most eleven indexes are at their places in the whole list
+-- a leaf has at most eleven indexes, and stands as a part in the whole list
 pub leaf-few : (h : ℕ) (n : Node) (p : List ℕ) → IsFormed h n → ReachesGap h n p → length (leaf h n p) ≤ CAPACITY
 leaf-few zero n p f g = rw (leaf-zero 0 n p refl) (formed-within 0 n f)
 leaf-few (suc h) n p f g =
     let at = goes-inner (suc h) n p (λ e. absurd (omega arith)) g in
     let below = child-formed (suc h) n (slice_index p (suc h)) (λ e. absurd (omega arith)) f at.here in
-    rw (leaf-at (suc h) _ n p (λ e. absurd (omega arith)) refl, sub-one) (leaf-few h _ p (rw sub-one at below) (rw sub-one at at.on))
+    rw (leaf-at (suc h) _ n p (λ e. absurd (omega arith)) refl, sub-one)
+    (leaf-few h _ p (rw sub-one at below) (rw sub-one at at.on))
 
 pub goes-within : (h : ℕ) (n : Node) (p : List ℕ) → ReachesGap h n p → slice_index p 0 ≤ length (leaf h n p)
 goes-within zero n p g = rw (leaf-zero 0 n p refl) (goes-leaf 0 n p refl g)
@@ -361,16 +389,19 @@ pub leaf-read :
     → ReachesGap h n p
     → slice_index p 0 < length (leaf h n p)
     → IsBehind (flat h n) (place h n p) (slice_index (leaf h n p) (slice_index p 0))
-leaf-read zero n p f g lt = rw (leaf-zero 0 n p refl, flat-leaf 0 n refl, place-leaf 0 n p refl) (rw (leaf-zero 0 n p refl) at lt, refl)
+leaf-read zero n p f g lt =
+    rw (leaf-zero 0 n p refl, flat-leaf 0 n refl, place-leaf 0 n p refl) (rw (leaf-zero 0 n p refl) at lt, refl)
 leaf-read (suc h) n p f g lt =
     let ne : suc h ≢ 0 = λ e. absurd (omega arith) in
     let i : ℕ = slice_index p (suc h) in
     let at = goes-inner (suc h) n p ne g in
     let is : leaf (suc h) n p ≡ leaf h (child n i) p = rw sub-one at (leaf-at (suc h) i n p ne refl) in
-    let below = leaf-read h (child n i) p (rw sub-one at (child-formed (suc h) n i ne f at.here)) (rw sub-one at at.on) (rw is at lt) in
+    let below =
+    leaf-read h (child n i) p (rw sub-one at (child-formed (suc h) n i ne f at.here)) (rw sub-one at at.on)
+    (rw is at lt) in
     rw (place-at (suc h) i n p ne refl, is) (behind-below (suc h) i _ _ n ne f at.here (rw sub-one below))
 
--- in a tree or in none
+-- the same for a tree that may be empty
 pub IsAt-whole :
     (t : Option Node) (h : ℕ) (n : Node) (p row : List ℕ) (at : ℕ)
     → t ≡ Some n
@@ -401,7 +432,9 @@ IsAt-moved (Some n) h i p row at t a le =
     let whole = a.gap.whole in
     let here : slice_index (to_gap p i) 0 ≡ i = path-here p (to_gap p i) 0 i whole (omega arith) refl in
     let was : slice_index (to_gap p at) 0 ≡ at = path-here p (to_gap p at) 0 at whole (omega arith) refl in
-    let m = moved h n (to_gap p at) (to_gap p i) a.gap.goes (rw (here, ← a.leaf) le) (λ m lt. path-above p (to_gap p i) 0 i m refl lt ∙ sym (path-above p (to_gap p at) 0 at m refl lt)) in
+    let m =
+    moved h n (to_gap p at) (to_gap p i) a.gap.goes (rw (here, ← a.leaf) le)
+    (λ m lt. path-above p (to_gap p i) 0 i m refl lt ∙ sym (path-above p (to_gap p at) 0 at m refl lt)) in
     let is = m.place_is in
     (record { gap = record { whole = whole; goes = m.goes }; leaf = a.leaf ∙ sym m.same_leaf; within = le }, omega arith)
 
@@ -464,7 +497,8 @@ pub IsAt-few :
     → IsAt t h p row at
     → length row ≤ CAPACITY
 IsAt-few None h p row at t a = let none = ap length a.leaf in omega arith
-IsAt-few (Some n) h p row at t a = let few = leaf-few h n (to_gap p at) t.0 a.gap.goes in let len = ap length a.leaf in omega arith
+IsAt-few (Some n) h p row at t a =
+    let few = leaf-few h n (to_gap p at) t.0 a.gap.goes in let len = ap length a.leaf in omega arith
 
 pub IsLeafParent-from :
     (t : Option Node) (h : ℕ) (n : Node) (p : List ℕ) (k : Option (Bor Node))
@@ -487,7 +521,7 @@ leaf_parent-same (suc (suc h)) n p q same = rw (same (suc (suc h)) (omega arith)
 
 record LeafParentStep (h : ℕ) (n k : Node) (p q : List ℕ) : Type 0 where
   inside : slice_index p 1 + 1 < length (children k)
-  over : Over Back h n p (slice_index (row k) (slice_index p 1)) (row (child k (slice_index p 1 + 1))) q
+  over : StepsOver Back h n p (slice_index (row k) (slice_index p 1)) (row (child k (slice_index p 1 + 1))) q
 
 leaf_parent-step :
     (h : ℕ) (n : Node) (p q : List ℕ)
@@ -512,18 +546,28 @@ leaf_parent-step (suc zero) n p q some f g end first next same lt =
     record {
       inside = inside;
       over = over-here Back 1 i (i, i + 1) n k (child n (i + 1)) p (row (child n (i + 1))) q ne f
-          (record { here = at.here; is = refl; formed = child-formed 1 n i ne f at.here; goes = at.on }) refl (lt, refl, refl)
-          (place-leaf 0 k p refl ∙ whole ∙ ap length (sym (flat-leaf 0 k refl))) inside refl next (at_edge-leaf Front 0 0 (child n (i + 1)) _ q refl first refl refl);
+          (record { here = at.here; is = refl; formed = child-formed 1 n i ne f at.here; goes = at.on }) refl
+          (lt, refl, refl)
+          (place-leaf 0 k p refl ∙ whole ∙ ap length (sym (flat-leaf 0 k refl))) inside refl next
+          (at_edge-leaf Front 0 0 (child n (i + 1)) _ q refl first refl refl);
     }
 leaf_parent-step (suc (suc h)) n p q some f g end first next same lt =
     let ne : suc (suc h) ≢ 0 = λ e. cc in
     let i : ℕ = slice_index p (suc (suc h)) in
     let k : Node = child n i in
     let at = goes-inner (suc (suc h)) n p ne g in
-    let b : Below (suc (suc h)) i n k p = record { here = at.here; is = refl; formed = child-formed (suc (suc h)) n i ne f at.here; goes = at.on } in
+    let b : Below (suc (suc h)) i n k p =
+    record { here = at.here; is = refl; formed = child-formed (suc (suc h)) n i ne f at.here; goes = at.on } in
     let is : leaf (suc (suc h)) n p ≡ leaf (suc h) k p = rw sub-one at (leaf-at (suc (suc h)) i n p ne refl) in
-    let ih = leaf_parent-step (suc h) k p q (omega arith) (rw sub-one at b.formed) (rw sub-one at b.goes) (rw is at end) first next same lt in
-    record { inside = ih.inside; over = over-below Back (suc (suc h)) i _ n k p _ q ne f b refl (same (suc (suc h)) (omega arith)) (rw sub-one ih.over) }
+    let ih =
+    leaf_parent-step (suc h) k p q (omega arith) (rw sub-one at b.formed) (rw sub-one at b.goes)
+    (rw is at end) first next same lt in
+    record {
+      inside = ih.inside;
+      over =
+          over-below Back (suc (suc h)) i _ n k p _ q ne f b refl (same (suc (suc h)) (omega arith))
+          (rw sub-one ih.over);
+    }
 
 pub record NextLeafParent (t : Option Node) (h : ℕ) (k : Node) (p : List ℕ) (at : ℕ) (q : List ℕ) : Type 0 where
   pub inside : slice_index p 1 + 1 < length (children k)
@@ -552,15 +596,23 @@ next-leaf_parent (Some n) h b p row_is at q tree a end l lt eq =
     let same : (m : ℕ) → 0 < m → slice_index r m ≡ slice_index p m = λ m lt. path-above p r 0 at m refl lt in
     let kept : (m : ℕ) → 0 < m → slice_index s m ≡ slice_index q m = λ m lt. path-above q s 0 0 m refl lt in
     let over : (m : ℕ) → 1 < m → slice_index q m ≡ slice_index p m = λ m lt. path-above p q 1 _ m eq lt in
-    let next : slice_index s 1 ≡ slice_index r 1 + 1 = kept 1 (omega arith) ∙ path-here p q 1 _ whole (omega arith) eq ∙ ap (λ z. z + 1) (sym (same 1 (omega arith))) in
+    let next : slice_index s 1 ≡ slice_index r 1 + 1 =
+    kept 1 (omega arith) ∙ path-here p q 1 _ whole (omega arith) eq
+    ∙ ap (λ z. z + 1) (sym (same 1 (omega arith))) in
     let is : b.now ≡ leaf_parent h n r = l.1 ∙ sym (leaf_parent-same h n p r (λ m lt. same m (omega arith))) in
     let end_is : length (leaf h n r) ≤ slice_index r 0 = rw (was, ← a.leaf) end in
-    let step : LeafParentStep h n b.now r s = rw is (leaf_parent-step h n r s l.0 tree.0 a.gap.goes end_is (path-here q s 0 0 len (omega arith) refl) next
+    let step : LeafParentStep h n b.now r s =
+    rw is (leaf_parent-step h n r s l.0 tree.0 a.gap.goes end_is (path-here q s 0 0 len (omega arith) refl) next
     (λ m lt. kept m (omega arith) ∙ over m lt ∙ sym (same m (omega arith))) (rw (← is, same 1 (omega arith)) lt)) in
     let there : slice_index r 1 ≡ slice_index p 1 = same 1 (omega arith) in
     record {
       inside = rw there at step.inside;
-      at_is = record { gap = record { whole = len; goes = step.over.goes }; leaf = rw there at step.over.leaf_is; within = omega arith };
+      at_is =
+          record {
+            gap = record { whole = len; goes = step.over.goes };
+            leaf = rw there at step.over.leaf_is;
+            within = omega arith;
+          };
       leaf_parent_is = λ c e. (l.0, e ∙ l.1 ∙ sym (leaf_parent-same h n p q over));
       steps = rw there at step.over.steps;
     }
@@ -578,7 +630,8 @@ left-ahead count i j k xs (Some ix) some e le s =
     let next : count ≡ suc (count - 1) = omega arith in
     let up : j ≡ suc i = (let e = s.1 in omega arith) in (
       omega arith,
-      ap (take count) (drop-cons xs i 0 s.0.0) ∙ ap (λ n. take n (get_or xs i 0 ∷ drop (suc i) xs)) next ∙ ap (λ z. z ∷ take (count - 1) (drop (suc i) xs)) (sym s.0.1)
+      ap (take count) (drop-cons xs i 0 s.0.0) ∙ ap (λ n. take n (get_or xs i 0 ∷ drop (suc i) xs)) next
+          ∙ ap (λ z. z ∷ take (count - 1) (drop (suc i) xs)) (sym s.0.1)
           ∙ ap (λ n. ix ∷ between (count - 1) n xs) (sym up),
     )
 
@@ -599,13 +652,15 @@ left-back count i j k xs (Some ix) some e le s =
           ∙ ap (λ z. between (count - 1) i xs ++ z ∷ []) (get_or-drop i xs (count - 1) 0 ∙ ap (λ n. get_or xs n 0) at ∙ sym s.0.1),
     )
 
--- and what is left behind a gap
+-- and what is left behind a gap, after a step towards the back
 pub rest-ahead :
     (i j : ℕ) (xs : List ℕ) (r : Option ℕ)
     → Steps Back xs i r j
     → YieldsFirst (λ (ys : List ℕ). ys) (drop i xs) r (drop j xs)
 rest-ahead i j xs None s = let none = drop_all i xs (omega arith) in (none, ap (λ n. drop n xs) s.1 ∙ none)
-rest-ahead i j xs (Some ix) s = let up : j ≡ suc i = (let e = s.1 in omega arith) in drop-cons xs i 0 s.0.0 ∙ ap (λ z. z ∷ drop (suc i) xs) (sym s.0.1) ∙ ap (λ n. ix ∷ drop n xs) (sym up)
+rest-ahead i j xs (Some ix) s =
+    let up : j ≡ suc i = (let e = s.1 in omega arith) in
+    drop-cons xs i 0 s.0.0 ∙ ap (λ z. z ∷ drop (suc i) xs) (sym s.0.1) ∙ ap (λ n. ix ∷ drop n xs) (sym up)
 
 -- the first index, and the last
 pub first-is : (i j : ℕ) (xs : List ℕ) (r : Option ℕ) → i ≡ 0 → Steps Back xs i r j → r ≡ slice_get xs 0
@@ -618,12 +673,14 @@ pub last-is :
     → Steps Front xs i r j
     → r ≡ slice_get xs (length xs - 1)
 last-is i j xs None e s = sym (slice_get_past xs (length xs - 1) (omega arith))
-last-is i j xs (Some ix) e s = let last : j ≡ length xs - 1 = (let down = s.1 in omega arith) in ap Some s.0.1 ∙ sym (slice_get-get_or xs j 0 s.0.0) ∙ ap (slice_get xs) last
+last-is i j xs (Some ix) e s =
+    let last : j ≡ length xs - 1 = (let down = s.1 in omega arith) in
+    ap Some s.0.1 ∙ sym (slice_get-get_or xs j 0 s.0.0) ∙ ap (slice_get xs) last
 
 pub left-length : (count i j : ℕ) (xs : List ℕ) → i + count ≡ j → j ≤ length xs → length (between count i xs) ≡ count
 left-length count i j xs e le = length-take-le count (drop i xs) (omega (arith, length-drop i xs))
 
--- how two gaps stand to each other goes by the highest level at which their paths part
+-- the highest level at which two paths differ decides which of their gaps comes first
 pub gaps-less :
     (h : ℕ) (n : Node) (p q : List ℕ)
     → IsFormed h n
@@ -648,7 +705,8 @@ gaps-less (suc h) n p q f gp gq lt =
       | inr le ↦ (let same : j - 1 ≡ i = omega arith in rw same (omega arith))
     ] in
     let last : j - 1 + 1 ≡ j = omega arith in
-    let next : length (before j xs ks) ≡ index_place (j - 1) xs ks + 1 = rw last at (before-next (j - 1) xs ks (omega arith) one) in
+    let next : length (before j xs ks) ≡ index_place (j - 1) xs ks + 1 =
+    rw last at (before-next (j - 1) xs ks (omega arith) one) in
     omega (arith, place-inner (suc h) n p ne, place-inner (suc h) n q ne)
 
 pub gaps-part :
@@ -661,7 +719,8 @@ pub gaps-part :
     → Compares r (place h n p) (place h n q)
 gaps-part Less h n p q f gp gq told leaf = gaps-less h n p q f gp gq told
 gaps-part Equal h n p q f gp gq told leaf =
-    let e = leaf refl in place-leaf h n p e ∙ ap (slice_index p) (sym e) ∙ told ∙ ap (slice_index q) e ∙ sym (place-leaf h n q e)
+    let e = leaf refl in
+    place-leaf h n p e ∙ ap (slice_index p) (sym e) ∙ told ∙ ap (slice_index q) e ∙ sym (place-leaf h n q e)
 gaps-part Greater h n p q f gp gq told leaf = gaps-less h n q p f gq gp told
 
 pub gaps-below :
@@ -675,7 +734,7 @@ gaps-below Less h i n p q ne ep eq told = omega (arith, place-at h i n p ne ep, 
 gaps-below Equal h i n p q ne ep eq told = omega (arith, place-at h i n p ne ep, place-at h i n q ne eq)
 gaps-below Greater h i n p q ne ep eq told = omega (arith, place-at h i n p ne ep, place-at h i n q ne eq)
 
--- one gap has one place in its leaf
+-- paths to the same gap have the same place in the leaf
 pub gaps-same :
     (h : ℕ) (n : Node) (p q : List ℕ)
     → IsFormed h n
@@ -696,8 +755,10 @@ gaps-same (suc h) n p q f gp gq same =
     ] in
     let from = goes-inner (suc h) n p ne gp in let to = goes-inner (suc h) n q ne gq in
     let i : ℕ = slice_index p (suc h) in
-    let a = rw sub-one at (place-at (suc h) i n p ne refl) in let b = rw sub-one at (place-at (suc h) i n q ne (sym e)) in
-    gaps-same h (child n i) p q (rw sub-one at (child-formed (suc h) n i ne f from.here)) (rw sub-one at from.on) (rw (sub-one, ← e) at to.on) (omega arith)
+    let a = rw sub-one at (place-at (suc h) i n p ne refl) in
+    let b = rw sub-one at (place-at (suc h) i n q ne (sym e)) in
+    gaps-same h (child n i) p q (rw sub-one at (child-formed (suc h) n i ne f from.here)) (rw sub-one at from.on)
+    (rw (sub-one, ← e) at to.on) (omega arith)
 
 pub at-same :
     (t : Option Node) (h : ℕ) (p row : List ℕ) (i : ℕ) (q other : List ℕ) (j : ℕ)
@@ -707,9 +768,15 @@ pub at-same :
     → place_in t h (to_gap p i) ≡ place_in t h (to_gap q j)
     → i ≡ j
 at-same None h p row i q other j t a b same =
-    let none = ap length a.leaf in let within = a.within in let empty = ap length b.leaf in let inside = b.within in omega arith
+    let none = ap length a.leaf in
+    let within = a.within in
+    let empty = ap length b.leaf in
+    let inside = b.within in
+    omega arith
 at-same (Some n) h p row i q other j t a b same =
-    sym (path-here p (to_gap p i) 0 i a.gap.whole (omega arith) refl) ∙ gaps-same h n (to_gap p i) (to_gap q j) t.0 a.gap.goes b.gap.goes same ∙ path-here q (to_gap q j) 0 j b.gap.whole (omega arith) refl
+    sym (path-here p (to_gap p i) 0 i a.gap.whole (omega arith) refl)
+    ∙ gaps-same h n (to_gap p i) (to_gap q j) t.0 a.gap.goes b.gap.goes same
+    ∙ path-here q (to_gap q j) 0 j b.gap.whole (omega arith) refl
 
 -- a place of a leaf
 pub IsAt-low : (t : Option Node) (h : ℕ) (p row : List ℕ) (at : ℕ) → IsTree t h → IsAt t h p row at → at ≤ CAPACITY

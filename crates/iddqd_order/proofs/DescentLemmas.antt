@@ -37,7 +37,8 @@ before-more i [] ks d lt e = absurd (omega arith)
 before-more i (x ∷ xs) [] d lt e = absurd (omega arith)
 before-more zero (x ∷ xs) (k ∷ ks) d lt e = refl
 before-more (suc i) (x ∷ xs) (k ∷ ks) d lt e =
-    ap (λ z. k ++ x ∷ z) (before-more i xs ks d (omega arith) (omega arith)) ∙ sym (append_assoc k (x ∷ before i xs ks) (get_or ks i [] ++ get_or xs i d ∷ []))
+    ap (λ z. k ++ x ∷ z) (before-more i xs ks d (omega arith) (omega arith))
+    ∙ sym (append_assoc k (x ∷ before i xs ks) (get_or ks i [] ++ get_or xs i d ∷ []))
 
 pub before-next :
     (i : ℕ) (xs : List ℕ) (ks : List (List ℕ))
@@ -47,7 +48,8 @@ pub before-next :
 before-next i xs ks lt e =
     let k : List ℕ = get_or ks i [] in
     let more = ap length (before-more i xs ks 0 lt e) in
-    let next : length (before (i + 1) xs ks) ≡ length (before (suc i) xs ks) = ap (λ z. length (before z xs ks)) (add-one i) in
+    let next : length (before (i + 1) xs ks) ≡ length (before (suc i) xs ks) =
+    ap (λ z. length (before z xs ks)) (add-one i) in
     omega (arith, more, next, length-append (before i xs ks) (k ++ get_or xs i 0 ∷ []), length-append k (get_or xs i 0 ∷ []))
 
 index_place-mono :
@@ -81,7 +83,8 @@ module _ (xs : List ℕ) (ks : List (List ℕ)) (one_more : length ks ≡ length
   list-woven i lt = record {
     within = λ j low. weave-within i xs ks [] j lt one_more low;
     at = λ j low.
-        ap (λ z. get_or z (length (before i xs ks) + j) 0) (apart i xs ks [] lt one_more) ∙ get_or-append-add (before i xs ks) (get_or ks i [] ++ after i xs ks) j 0
+        ap (λ z. get_or z (length (before i xs ks) + j) 0) (apart i xs ks [] lt one_more)
+        ∙ get_or-append-add (before i xs ks) (get_or ks i [] ++ after i xs ks) j 0
         ∙ get_or_append_left (get_or ks i []) (after i xs ks) 0 j low;
     rises = λ j m less low. omega arith;
   }
@@ -111,7 +114,8 @@ module _ (xs : List ℕ) (ks : List (List ℕ)) (one_more : length ks ≡ length
           → AreSplit a ws (length (before i xs ks)) (length ws)
       below zero le greater = split-init a ws
       below (suc j) le greater =
-          let next : length (before (suc j) xs ks) ≡ index_place j xs ks + 1 = rw (← add-one) (before-next j xs ks (omega arith) one_more) in
+          let next : length (before (suc j) xs ks) ≡ index_place j xs ks + 1 =
+          rw (← add-one) (before-next j xs ks (omega arith) one_more) in
           rw next (split-greater r (row-woven.within j (omega arith)) (split-init a ws) (ap a (row-woven.at j (omega arith)) ∙ greater j (omega arith)))
 
 pub child_is : (n : Node) (i : ℕ) (k : Node) → i < length (children n) → k ≡ get_or (children n) i k → k ≡ child n i
@@ -125,7 +129,8 @@ row_place (suc h) n i = index_place i (row n) (lists h (children n))
 row-part : (l : ℕ) (n : Node) → IsFormed l n → Embeds (row n) (flat l n) (λ i. row_place l n i)
 unfolding flat
 row-part zero n f = record { within = λ i lt. lt; at = λ i lt. refl; rises = λ i j lt within. lt }
-row-part (suc h) n f = row-woven (row n) (lists h (children n)) (rw sub-one at (lists-one_more (suc h) n (λ e. absurd (omega arith)) f))
+row-part (suc h) n f =
+    row-woven (row n) (lists h (children n)) (rw sub-one at (lists-one_more (suc h) n (λ e. absurd (omega arith)) f))
 
 -- where a path goes that ends at the node
 place_at_level-here :
@@ -157,13 +162,13 @@ unfolding IsFullBelow
 full-at k zero n p h below = h
 full-at k (suc l) n p h below = (h, rw sub-one at (below (λ e. absurd (omega arith))))
 
--- how many full nodes are at the lower end, seen from a node and from the one below it
+-- what `full_from` makes of `full` at the node n, which has the level l
 pub record Counts (n : Node) (full l full_below : ℕ) : Type 0 where
   pub above : l < full
   pub not_full : length (row n) < CAPACITY → full_below ≡ l
   pub is_full : CAPACITY ≤ length (row n) → full_below ≡ full
 
--- and what it says of the node
+-- and so whether the node n is full
 pub counts_here :
     (n : Node) (full l full_below k : ℕ)
     → Counts n full l full_below
@@ -212,7 +217,8 @@ module _ {F R : Type 0} (g : Mut F (ℕ × Unit {0}) R) (read : R → Ordering) 
       → IsFormed l n
       → CanSearch g (flat l n) sought a
       → CanSearch g (row n) sought a
-  can_ask_row l n a f c = CanAsk-fewer g (Askable (row n) sought) (Askable (flat l n) sought) (Askable-whole (row-part l n f) sought) c
+  can_ask_row l n a f c =
+      CanAsk-fewer g (Askable (row n) sought) (Askable (flat l n) sought) (Askable-whole (row-part l n f) sought) c
 
   -- a miss in the row leads to the child at that place
   leads-below :
@@ -230,14 +236,17 @@ module _ {F R : Type 0} (g : Mut F (ℕ × Unit {0}) R) (read : R → Ordering) 
       let m = row-part l n f in
       record {
         part = child-part l n i ne f lt;
-        within = rw (flat-inner l n ne, ← lists-at (l - 1) n i lt) (within i xs ks [] (length (get_or ks i [])) (omega arith) one (omega arith));
+        within =
+            rw (flat-inner l n ne, ← lists-at (l - 1) n i lt)
+            (within i xs ks [] (length (get_or ks i [])) (omega arith) one (omega arith));
         asked = asks_wider g (Askable xs sought) (Askable (flat l n) sought) (Askable-whole m sought) s.asked;
         split = λ answer rises.
             let placed = s.place answer (record { steady = Steady-fewer g (Askable xs sought) (Askable (flat l n) sought) (Askable-whole m sought) rises.steady; rising = IsRising-part m (with_ties sought answer) rises.rising }) in
-            rw (flat-inner l n ne, ← lists-at (l - 1) n i lt) (split-woven xs ks one (with_ties sought answer) i (rw (flat-inner l n ne) at rises.rising) placed);
+            rw (flat-inner l n ne, ← lists-at (l - 1) n i lt)
+            (split-woven xs ks one (with_ties sought answer) i (rw (flat-inner l n ne) at rises.rising) placed);
       }
 
-  -- which may be asked then
+  -- and what may be asked in the tree may then be asked in that child
   pub can_ask_below :
       {k : ℕ} (l : ℕ) (n : Node) (i : ℕ) (a b : Asking F)
       → l ≢ 0
@@ -247,7 +256,8 @@ module _ {F R : Type 0} (g : Mut F (ℕ × Unit {0}) R) (read : R → Ordering) 
       → CanSearch g (flat (l - 1) (child n i)) sought b
   can_ask_below l n i a b ne f s c =
       let leads = leads-below l n i a b ne f s in
-      CanAsk-fewer g (Askable (flat (l - 1) (child n i)) sought) (Askable (flat l n) sought) (Askable-whole leads.part sought) (CanAsk-later g (Askable (flat l n) sought) leads.asked.after c)
+      CanAsk-fewer g (Askable (flat (l - 1) (child n i)) sought) (Askable (flat l n) sought)
+      (Askable-whole leads.part sought) (CanAsk-later g (Askable (flat l n) sought) leads.asked.after c)
 
   -- a hit in the row is one in the tree
   Searches-row :
@@ -256,7 +266,9 @@ module _ {F R : Type 0} (g : Mut F (ℕ × Unit {0}) R) (read : R → Ordering) 
       → IsFormed l n
       → SearchesWithin g read (row n) row_asks sought a (Ok i) b
       → SearchesWithin g read (flat l n) limit sought a (Ok (row_place l n i)) b
-  Searches-row limit l n i a b le f s = SearchesWithin-more g read sought (omega arith) (Searches-hit g read sought (row-part l n f) (asks_none g (Askable (flat l n) sought) a) i s)
+  Searches-row limit l n i a b le f s =
+      SearchesWithin-more g read sought (omega arith)
+      (Searches-hit g read sought (row-part l n f) (asks_none g (Askable (flat l n) sought) a) i s)
 
   shifted-end : (end : Result ℕ ℕ) (b i : ℕ) → shifted b (end_at end i) ≡ end_at end (b + i)
   shifted-end (Ok l) b i = refl
@@ -290,7 +302,8 @@ module _ {F R : Type 0} (g : Mut F (ℕ × Unit {0}) R) (read : R → Ordering) 
   Descends-leaf limit full full_below zero n p a b le e f s c =
       let here = counts_here n full 0 full_below full_below c (λ _. refl) in
       record {
-        searches = rw (flat-leaf zero n refl, place_at_level-leaf zero zero n p refl) (SearchesWithin-more g read sought le s);
+        searches =
+            rw (flat-leaf zero n refl, place_at_level-leaf zero zero n p refl) (SearchesWithin-more g read sought le s);
         reaches = reaches-here InGap zero n p s.missed;
         lower_end = (full-at full_below zero n p here.0 (λ ne. absurd (ne refl)), here.1);
       }
@@ -336,7 +349,12 @@ module _ {F R : Type 0} (g : Mut F (ℕ × Unit {0}) R) (read : R → Ordering) 
       → IsFormed l n
       → SearchesWithin g read (row n) row_asks sought a (Err i) b
       → FindsIn g read sought l n a None b
-  FindsIn-leaf l n i a b e f s = record { end = Err i; searches = rw (flat-leaf l n e) (SearchesWithin-more g read sought (omega arith) s); index = refl }
+  FindsIn-leaf l n i a b e f s =
+      record {
+        end = Err i;
+        searches = rw (flat-leaf l n e) (SearchesWithin-more g read sought (omega arith) s);
+        index = refl;
+      }
 
   read-below :
       (l : ℕ) (n : Node) (i : ℕ) (end : Result ℕ ℕ)
@@ -361,11 +379,13 @@ module _ {F R : Type 0} (g : Mut F (ℕ × Unit {0}) R) (read : R → Ordering) 
       let lt : i < length (children n) = child-within l n i ne f s.missed in
       record {
         end = shifted (length (before i (row n) (lists (l - 1) (children n)))) t.end;
-        searches = SearchesWithin-more g read sought (omega arith) (Searches-part g read sought (leads-below l n i a b ne f s) t.end t.searches);
+        searches =
+            SearchesWithin-more g read sought (omega arith)
+            (Searches-part g read sought (leads-below l n i a b ne f s) t.end t.searches);
         index = t.index ∙ read-below l n i t.end ne f lt t.searches.found;
       }
 
--- a find is what the search tells that ends at its index, or else at none
+-- a find returns the index at which its search ends, or none if it ends in a gap
 pub Finds-from_searches :
     {F R : Type 0} (g : Mut F (ℕ × Unit {0}) R) (read : R → Ordering) (xs : List ℕ) (end : Result ℕ ℕ)
     (found : Option ℕ) (a b : Asking F)
@@ -429,7 +449,9 @@ pub place_at_level-row :
     → IsFormed l n
     → slice_index p l < length (row n)
     → slice_index (flat l n) (place_at_level l l n p) ≡ slice_index (row n) (slice_index p l)
-place_at_level-row l n p f lt = ap (λ i. slice_index (flat l n) i) (place_at_level-here l n p f (omega arith)) ∙ (row-part l n f).at (slice_index p l) lt
+place_at_level-row l n p f lt =
+    ap (λ i. slice_index (flat l n) i) (place_at_level-here l n p f (omega arith))
+    ∙ (row-part l n f).at (slice_index p l) lt
 
 pub holds_index-here :
     (l : ℕ) (n : Node) (p : List ℕ) (ix : ℕ)
@@ -452,9 +474,13 @@ pub holds_index-below :
 holds_index-below m l i n g p ix ne f at lt is_g held =
     let here : slice_index p l < length (children n) = rw at lt in
     let same : g ≡ child n (slice_index p l) = child_is n i g lt is_g ∙ ap (child n) (sym at) in
-    let w : LeadsToIndex m (l - 1) (child n (slice_index p l)) p ix = subst (λ z. LeadsToIndex m (l - 1) z p ix) same held in
+    let w : LeadsToIndex m (l - 1) (child n (slice_index p l)) p ix =
+    subst (λ z. LeadsToIndex m (l - 1) z p ix) same held in
     let le = holds-level m (l - 1) (child n (slice_index p l)) p w.0 in
     let on = place_at_level-below m l n p ne (λ e. absurd (omega arith)) in (
       below-holds m l n p ne here w.0,
-      ap (λ s. slice_index (flat l n) s) on ∙ child-read l n (slice_index p l) _ ne f here (place_at_level-within m (l - 1) (child n (slice_index p l)) p (child-formed l n (slice_index p l) ne f here) w.0) ∙ w.1,
+      ap (λ s. slice_index (flat l n) s) on
+          ∙ child-read l n (slice_index p l) _ ne f here
+          (place_at_level-within m (l - 1) (child n (slice_index p l)) p (child-formed l n (slice_index p l) ne f here) w.0)
+          ∙ w.1,
     )

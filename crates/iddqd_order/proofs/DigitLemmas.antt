@@ -9,7 +9,8 @@ pub digits_within-enough : (k m n : ℕ) → n ≤ k → n ≤ m → digits_with
 digits_within-enough k m zero h h' = digits_within-zero k ∙ sym (digits_within-zero m)
 digits_within-enough zero m (suc n) h h' = absurd (omega arith)
 digits_within-enough (suc k) zero (suc n) h h' = absurd (omega arith)
-digits_within-enough (suc k) (suc m) (suc n) h h' = ap (λ x. 1 + x) (digits_within-enough k m (suc n / 2) (omega arith) (omega arith))
+digits_within-enough (suc k) (suc m) (suc n) h h' =
+    ap (λ x. 1 + x) (digits_within-enough k m (suc n / 2) (omega arith) (omega arith))
 
 pub digits_within-mono : (k a b : ℕ) → a ≤ b → digits_within k a ≤ digits_within k b
 digits_within-mono zero a b h = omega arith

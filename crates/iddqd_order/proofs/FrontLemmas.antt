@@ -17,7 +17,8 @@ at_front zero n p f first = at_edge-leaf Front 0 0 n (row n) p refl (first 0 (om
 at_front (suc h) n p f first =
     let ne : suc h ≢ 0 = λ e. absurd (omega arith) in
     let here = child-within (suc h) n 0 ne f (omega arith) in
-    let below = at_front h (child n 0) p (rw sub-one at (child-formed (suc h) n 0 ne f here)) (λ l le. first l (omega arith)) in
+    let below =
+    at_front h (child n 0) p (rw sub-one at (child-formed (suc h) n 0 ne f here)) (λ l le. first l (omega arith)) in
     rw (first (suc h) (omega arith)) (at_edge-inner Front (suc h) 0 n (child n 0) (leaf h (child n 0) p) p ne f here refl (first (suc h) (omega arith)) refl (rw sub-one below))
 
 -- how many nodes on it are full
@@ -27,7 +28,8 @@ pub full-leaf :
     → Counts n full l k
     → IsFullBelow k l n p × (l < k → k ≡ full)
 full-leaf k full (suc l) n p e c = absurd (omega arith)
-full-leaf k full zero n p e c = let here = counts_here n full 0 k k c (λ _. refl) in (full-at k 0 n p here.0 (λ ne. absurd (ne refl)), here.1)
+full-leaf k full zero n p e c =
+    let here = counts_here n full 0 k k c (λ _. refl) in (full-at k 0 n p here.0 (λ ne. absurd (ne refl)), here.1)
 
 pub full-inner :
     (k full below l : ℕ) (n : Node) (p : List ℕ)
@@ -41,7 +43,7 @@ full-inner k full below l n p ne c first q =
     (full-at k l n p here.0 (λ _. rw first q.0), here.1)
 
 module _ {F R : Type 0} (g : Mut F (ℕ × Unit {0}) R) (read : R → Ordering) (sought : Option ℕ) where
-  -- what is before the first index goes there
+  -- what is less than the first index goes before all indexes
   pub Descends-front :
       (h full ix : ℕ) (n : Node) (p : List ℕ) (a b : Asking F)
       → IsFormed h n
@@ -49,7 +51,8 @@ module _ {F R : Type 0} (g : Mut F (ℕ × Unit {0}) R) (read : R → Ordering) 
       → IsBehind (flat h n) 0 ix
       → IsFullBelow full h n p × (h < full → full ≡ h + 1)
       → AsksWithin g (Askable (flat h n) sought) 1 a b
-      → ((answer : ℕ → Ordering) → Steady g (Askable (flat h n) sought) read answer (closure_of a) → Less ≡ with_ties sought answer ix)
+      → ((answer : ℕ → Ordering) → Steady g (Askable (flat h n) sought) read answer (closure_of a)
+      → Less ≡ with_ties sought answer ix)
       → Descends g read sought 1 (h + 1) h n a p (Err full) b
   Descends-front h full ix n p a b f first is low asked less =
       let edge = at_front h n p f first in

@@ -1,4 +1,4 @@
--- For callers: which blocks an insert at a place needs.
+-- For callers. Which blocks an insert at a gap needs.
 use Rattle.std.proofs.Common.{◌≡◌, ◌<◌, ◌≤◌, ℕ, length, arith, inl, inr}
 use Rattle.std.proofs.lemmas.Bool.{cases_lt}
 use Rattle.iddqd_order.specs.MapBTreeTable.{Order, HasSameTree, order_of, capacity, capacity_of, move_blocks}
@@ -34,7 +34,7 @@ unfolding order_of capacity
 none-below t gap fits lt =
     none-fresh t.root t.height t.reserved gap.full gap.path fits.tree fits.goes fits.full fits.levels lt
 
--- where indexes were taken out, the blocks of a move are enough at each place
+-- after a removal, the blocks of a move are enough for an insert at any gap
 pub enough-after :
     (old t : Order) (gap : Gap) (blocks : ℕ)
     → Fits t gap

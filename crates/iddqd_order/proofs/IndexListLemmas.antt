@@ -9,18 +9,21 @@ pub IsIndexList-nil : IsIndexList []
 unfolding IsDistinct
 IsIndexList-nil = record { distinct = tt; assigned = All-nil (λ ix. ix ≢ sentinel) }
 
--- an index that is missing is apart from each
+-- an index that isn't stored differs from each stored one
 apart-from_missing : (xs : List ℕ) (x : ℕ) → (Contains xs x → ⊥) → AllByRecursion (λ y. nat_eq x y ≡ false) xs
-apart-from_missing xs x none = recursion_from_All (λ y. nat_eq x y ≡ false) xs (λ k d lt. ne_eqb x _ (λ e. none (k, lt, sym (e ∙ get_or_default xs k d x lt))))
+apart-from_missing xs x none =
+    recursion_from_All (λ y. nat_eq x y ≡ false) xs
+    (λ k d lt. ne_eqb x _ (λ e. none (k, lt, sym (e ∙ get_or_default xs k d x lt))))
 
--- distinct indexes stay so where another one is added
+-- distinct indexes stay distinct if another one is inserted
 pub IsDistinct-insert :
     (xs : List ℕ) (p x : ℕ)
     → (Contains xs x → ⊥)
     → IsDistinct nat_eq xs
     → IsDistinct nat_eq (insert xs p x)
 IsDistinct-insert xs p x absent distinct =
-    IsDistinct-IsPermutation nat_eq nat_eq_equiv.symm (x ∷ xs) (insert xs p x) (IsPermutation-insert xs p x) (IsDistinct-cons nat_eq x xs (apart-from_missing xs x absent) distinct)
+    IsDistinct-IsPermutation nat_eq nat_eq_equiv.symm (x ∷ xs) (insert xs p x) (IsPermutation-insert xs p x)
+    (IsDistinct-cons nat_eq x xs (apart-from_missing xs x absent) distinct)
 
 pub IsIndexList-insert :
     (xs : List ℕ) (p x : ℕ)
@@ -28,32 +31,37 @@ pub IsIndexList-insert :
     → x ≢ sentinel
     → IsIndexList xs
     → IsIndexList (insert xs p x)
-IsIndexList-insert xs p x absent assigned h = record { distinct = IsDistinct-insert xs p x absent h.distinct; assigned = All-insert (λ ix. ix ≢ sentinel) xs p x h.assigned assigned }
+IsIndexList-insert xs p x absent assigned h =
+    record {
+      distinct = IsDistinct-insert xs p x absent h.distinct;
+      assigned = All-insert (λ ix. ix ≢ sentinel) xs p x h.assigned assigned;
+    }
 
 -- `SENTINEL` is none of them
 pub sentinel-absent : (xs : List ℕ) → IsIndexList xs → Contains xs sentinel → ⊥
 sentinel-absent xs h held = All-contains (λ j. j ≢ sentinel) xs sentinel h.assigned held refl
 
--- and where some are left out
+-- and if some are left out
 pub IsDistinct-filter : (t : ℕ → Bool) (xs : List ℕ) → IsDistinct nat_eq xs → IsDistinct nat_eq (filter t xs)
 IsDistinct-filter t xs h =
     IsDistinct-from_apart nat_eq (filter t xs) (AllPairs-filter (λ a b. nat_eq a b ≡ false) t xs (λ i j d lt below. apart_from_distinct nat_eq xs i j d h lt below))
 
 pub IsIndexList-filter : (t : ℕ → Bool) (xs : List ℕ) → IsIndexList xs → IsIndexList (filter t xs)
-IsIndexList-filter t xs h = record { distinct = IsDistinct-filter t xs h.distinct; assigned = All-filter t (λ ix. ix ≢ sentinel) xs h.assigned }
+IsIndexList-filter t xs h =
+    record { distinct = IsDistinct-filter t xs h.distinct; assigned = All-filter t (λ ix. ix ≢ sentinel) xs h.assigned }
 
--- all stay where none is x
+-- if none is x, all stay without x
 without-absent : (x : ℕ) (xs : List ℕ) → AllByRecursion (λ y. nat_eq x y ≡ false) xs → without xs x ≡ xs
 without-absent x [] h = refl
 without-absent x (y ∷ ys) h =
     let kept : not (y == x) ≡ true = (let apart = h.0 in grind (arith, nat_tests)) in
     rw kept (ap (λ zs. y ∷ zs) (without-absent x ys h.1))
 
--- and where x is missing
+-- the same, if x isn't stored
 pub without-missing : (xs : List ℕ) (x : ℕ) → (Contains xs x → ⊥) → without xs x ≡ xs
 without-missing xs x none = without-absent x xs (apart-from_missing xs x none)
 
--- of distinct indexes the removal at a place leaves those other than the one that stands there
+-- if indexes are distinct, the removal at a place leaves all except the index there
 pub remove-distinct :
     (xs : List ℕ) (p : ℕ)
     → IsDistinct nat_eq xs
@@ -65,6 +73,8 @@ remove-distinct (x ∷ xs) zero h lt =
     rw left_out (sym (without-absent x xs (IsDistinct-head nat_eq x xs h)))
 remove-distinct (x ∷ xs) (suc p) h lt =
     let lower : p < length xs = omega arith in
-    let apart : nat_eq x (get_or xs p 0) ≡ false = All-get_or (λ y. nat_eq x y ≡ false) xs p 0 lower (All-from_recursion (λ y. nat_eq x y ≡ false) xs (IsDistinct-head nat_eq x xs h)) in
+    let apart : nat_eq x (get_or xs p 0) ≡ false =
+    All-get_or (λ y. nat_eq x y ≡ false) xs p 0 lower
+    (All-from_recursion (λ y. nat_eq x y ≡ false) xs (IsDistinct-head nat_eq x xs h)) in
     let kept : not (x == get_or xs p 0) ≡ true = grind (arith, nat_tests) in
     rw kept (ap (λ ys. x ∷ ys) (remove-distinct xs p (IsDistinct-tail nat_eq x xs h) lower))

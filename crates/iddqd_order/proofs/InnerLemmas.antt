@@ -13,7 +13,8 @@ pub wide :
     → All (λ n. 30 * g n + 5 ≤ length (f n)) ns
     → 30 * sum_by g ns + 5 * length ns + length xs ≤ length (weave xs (map f ns))
 wide f g [] [] e a = absurd (omega arith)
-wide f g [] (n ∷ []) e a = let h = All-head (λ n. 30 * g n + 5 ≤ length (f n)) n [] a in omega (arith, sum_by-cons g n [])
+wide f g [] (n ∷ []) e a =
+    let h = All-head (λ n. 30 * g n + 5 ≤ length (f n)) n [] a in omega (arith, sum_by-cons g n [])
 wide f g [] (n ∷ (m ∷ ns)) e a = absurd (omega arith)
 wide f g (x ∷ xs) [] e a = absurd (omega arith)
 wide f g (x ∷ xs) (n ∷ ns) e a =
@@ -30,7 +31,9 @@ unfolding inners flat IsFormed
 inners-below zero n f le = omega arith
 inners-below (suc h) n f le =
     let one = f.0.one_more in
-    let w = wide (λ k. flat h k) (λ k. inners h k) (row n) (children n) one (λ i d lt. let e = f.1 i d lt in inners-below h _ e.1 e.0) in
+    let w =
+    wide (λ k. flat h k) (λ k. inners h k) (row n) (children n) one
+    (λ i d lt. let e = f.1 i d lt in inners-below h _ e.1 e.0) in
     omega arith
 
 pub inners-root : (h : ℕ) (n : Node) → IsFormed h n → 1 ≤ length (row n) → 30 * inners h n ≤ length (flat h n) + 19
@@ -38,5 +41,7 @@ unfolding inners flat IsFormed
 inners-root zero n f le = omega arith
 inners-root (suc h) n f le =
     let one = f.0.one_more in
-    let w = wide (λ k. flat h k) (λ k. inners h k) (row n) (children n) one (λ i d lt. let e = f.1 i d lt in inners-below h _ e.1 e.0) in
+    let w =
+    wide (λ k. flat h k) (λ k. inners h k) (row n) (children n) one
+    (λ i d lt. let e = f.1 i d lt in inners-below h _ e.1 e.0) in
     omega arith

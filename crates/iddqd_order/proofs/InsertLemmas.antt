@@ -93,12 +93,17 @@ put_below h old new p x i g k t d er ek rm =
     let counted = lists-one_more h old t.inner t.formed in
     let here = b.here in
     let k_least : LEAST ≤ length (row k) = let a = b.least in let l = d.longer in omega arith in
-    let e1 : lists (h - 1) (children new) ≡ set ls i (f k) = ap (λ z. lists (h - 1) z) ek ∙ map-set f (children old) i k in
-    let e2 = edited i (row old) ls [] (f k) (place (h - 1) g p) x (omega arith) counted b.within (d.items ∙ ap (λ z. insert z (place (h - 1) g p) x) (sym b.list)) in
+    let e1 : lists (h - 1) (children new) ≡ set ls i (f k) =
+    ap (λ z. lists (h - 1) z) ek ∙ map-set f (children old) i k in
+    let e2 =
+    edited i (row old) ls [] (f k) (place (h - 1) g p) x (omega arith) counted b.within
+    (d.items ∙ ap (λ z. insert z (place (h - 1) g p) x) (sym b.list)) in
     let ln : length (children new) ≡ length (children old) = ap length ek ∙ length-set (children old) i k in
     record {
       items = rw (flat-inner h new t.inner, er, e1, flat-inner h old t.inner, b.place_is) e2;
-      formed = inner-formed h new t.inner (record { within = rw er few; one_more = rw er (omega arith); has_room = rm }) (rw ek (All-set (IsChild (h - 1)) (children old) i k (k_least, d.formed) b.below));
+      formed =
+          inner-formed h new t.inner (record { within = rw er few; one_more = rw er (omega arith); has_room = rm })
+          (rw ek (All-set (IsChild (h - 1)) (children old) i k (k_least, d.formed) b.below));
       longer = rw er (omega arith);
       inner = let e = d.inner in omega (arith, inners-inner h new t.inner, inners-inner h old t.inner, ap (inners_of (h - 1)) ek, inners_set h old p i g k t);
     }
@@ -121,10 +126,14 @@ put_here h old new p x i g k m u t d lt er ek rm =
     let counted = lists-one_more h old t.inner t.formed in
     let here = b.here in
     let e1 : lists (h - 1) (children new) ≡ insert (set ls i (f k)) (i + 1) (f u) =
-    ap (λ z. lists (h - 1) z) ek ∙ map-insert f (set (children old) i k) (i + 1) u ∙ ap (λ z. insert z (i + 1) (f u)) (map-set f (children old) i k) in
-    let e2 = widened i (row old) ls [] (f k) (f u) m (place (h - 1) g p) x (omega arith) counted b.within (d.items ∙ ap (λ z. insert z (place (h - 1) g p) x) (sym b.list)) in
+    ap (λ z. lists (h - 1) z) ek ∙ map-insert f (set (children old) i k) (i + 1) u
+    ∙ ap (λ z. insert z (i + 1) (f u)) (map-set f (children old) i k) in
+    let e2 =
+    widened i (row old) ls [] (f k) (f u) m (place (h - 1) g p) x (omega arith) counted b.within
+    (d.items ∙ ap (λ z. insert z (place (h - 1) g p) x) (sym b.list)) in
     let same = length-set (children old) i k in
-    let ln : length (children new) ≡ length (children old) + 1 = ap length ek ∙ length-insert (set (children old) i k) (i + 1) u (omega arith) ∙ ap (λ z. z + 1) same in
+    let ln : length (children new) ≡ length (children old) + 1 =
+    ap length ek ∙ length-insert (set (children old) i k) (i + 1) u (omega arith) ∙ ap (λ z. z + 1) same in
     let lr : length (row new) ≡ length (row old) + 1 = ap length er ∙ length-insert (row old) i m (omega arith) in
     record {
       items = rw (flat-inner h new t.inner, er, e1, flat-inner h old t.inner, b.place_is) e2;
@@ -164,22 +173,31 @@ split_here h old new m2 up p x i g k m u t d c ek lk rm ru =
     let counted = lists-one_more h old t.inner t.formed in
     let here = b.here in
     let e1 : lists (h - 1) (children new) ++ lists (h - 1) (children up) ≡ insert (set ls i (f k)) (i + 1) (f u) =
-    sym (map-append f (children new) (children up)) ∙ ap (λ z. lists (h - 1) z) ek ∙ map-insert f (set (children old) i k) (i + 1) u ∙ ap (λ z. insert z (i + 1) (f u)) (map-set f (children old) i k) in
-    let e2 = widened i (row old) ls [] (f k) (f u) m (place (h - 1) g p) x (omega arith) counted b.within (d.items ∙ ap (λ z. insert z (place (h - 1) g p) x) (sym b.list)) in
+    sym (map-append f (children new) (children up)) ∙ ap (λ z. lists (h - 1) z) ek
+    ∙ map-insert f (set (children old) i k) (i + 1) u
+    ∙ ap (λ z. insert z (i + 1) (f u)) (map-set f (children old) i k) in
+    let e2 =
+    widened i (row old) ls [] (f k) (f u) m (place (h - 1) g p) x (omega arith) counted b.within
+    (d.items ∙ ap (λ z. insert z (place (h - 1) g p) x) (sym b.list)) in
     let lm = length-map (children new) f in
     let e3 : weave (row new ++ m2 ∷ row up) (lists (h - 1) (children new) ++ lists (h - 1) (children up)) ≡ weave (row new) (lists (h - 1) (children new)) ++ m2 ∷ weave (row up) (lists (h - 1) (children up)) =
     weave-append (row new) m2 (row up) (lists (h - 1) (children new)) (lists (h - 1) (children up)) (omega arith) in
     let e4 : weave (row new ++ m2 ∷ row up) (lists (h - 1) (children new) ++ lists (h - 1) (children up)) ≡ weave (insert (row old) i m) (insert (set ls i (f k)) (i + 1) (f u)) =
-    ap (λ z. weave z (lists (h - 1) (children new) ++ lists (h - 1) (children up))) c.is ∙ ap (λ z. weave (insert (row old) i m) z) e1 in
+    ap (λ z. weave z (lists (h - 1) (children new) ++ lists (h - 1) (children up))) c.is
+    ∙ ap (λ z. weave (insert (row old) i m) z) e1 in
     let sizes = split_sizes c in
     let same = length-set (children old) i k in
     let la = length-append (children new) (children up) in
-    let ln : length (children new ++ children up) ≡ length (children old) + 1 = ap length ek ∙ length-insert (set (children old) i k) (i + 1) u (omega arith) ∙ ap (λ z. z + 1) same in
+    let ln : length (children new ++ children up) ≡ length (children old) + 1 =
+    ap length ek ∙ length-insert (set (children old) i k) (i + 1) u (omega arith) ∙ ap (λ z. z + 1) same in
     let lx = length-append (row new) (m2 ∷ row up) in
-    let lr : length (row new ++ m2 ∷ row up) ≡ length (row old) + 1 = ap length c.is ∙ length-insert (row old) i m (omega arith) in
+    let lr : length (row new ++ m2 ∷ row up) ≡ length (row old) + 1 =
+    ap length c.is ∙ length-insert (row old) i m (omega arith) in
     let every : All (IsChild (h - 1)) (children new ++ children up) = rw ek (All-insert (IsChild (h - 1)) (set (children old) i k) (i + 1) u (All-set (IsChild (h - 1)) (children old) i k d.low b.below) d.high) in
     record {
-      items = rw (flat-inner h new t.inner, flat-inner h up t.inner, flat-inner h old t.inner, b.place_is) (sym e3 ∙ e4 ∙ e2);
+      items =
+          rw (flat-inner h new t.inner, flat-inner h up t.inner, flat-inner h old t.inner, b.place_is)
+          (sym e3 ∙ e4 ∙ e2);
       low = (sizes.0, inner-formed h new t.inner (record { within = omega arith; one_more = lk; has_room = rm }) (All-front (IsChild (h - 1)) (children new) (children up) every));
       high = (sizes.2, inner-formed h up t.inner (record { within = omega arith; one_more = omega arith; has_room = ru }) (All-back (IsChild (h - 1)) (children new) (children up) every));
       inner = let e = d.inner in let deep = t.inner in omega (arith, inners-inner h new t.inner, inners-inner h up t.inner, inners-inner h old t.inner, ap (inners_of (h - 1)) ek, sum_by-append (λ k. inners (h - 1) k) (children new) (children up), sum_by-insert (λ k. inners (h - 1) k) (set (children old) i k) (i + 1) u, inners_set h old p i g k t);
@@ -205,7 +223,9 @@ put_leaf h old new p i x e f g at lt er ek =
     let le : i ≤ length (row old) = rw at (leaf_place h old p e g) in
     let lr : length (row new) ≡ length (row old) + 1 = ap length er ∙ length-insert (row old) i x le in
     record {
-      items = rw (flat-leaf h new e, flat-leaf h old e, place-leaf h old p e) (er ∙ ap (λ z. insert (row old) z x) (at ∙ ap (slice_index p) e));
+      items =
+          rw (flat-leaf h new e, flat-leaf h old e, place-leaf h old p e)
+          (er ∙ ap (λ z. insert (row old) z x) (at ∙ ap (slice_index p) e));
       formed = leaf-formed h new e (record { within = omega arith; childless = ek ∙ l.childless });
       longer = omega arith;
       inner = omega (arith, inners-leaf h new e, inners-leaf h old e);
@@ -226,13 +246,15 @@ split_leaf h old new m up p i x e f g at c ek eu =
     let l = formed-leaf h old e f in
     let sizes = split_sizes c in
     record {
-      items = rw (flat-leaf h new e, flat-leaf h up e, flat-leaf h old e, place-leaf h old p e) (c.is ∙ ap (λ z. insert (row old) z x) (at ∙ ap (slice_index p) e));
+      items =
+          rw (flat-leaf h new e, flat-leaf h up e, flat-leaf h old e, place-leaf h old p e)
+          (c.is ∙ ap (λ z. insert (row old) z x) (at ∙ ap (slice_index p) e));
       low = (sizes.0, leaf-formed h new e (record { within = omega arith; childless = ek ∙ l.childless }));
       high = (sizes.2, leaf-formed h up e (record { within = omega arith; childless = eu }));
       inner = omega (arith, inners-leaf h new e, inners-leaf h up e, inners-leaf h old e);
     }
 
--- the levels below the node are full as far as they have to be
+-- if a path's nodes at levels below k are full and the one at k isn't, this holds of the part below the node too
 pub full_child :
     (k h : ℕ) (old : Node) (p : List ℕ) (i : ℕ) (g : Node)
     → IsTaken h old p i g
@@ -251,7 +273,7 @@ full_row h n p f full =
     let least = (full-here (h + 1) h n p full).0 (omega arith) in
     omega arith
 
--- where all nodes are full, no level above them matters
+-- if all nodes of a path are full, they are full below any level above the node's
 pub all_full : (k l h : ℕ) (n : Node) (p : List ℕ) → h < l → l ≤ k → IsFullBelow k h n p → IsFullBelow l h n p
 unfolding IsFullBelow
 all_full k l zero n p lt le f = ((λ q. f.0 (omega arith)), (λ q. absurd (omega arith)))

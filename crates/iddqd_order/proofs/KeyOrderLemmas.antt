@@ -2,7 +2,7 @@
 use Rattle.iddqd_order.proofs.Names.{◌≡◌, ◌∙◌, ℕ, ◌+◌, ◌<◌, ◌==◌, ◌⊎◌, inl, inr, List, None, Some, length, map, get_or, insert, Contains, refl, sym, ap, eqb-true, zero, suc, [], ◌∷◌, ◌≤◌, Ordering, arith, IsTotalOrder, nat_cmp_is, IsStrictlySortedBy, nat_cmp, ordering_then, ordering_reverse, Less, Equal, Greater, nat_cmp_total, on_total, then_total, tied_itself, alike_right, by_ranked, cond_both, ranked, get_or_default, get_or-map, length-map, Contains-get_or, Less-from_sorted, recursion_from_All, All-from_recursion, sorted_from_all_adjacent, greater_before_in, key_then_index, IsInKeyOrder, ComparesKeys, with_ties, IsRising, IsPlace}
 use Rattle.iddqd_order.proofs.NodeLemmas.{All-insert}
 
--- two that stand the other way round
+-- if a is greater than b, b is less than a
 Less-from_greater : {K : Type 0} {c : K → K → Ordering} → IsTotalOrder c → {a b : K} → c a b ≡ Greater → c b a ≡ Less
 Less-from_greater o {a} {b} e = o.antisymm b a ∙ ap ordering_reverse e
 
@@ -19,8 +19,10 @@ sorted-insert c xs zero x s le below above =
     (recursion_from_All (λ y. c x y ≡ Less) xs (λ k d lt. ap (c x) (get_or_default xs k d 0 lt) ∙ above k (omega arith) lt), s)
 sorted-insert c [] (suc p) x s le below above = absurd (omega arith)
 sorted-insert c (y ∷ ys) (suc p) x s le below above = (
-  recursion_from_All (λ z. c y z ≡ Less) (insert ys p x) (All-insert (λ z. c y z ≡ Less) ys p x (All-from_recursion (λ z. c y z ≡ Less) ys s.0) (below 0 (omega arith))),
-  sorted-insert c ys p x s.1 (omega arith) (λ k lt. below (suc k) (omega arith)) (λ k from lt. above (suc k) (omega arith) (omega arith)),
+  recursion_from_All (λ z. c y z ≡ Less) (insert ys p x)
+      (All-insert (λ z. c y z ≡ Less) ys p x (All-from_recursion (λ z. c y z ≡ Less) ys s.0) (below 0 (omega arith))),
+  sorted-insert c ys p x s.1 (omega arith) (λ k lt. below (suc k) (omega arith))
+      (λ k from lt. above (suc k) (omega arith) (omega arith)),
 )
 
 -- a list of indexes that a total order sorts, and answers that place ix in that order
@@ -29,7 +31,8 @@ module _ {c : ℕ → ℕ → Ordering} (o : IsTotalOrder c) (xs : List ℕ) (so
   pub IsRising-from_sorted : IsRising answer xs
   IsRising-from_sorted = record {
     greater_before = λ i j lt within e.
-        is i (omega arith) ∙ greater_before_in o ix _ _ (Less-from_sorted c xs i j 0 sorted lt within) (sym (is j within) ∙ e);
+        is i (omega arith)
+        ∙ greater_before_in o ix _ _ (Less-from_sorted c xs i j 0 sorted lt within) (sym (is j within) ∙ e);
     less_after = λ i j lt within e.
         is j within ∙ o.trans _ _ _ (sym (is i (omega arith)) ∙ e) (Less-from_sorted c xs i j 0 sorted lt within);
   }
@@ -75,7 +78,8 @@ module _ {K : Type 0} {cmp : K → K → Ordering} (o : IsTotalOrder cmp) (key :
         (place : ℕ)
         → IsPlace (with_ties (Some ix) answer) xs place
         → IsInKeyOrder cmp key (insert xs place ix)
-    IsInKeyOrder-insert = IsStrictlySortedBy-insert key_then_index-total xs sorted ix _ (with_ties-key ix answer xs compares)
+    IsInKeyOrder-insert =
+        IsStrictlySortedBy-insert key_then_index-total xs sorted ix _ (with_ties-key ix answer xs compares)
 
   -- what agrees with the order of the keys
   module _ (compare : K → Ordering)
@@ -116,10 +120,12 @@ module _ {K : Type 0} {cmp : K → K → Ordering} (o : IsTotalOrder cmp) (key :
 -- numbers that rise keep their comparison
 less_again : (a b c d : ℕ) → (a < b → c < d) → nat_cmp a b ≡ Less → nat_cmp c d ≡ Less
 less_again a b c d up less =
-    let lt : a < b = by_ranked (a < b) (a ≡ b) (b < a) (nat_cmp a b) (ranked a b _ refl) (λ _ lt. lt) (λ e _. absurd (cc)) (λ e _. absurd (cc)) in
+    let lt : a < b =
+    by_ranked (a < b) (a ≡ b) (b < a) (nat_cmp a b) (ranked a b _ refl) (λ _ lt. lt) (λ e _. absurd (cc))
+    (λ e _. absurd (cc)) in
     sym (nat_cmp_is c d Less (up lt))
 
--- a tie that is broken the same way again
+-- a comparison with ties stays Less, if the way that breaks the tie stays Less
 then_again : (r s t : Ordering) → (s ≡ Less → t ≡ Less) → ordering_then r s ≡ Less → ordering_then r t ≡ Less
 then_again Less s t again e = refl
 then_again Equal s t again e = again e

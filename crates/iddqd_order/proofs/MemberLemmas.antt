@@ -11,7 +11,8 @@ module _ (xs : List ℕ) (place ix : ℕ) where
   contains-inserted_at = Contains-permutation (ix ∷ xs) (insert xs place ix) ix moved (contains_head ix xs)
 
   pub contains-inserted_other : (j : ℕ) → Contains xs j → Contains (insert xs place ix) j
-  contains-inserted_other j here = Contains-permutation (ix ∷ xs) (insert xs place ix) j moved (contains_tail ix j xs here)
+  contains-inserted_other j here =
+      Contains-permutation (ix ∷ xs) (insert xs place ix) j moved (contains_tail ix j xs here)
 
   pub contains-inserted_cases : (j : ℕ) → Contains (insert xs place ix) j → (j ≡ ix) ⊎ Contains xs j
   contains-inserted_cases j here =
@@ -24,7 +25,7 @@ twice : (b : Bool) → b ≡ not (not b)
 twice true = refl
 twice false = refl
 
--- the members but for one
+-- the members except one
 module _ (xs : List ℕ) (ix j : ℕ) where
   pub contains-without : Contains xs j → j ≢ ix → Contains (without xs ix) j
   contains-without here other =
@@ -36,11 +37,13 @@ module _ (xs : List ℕ) (ix j : ℕ) where
 
   pub contains-from_without : Contains (without xs ix) j → Contains xs j × (j ≢ ix)
   contains-from_without here = (
-    All-contains (Contains xs) (without xs ix) j (All-filter (λ k. not (k == ix)) (Contains xs) xs (All-contains_itself xs)) here,
+    All-contains (Contains xs) (without xs ix) j
+        (All-filter (λ k. not (k == ix)) (Contains xs) xs (All-contains_itself xs)) here,
     eqb-false j ix (not-true (j == ix) (All-contains (λ k. not (k == ix) ≡ true) (without xs ix) j (filter_passes (λ k. not (k == ix)) xs) here)),
   )
 
 -- names that agree on the members of a list give it one list of names
 pub map-alike : (f g : ℕ → ℕ) (xs : List ℕ) → ((x : ℕ) → Contains xs x → f x ≡ g x) → map f xs ≡ map g xs
 map-alike f g [] same = refl
-map-alike f g (x ∷ xs) same = λ i. same x (contains_head x xs) i ∷ map-alike f g xs (λ y here. same y (contains_tail x y xs here)) i
+map-alike f g (x ∷ xs) same =
+    λ i. same x (contains_head x xs) i ∷ map-alike f g xs (λ y here. same y (contains_tail x y xs here)) i

@@ -31,12 +31,14 @@ pub record IsSized (h : ℕ) (n : Node) : Type 0 where
 pub formed-sized : (h : ℕ) (n : Node) → IsFormed h n → IsSized h n × All (IsChild (h - 1)) (children n)
 unfolding IsFormed
 formed-sized zero n f = (record { within = f.within; count = ap length f.childless; has_room = omega arith }, rw f.childless (All-nil (IsChild 0)))
-formed-sized (suc h) n f = (record { within = f.0.within; count = f.0.one_more; has_room = f.0.has_room }, rw sub-one f.1)
+formed-sized (suc h) n f =
+    (record { within = f.0.within; count = f.0.one_more; has_room = f.0.has_room }, rw sub-one f.1)
 
 pub sized-formed : (h : ℕ) (n : Node) → IsSized h n → All (IsChild (h - 1)) (children n) → IsFormed h n
 unfolding IsFormed
 sized-formed zero n s below = record { within = s.within; childless = nil_from_length (children n) s.count }
-sized-formed (suc h) n s below = (record { within = s.within; one_more = s.count; has_room = s.has_room }, rw sub-one at below)
+sized-formed (suc h) n s below =
+    (record { within = s.within; one_more = s.count; has_room = s.has_room }, rw sub-one at below)
 
 -- its list
 pub flat-sized : (h : ℕ) (n : Node) → IsSized h n → flat h n ≡ weave (row n) (lists (h - 1) (children n))
@@ -92,11 +94,12 @@ neighbours h i j xs ks l r low high lt f el er =
       right = right;
       left_is = rw el (each i l (omega arith));
       right_is = rw right (each (suc i) r (omega arith));
-      before = λ k d w. rw (get_or-take i ks k d (omega arith)) (f.others k d (omega arith) (λ e. absurd (omega arith)));
+      before =
+          λ k d w. rw (get_or-take i ks k d (omega arith)) (f.others k d (omega arith) (λ e. absurd (omega arith)));
       behind = λ k d w. rw (get_or-drop (suc (suc i)) ks k d) (f.others (suc (suc i) + k) d (omega arith) (λ e. absurd (omega arith)));
     }
 
--- with others in their place the order is as before
+-- two neighbours are replaced by nodes with the same indexes: the whole order stays
 woven :
     (h i : ℕ) (xs ys : List ℕ) (ks ls : List Node) (l r : Node)
     → i < length xs
@@ -113,9 +116,12 @@ woven h i (x ∷ xs) ys (k ∷ []) ls l r lt e el er n s = absurd (omega arith)
 woven h zero (x ∷ xs) ys (k ∷ (k2 ∷ ks)) ls l r lt e el er n s =
     let f : Node → List ℕ = λ k. flat h k in
     let b : List ℕ = rest xs (lists h ks) in
-    ap (weave (ys ++ xs)) (map-append f ls ks) ∙ weave-more ys xs (lists h ls) (lists h ks) (omega (arith, n, length-map ls f))
-    ∙ ap (λ z. z ++ b) (s ∙ (λ j. f (el j) ++ x ∷ f (er j))) ∙ append_assoc (f k) (x ∷ f k2) b ∙ ap (λ z. f k ++ x ∷ z) (sym (weave-more [] xs (f k2 ∷ []) (lists h ks) refl))
-woven h (suc i) (x ∷ xs) ys (k ∷ (k2 ∷ ks)) ls l r lt e el er n s = ap (λ z. flat h k ++ x ∷ z) (woven h i xs ys (k2 ∷ ks) ls l r (omega arith) (omega arith) el er n s)
+    ap (weave (ys ++ xs)) (map-append f ls ks)
+    ∙ weave-more ys xs (lists h ls) (lists h ks) (omega (arith, n, length-map ls f))
+    ∙ ap (λ z. z ++ b) (s ∙ (λ j. f (el j) ++ x ∷ f (er j))) ∙ append_assoc (f k) (x ∷ f k2) b
+    ∙ ap (λ z. f k ++ x ∷ z) (sym (weave-more [] xs (f k2 ∷ []) (lists h ks) refl))
+woven h (suc i) (x ∷ xs) ys (k ∷ (k2 ∷ ks)) ls l r lt e el er n s =
+    ap (λ z. flat h k ++ x ∷ z) (woven h i xs ys (k2 ∷ ks) ls l r (omega arith) (omega arith) el er n s)
 
 mended :
     (h i : ℕ) (xs ys : List ℕ) (ks ls : List Node) (l r : Node)
@@ -144,7 +150,9 @@ set_pair :
     → suc i < length ks
     → set (set ks i l) (suc i) r ≡ take i ks ++ l ∷ r ∷ drop (suc (suc i)) ks
 set_pair ks i l r lt =
-    set_split (set ks i l) (suc i) r (omega (arith, length-set ks i l)) ∙ (λ j. take-suc-set ks i l (omega arith) j ++ r ∷ drop-set-lt (suc (suc i)) ks i l (omega arith) j) ∙ append_assoc (take i ks) (l ∷ []) (r ∷ drop (suc (suc i)) ks)
+    set_split (set ks i l) (suc i) r (omega (arith, length-set ks i l))
+    ∙ (λ j. take-suc-set ks i l (omega arith) j ++ r ∷ drop-set-lt (suc (suc i)) ks i l (omega arith) j)
+    ∙ append_assoc (take i ks) (l ∷ []) (r ∷ drop (suc (suc i)) ks)
 
 set_joined :
     (ks : List Node) (i : ℕ) (one : Node)
@@ -152,9 +160,11 @@ set_joined :
     → set (remove ks (suc i)) i one ≡ take i ks ++ one ∷ drop (suc (suc i)) ks
 set_joined ks i one lt =
     let behind : List Node = drop (suc (suc i)) ks in
-    ap (λ z. set (z ++ behind) i one) (take-suc ks i one (omega arith)) ∙ ap (λ z. set z i one) (append_assoc (take i ks) (get_or ks i one ∷ []) behind) ∙ set_at (take i ks) (get_or ks i one) behind one i (length-take-le i ks (omega arith))
+    ap (λ z. set (z ++ behind) i one) (take-suc ks i one (omega arith))
+    ∙ ap (λ z. set z i one) (append_assoc (take i ks) (get_or ks i one ∷ []) behind)
+    ∙ set_at (take i ks) (get_or ks i one) behind one i (length-take-le i ks (omega arith))
 
--- the two and the index between them, shared out anew
+-- the indexes of two neighbours, and the one between them, are distributed anew
 mended-shared :
     (h i : ℕ) (xs : List ℕ) (ks : List Node) (l r new_l : Node) (m : ℕ) (new_r : Node)
     → AreNeighbours h i xs ks l r
@@ -168,21 +178,23 @@ mended-shared h i xs ks l r new_l m new_r n rows below left right =
     let P : Node → Type 0 = IsChild (h - 1) in
     let a = formed-sized h l n.left_is.1 in let b = formed-sized h r n.right_is.1 in
     let every : All P (children new_l ++ children new_r) = rw below (All-append P (children l) (children r) a.1 b.1) in
-    let low : IsChild h new_l = (left.0, sized-formed h new_l left.1 (All-front P (children new_l) (children new_r) every)) in
-    let high : IsChild h new_r = (right.0, sized-formed h new_r right.1 (All-back P (children new_l) (children new_r) every)) in
+    let low : IsChild h new_l =
+    (left.0, sized-formed h new_l left.1 (All-front P (children new_l) (children new_r) every)) in
+    let high : IsChild h new_r =
+    (right.0, sized-formed h new_r right.1 (All-back P (children new_l) (children new_r) every)) in
     rw (add-one i, set_split xs i m at, set_pair ks i new_l new_r (omega arith))
     (mended h i xs (m ∷ []) ks (new_l ∷ new_r ∷ []) l r n refl (omega arith) (All-cons (IsChild h) new_l (new_r ∷ []) low (All-cons (IsChild h) new_r [] high (All-nil (IsChild h))))
     (flat-pair h new_l m new_r left.1 right.1 ∙ (λ j. weave (rows j) (lists (h - 1) (below j))) ∙ sym (flat-pair h l (get_or xs i 0) r a.0 b.0)))
 
--- an index, and a child if there is one, went from the end of the one to the beginning of the other, by the index
--- between
+-- the last index of l moved up between the nodes, the index x between them moved to the beginning of r, and so did the
+-- last child of l, if there is one
 pub record IsPassed (l : Node) (x : ℕ) (r new_l : Node) (m : ℕ) (new_r : Node) (moved : Option Node) : Type 0 where
   pub left : row l ≡ row new_l ++ m ∷ []
   pub right : row new_r ≡ x ∷ row r
   pub left_children : children l ≡ children new_l ++ option_to_list moved
   pub right_children : children new_r ≡ option_to_list moved ++ children r
 
--- all is kept, and where the one has as many children as it is to have, so has the other
+-- then all indexes and children are kept, and the numbers of children are right if they were before
 record Passed (h : ℕ) (l : Node) (x : ℕ) (r new_l : Node) (m : ℕ) (new_r : Node) : Type 0 where
   pub rows : row new_l ++ m ∷ row new_r ≡ row l ++ x ∷ row r
   pub below : children new_l ++ children new_r ≡ children l ++ children r
@@ -193,7 +205,7 @@ record Passed (h : ℕ) (l : Node) (x : ℕ) (r new_l : Node) (m : ℕ) (new_r :
   pub right_count :
       length (children new_r) + arity h (length (row r)) ≡ length (children r) + arity h (length (row new_r))
 
--- as many children go as one index more or less asks for
+-- one child moves above the leaves, and none at a leaf
 moved-one : (h k : ℕ) (moved : Option Node) → IsSome moved ↔ (0 < arity h k) → length (option_to_list moved) ≡ arity h 0
 moved-one zero k None iff = refl
 moved-one zero k (Some c) iff = absurd (omega (arith, iff.0 refl))
@@ -208,13 +220,20 @@ passed :
 passed h l x r new_l m new_r moved p one =
     let left : length (row l) ≡ length (row new_l) + 1 = simp length-append at (ap length p.left) in
     let right : length (row new_r) ≡ suc (length (row r)) = ap length p.right in
-    let left_count : length (children l) ≡ length (children new_l) + length (option_to_list moved) = simp length-append at (ap length p.left_children) in
-    let right_count : length (children new_r) ≡ length (option_to_list moved) + length (children r) = simp length-append at (ap length p.right_children) in
+    let left_count : length (children l) ≡ length (children new_l) + length (option_to_list moved) =
+    simp length-append at (ap length p.left_children) in
+    let right_count : length (children new_r) ≡ length (option_to_list moved) + length (children r) =
+    simp length-append at (ap length p.right_children) in
     let shrinks = arity-joined h (length (row new_l)) 0 (length (row l)) left in
     let grows = arity-joined h 0 (length (row r)) (length (row new_r)) (omega arith) in
     record {
-      rows = ap (λ z. row new_l ++ m ∷ z) p.right ∙ sym (append_assoc (row new_l) (m ∷ []) (x ∷ row r)) ∙ ap (λ z. z ++ x ∷ row r) (sym p.left);
-      below = ap (λ z. children new_l ++ z) p.right_children ∙ sym (append_assoc (children new_l) (option_to_list moved) (children r)) ∙ ap (λ z. z ++ children r) (sym p.left_children);
+      rows =
+          ap (λ z. row new_l ++ m ∷ z) p.right ∙ sym (append_assoc (row new_l) (m ∷ []) (x ∷ row r))
+          ∙ ap (λ z. z ++ x ∷ row r) (sym p.left);
+      below =
+          ap (λ z. children new_l ++ z) p.right_children
+          ∙ sym (append_assoc (children new_l) (option_to_list moved) (children r))
+          ∙ ap (λ z. z ++ children r) (sym p.left_children);
       left = left;
       right = omega arith;
       left_count = omega arith;
@@ -257,7 +276,8 @@ moved-left h i xs ks l r new_l new_r x first moved n more few ex p some same_roo
     let a = (formed-sized h l n.left_is.1).0 in let b = (formed-sized h r n.right_is.1).0 in
     let k = passed h new_l first new_r l x r moved p (moved-one h (length (row r)) moved (rw b.count at some)) in
     let four = n.left_is.0 in let low = k.left in let high = k.right in
-    rw (set_comm ks (i + 1) i new_r new_l (λ e. absurd (omega arith))) (mended-shared h i xs ks l r new_l first new_r n (sym k.rows ∙ ap (λ z. row l ++ z ∷ row r) ex) (sym k.below)
+    rw (set_comm ks (i + 1) i new_r new_l (λ e. absurd (omega arith)))
+    (mended-shared h i xs ks l r new_l first new_r n (sym k.rows ∙ ap (λ z. row l ++ z ∷ row r) ex) (sym k.below)
     (omega arith, record { within = omega arith; count = omega (arith, a.count, k.left_count); has_room = omega (arith, a.has_room) })
     (omega arith, record { within = omega (arith, b.within); count = omega (arith, b.count, k.right_count); has_room = omega (arith, b.has_room) }))
 
@@ -295,8 +315,14 @@ join-fits h j i xs ks l r low high lt f few el er =
     let er2 : get_or ks (i + 1) l ≡ r = get_or_default ks (i + 1) l r (omega arith) ∙ sym er in
     let n = neighbours h i j xs ks l r low high lt f el2 er in
     let a = (formed-sized h l n.left_is.1).0 in let b = (formed-sized h r n.right_is.1).0 in
-    let sum : length (row l) + length (row r) < CAPACITY = subst (λ z. length (row l) + length (row z) < CAPACITY) er2 (subst (λ z. length (row z) + length (row (get_or ks (i + 1) l)) < CAPACITY) (sym el2) (few l)) in
-    record { pair = n; fits = sum; room_is = omega (arith, a.count, b.count, a.has_room, arity-fits h (length (row l)) (length (row r)) sum) }
+    let sum : length (row l) + length (row r) < CAPACITY =
+    subst (λ z. length (row l) + length (row z) < CAPACITY) er2
+    (subst (λ z. length (row z) + length (row (get_or ks (i + 1) l)) < CAPACITY) (sym el2) (few l)) in
+    record {
+      pair = n;
+      fits = sum;
+      room_is = omega (arith, a.count, b.count, a.has_room, arity-fits h (length (row l)) (length (row r)) sum);
+    }
 
 -- the right one was joined to the left one
 pub merged :
@@ -312,9 +338,11 @@ merged h i xs ks l r one x j ex rows below more =
     let P : Node → Type 0 = IsChild (h - 1) in
     let a = formed-sized h l n.left_is.1 in let b = formed-sized h r n.right_is.1 in
     let long : length (row one) ≡ length (row l) + suc (length (row r)) = simp length-append at (ap length rows) in
-    let count : length (children one) ≡ length (children l) + length (children r) = simp length-append at (ap length below) in
+    let count : length (children one) ≡ length (children l) + length (children r) =
+    simp length-append at (ap length below) in
     let s : IsSized h one = record { within = omega arith; count = omega (arith, a.0.count, b.0.count, arity-joined h (length (row l)) (length (row r)) (length (row one)) long); has_room = omega (arith, a.0.has_room) } in
-    let child : IsChild h one = (omega arith, sized-formed h one s (rw below (All-append P (children l) (children r) a.1 b.1))) in
+    let child : IsChild h one =
+    (omega arith, sized-formed h one s (rw below (All-append P (children l) (children r) a.1 b.1))) in
     rw (add-one i, set_joined ks i one (omega arith))
     (mended h i xs [] ks (one ∷ []) l r n refl (omega arith) (All-cons (IsChild h) one [] child (All-nil (IsChild h)))
     (flat-sized h one s ∙ (λ k. weave (rows k) (lists (h - 1) (below k))) ∙ sym (flat-pair h l x r a.0 b.0) ∙ ap (λ z. flat h l ++ z ∷ flat h r) ex))

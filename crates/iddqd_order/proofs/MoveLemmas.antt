@@ -1,4 +1,4 @@
--- For callers: an index that is taken out of a list and put in again: what may be asked in between, and what was.
+-- For callers. An index is removed from a list and inserted again: what may be asked in between, and what was asked.
 use Rattle.iddqd_order.proofs.Names.{◌≡◌, ◌*◌, ◌<◌, ◌≤◌, ◌==◌, ℕ, Bool, true, false, not, List, [], ◌∷◌, length, refl, sym, ap, ◌∙◌, arith, cases_eq, inl, inr, nat_tests, IsTrue, is_some, ◌↔◌, Option, Some, Contains, Ordering, Mut, Asking, AsksWithin, Askable, CanSearch, bound, without, order_of, Order}
 use Rattle.std.proofs.lemmas.List.Filters.{length-filter_both}
 use Rattle.iddqd_order.specs.PreparedBTreeMove.{PutsIn}
@@ -14,7 +14,7 @@ use Rattle.iddqd_order.proofs.MemberLemmas.{contains-without, contains-from_with
 pub absent-without : (xs : List ℕ) (ix : ℕ) → Contains (without xs ix) ix → ⊥
 absent-without xs ix held = (contains-from_without xs ix ix held).1 refl
 
--- a removal by a way that there is exactly where the index is stored
+-- a removal along a path that is found if and only if the index is stored
 pub removed-anyway :
     {W : Type 0} (found : Bool) (way : Option W) (old new : Order) (ix : ℕ)
     → found ≡ is_some way
@@ -24,7 +24,8 @@ pub removed-anyway :
     → order_of new ≡ without (order_of old) ix
 removed-anyway true way old new ix e there removed kept = removed refl
 removed-anyway false way old new ix e there removed kept =
-    (λ i. order_of (kept refl i)) ∙ sym (without-missing (order_of old) ix (λ held. let t = e ∙ there.1 held in absurd (cc)))
+    (λ i. order_of (kept refl i))
+    ∙ sym (without-missing (order_of old) ix (λ held. let t = e ∙ there.1 held in absurd (cc)))
 
 opposite : (b : Bool) → b ≡ not (not b)
 opposite true = refl
@@ -52,7 +53,7 @@ without-fewer (x ∷ xs) ix held =
           ])
     ]
 
--- the blocks of a move do for the insert, since one index fewer stands then
+-- the blocks of a move are enough for the insert, since one index fewer is stored then
 pub move-left :
     (old mid : Order) (ix blocks : ℕ)
     → length (without (order_of old) ix) < length (order_of old)
@@ -109,7 +110,9 @@ module _ {F R : Type 0} (g : Mut F (ℕ × Unit {0}) R) (xs : List ℕ) (ix : �
       → SearchAsks g xs (Some ix) a b
       → SearchAsks g (without xs ix) (Some ix) b c
       → AsksWithin g among (2 * bound (length xs)) a c
-  asked-both left inserted = let less = fewer xs ix in asks_more g among (omega arith) (asks_then g among left (asks_wider g others among wider inserted))
+  asked-both left inserted =
+      let less = fewer xs ix in
+      asks_more g among (omega arith) (asks_then g among left (asks_wider g others among wider inserted))
 
   pub puts-then :
       {read : R → Ordering} {a b : Asking F} {ys : List ℕ}

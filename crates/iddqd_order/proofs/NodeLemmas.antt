@@ -55,7 +55,8 @@ pub lists-one_more :
     → h ≢ 0
     → IsFormed h n
     → length (lists (h - 1) (children n)) ≡ length (row n) + 1
-lists-one_more h n ne f = let one = (formed-inner h n ne f).inner.one_more in omega (arith, length-map (children n) (λ k. flat (h - 1) k))
+lists-one_more h n ne f =
+    let one = (formed-inner h n ne f).inner.one_more in omega (arith, length-map (children n) (λ k. flat (h - 1) k))
 
 pub lists-at :
     (h : ℕ) (n : Node) (i : ℕ)
@@ -216,7 +217,8 @@ pub place_at_level-below :
     + place_at_level l (h - 1) (child n (slice_index p h)) p
 unfolding place_at_level
 place_at_level-below l zero n p ne e = absurd (ne refl)
-place_at_level-below l (suc h) n p ne e = let t : nat_eq l (suc h) ≡ false = ne_eqb l (suc h) (λ z. e (sym z)) in rw (t, sub-one)
+place_at_level-below l (suc h) n p ne e =
+    let t : nat_eq l (suc h) ≡ false = ne_eqb l (suc h) (λ z. e (sym z)) in rw (t, sub-one)
 
 -- a place of a row, and one of a list between its indexes, is one of the whole list
 IsPlaceIn-le : (stop : Stop) (i count : ℕ) → IsPlaceIn stop i count → i ≤ count
@@ -262,7 +264,8 @@ place_at_level-within {stop = stop} l (suc h) n p f w =
           (let t : nat_eq l (suc h) ≡ false = ne_eqb l (suc h) e in
           let le = w.passes.0 in
           let down = w.passes.2 (omega arith) in
-          let below = place_at_level-within {stop = stop} l h (child n i) p (f.1 i n down.0).1 (record { passes = down.1 }) in
+          let below =
+          place_at_level-within {stop = stop} l h (child n i) p (f.1 i n down.0).1 (record { passes = down.1 }) in
           rw t (IsPlaceIn-list stop i (row n) ks (place_at_level l h (child n i) p) (omega arith) (omega arith) (rw (lists-at h n i down.0) below)))
     ]
 

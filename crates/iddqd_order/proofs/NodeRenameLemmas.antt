@@ -22,7 +22,8 @@ weave-each :
     → All P (weave xs ks)
     → All P (get_or ks i d)
 weave-each P xs ks i d e lt a =
-    All-front P (get_or ks i d) (after i xs ks) (All-back P (before i xs ks) (get_or ks i d ++ after i xs ks) (subst (λ z. All P z) (apart i xs ks d lt e) a))
+    All-front P (get_or ks i d) (after i xs ks)
+    (All-back P (before i xs ks) (get_or ks i d ++ after i xs ks) (subst (λ z. All P z) (apart i xs ks d lt e) a))
 
 -- the new names of all woven together
 weave-map :
@@ -34,7 +35,8 @@ weave-map f (x ∷ xs) (k ∷ ks) = map-append f k (x ∷ weave xs ks) ∙ ap (�
 
 -- what a node's own indexes may be asked
 pub own-can : (P : ℕ → Type 0) (h : ℕ) (n : Node) → IsFormed h n → All P (flat h n) → All P (row n)
-own-can P h n f a = weave-own P (row n) (lists (h - 1) (children n)) (subst (All P) (flat-sized h n (formed-sized h n f).0) a)
+own-can P h n f a =
+    weave-own P (row n) (lists (h - 1) (children n)) (subst (All P) (flat-sized h n (formed-sized h n f).0) a)
 
 -- one node with the indexes of another under new names, and its shape
 pub record IsRenamed (f : ℕ → ℕ) (h : ℕ) (old new : Node) : Type 0 where
@@ -59,15 +61,20 @@ renamed f h old new fo er has_room count each =
     let arities = ap (arity h) rows in
     let g : Node → List ℕ = λ k. flat (h - 1) k in
     let olds : List (List ℕ) = lists (h - 1) (children old) in
-    let ln = length-map (children new) g in let lo = length-map (children old) g in let lm = length-map olds (λ k. map f k) in
+    let ln = length-map (children new) g in
+    let lo = length-map (children old) g in
+    let lm = length-map olds (λ k. map f k) in
     let below : lists (h - 1) (children new) ≡ map (λ k. map f k) olds = same_lists (lists (h - 1) (children new)) (map (λ k. map f k) olds) (omega arith)
     (λ j d lt. get_or-map g (children new) j old d (omega arith) ∙ (each j old (omega arith)).items ∙ ap (map f) (sym (get_or-map g (children old) j old d (omega arith)))
     ∙ sym (get_or-map (λ k. map f k) olds j d d (omega arith))) in
-    let s : IsSized h new = record { within = omega (arith, a.0.within); count = omega (arith, a.0.count); has_room = has_room } in
+    let s : IsSized h new =
+    record { within = omega (arith, a.0.within); count = omega (arith, a.0.count); has_room = has_room } in
     record {
       formed = sized-formed h new s (λ j d lt. let e = each j d (omega arith) in let five = (a.1 j d (omega arith)).0 in let long = e.same_length in (omega arith, e.formed));
       same_length = rows;
-      items = flat-sized h new s ∙ (λ j. weave (er j) (below j)) ∙ sym (weave-map f (row old) olds) ∙ ap (map f) (sym (flat-sized h old a.0));
+      items =
+          flat-sized h new s ∙ (λ j. weave (er j) (below j)) ∙ sym (weave-map f (row old) olds)
+          ∙ ap (map f) (sym (flat-sized h old a.0));
       inners = inners-alike h old new count (λ j d lt. (each j d lt).inners);
     }
 
@@ -112,7 +119,8 @@ next-can P f h i old now g ne fo can a lt is =
     let lists_one = lists-one_more h old ne fo in let one = (formed-inner h old ne fo).inner.one_more in
     let here : i < length (children old) = omega (arith, a.length_is) in
     let was : get_or (children old) i g ≡ g = sym (is ∙ a.rest i g (omega arith)) in
-    let list : get_or (lists (h - 1) (children old)) i [] ≡ flat (h - 1) g = get_or-map (λ k. flat (h - 1) k) (children old) i g [] here ∙ ap (λ z. flat (h - 1) z) was in (
+    let list : get_or (lists (h - 1) (children old)) i [] ≡ flat (h - 1) g =
+    get_or-map (λ k. flat (h - 1) k) (children old) i g [] here ∙ ap (λ z. flat (h - 1) z) was in (
       subst (λ z. IsFormed (h - 1) z) was ((formed-inner h old ne fo).below i g here).1,
       subst (All P) list (weave-each P (row old) (lists (h - 1) (children old)) i [] lists_one (omega arith) (subst (All P) (flat-inner h old ne) can)),
     )

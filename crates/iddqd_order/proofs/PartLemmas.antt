@@ -3,7 +3,7 @@ use Rattle.iddqd_order.proofs.Names.{◌≡◌, ◌∙◌, ℕ, ◌+◌, ◌-◌
 use Rattle.iddqd_order.proofs.AskLemmas.{asks_then, asks_more, asks_wider, Steady-fewer, Steady-later}
 use Rattle.iddqd_order.proofs.SearchLemmas.{AreSplit}
 
--- the members of xs stand in ws in their order, the i-th one at e i
+-- the members of xs stand in ws in the same order, the i-th one at the place e i
 pub record Embeds (xs ws : List ℕ) (e : ℕ → ℕ) : Type 0 where
   pub within : (i : ℕ) → i < length xs → e i < length ws
   pub at : (i : ℕ) → i < length xs → get_or ws (e i) 0 ≡ get_or xs i 0
@@ -76,13 +76,17 @@ module _ {F R : Type 0} (g : Mut F (ℕ × Unit {0}) R) (read : R → Ordering) 
           {k : ℕ} {new : Asking F}
           → AsksWithin g (Askable xs sought) k mid new
           → AsksWithin g (Askable ws sought) (n + k) old new
-      asked-part p = asks_then g (Askable ws sought) led (asks_wider g (Askable xs sought) (Askable ws sought) (Askable-whole m sought) p)
+      asked-part p =
+          asks_then g (Askable ws sought) led
+          (asks_wider g (Askable xs sought) (Askable ws sought) (Askable-whole m sought) p)
 
       steady-part :
           (answer : ℕ → Ordering)
           → Steady g (Askable ws sought) read answer (closure_of old)
           → Steady g (Askable xs sought) read answer (closure_of mid)
-      steady-part answer s = Steady-fewer g (Askable xs sought) (Askable ws sought) (Askable-whole m sought) (Steady-later g (Askable ws sought) led.after s)
+      steady-part answer s =
+          Steady-fewer g (Askable xs sought) (Askable ws sought) (Askable-whole m sought)
+          (Steady-later g (Askable ws sought) led.after s)
 
       -- a hit in the part is one in the whole
       pub Searches-hit :

@@ -71,16 +71,18 @@ pub bound-met :
     → (a b : Asking F) (i : ℕ)
     → Searches g (λ r. ordering_then (read r) e) xs None a (Err i) b
     → IsBoundBy g read e xs a i
-bound-met g read xs e ne a b i s answer rises = s.place (λ ix. ordering_then (answer ix) e) (steady-counted g read xs e ne answer a rises)
+bound-met g read xs e ne a b i s answer rises =
+    s.place (λ ix. ordering_then (answer ix) e) (steady-counted g read xs e ne answer a rises)
 
--- what the answers make the bound after some asks was so before
+-- a bound by the answers after some asks is a bound by the answers before them
 pub bound-before :
     {F R : Type 0} (g : Mut F (ℕ × Unit {0}) R) (read : R → Ordering) (xs : List ℕ) (e : Ordering) {k : ℕ}
     {a b : Asking F} {i : ℕ}
     → AsksWithin g (Askable xs None) k a b
     → IsBoundBy g read e xs b i
     → IsBoundBy g read e xs a i
-bound-before g read xs e asks bound answer rises = bound answer (record { steady = Steady-later g (Askable xs None) asks.after rises.steady; rising = rises.rising })
+bound-before g read xs e asks bound answer rises =
+    bound answer (record { steady = Steady-later g (Askable xs None) asks.after rises.steady; rising = rises.rising })
 
 pub ends-before :
     {F R : Type 0} (g : Mut F (ℕ × Unit {0}) R) (xs : List ℕ) (upper : Bound (R → Ordering)) {k : ℕ} {a b : Asking F}
@@ -102,14 +104,15 @@ part-empty i j xs le within = (
 pub part-rest : (i : ℕ) (xs : List ℕ) → part i (length xs) xs ≡ drop i xs
 part-rest i xs = take_all (length xs - i) (drop i xs) (omega (arith, length-drop i xs))
 
--- and whether any is, by how the gaps stand
+-- and whether any index is left, by a comparison of the gaps
 pub ended-told :
     (r : Ordering) (i j : ℕ) (xs : List ℕ)
     → Compares r i j
     → i ≤ j
     → j ≤ length xs
     → IsTrue (is_eq r) ↔ (part i j xs ≡ [])
-ended-told Less i j xs lt le within = (λ t. absurd (cc), λ e. absurd (let same = (part-empty i j xs le within).1 e in omega arith))
+ended-told Less i j xs lt le within =
+    (λ t. absurd (cc), λ e. absurd (let same = (part-empty i j xs le within).1 e in omega arith))
 ended-told Equal i j xs e le within = (λ t. (part-empty i j xs le within).0 e, λ z. refl)
 ended-told Greater i j xs gt le within = absurd (omega arith)
 
@@ -121,7 +124,8 @@ pub some-left :
     → i ≤ k
     → k ≤ length xs
     → k - i ≢ 0
-some-left i k xs b told some le within none = let t = told.1 ((part-empty i k xs le within).0 (omega arith)) in absurd (cc)
+some-left i k xs b told some le within none =
+    let t = told.1 ((part-empty i k xs le within).0 (omega arith)) in absurd (cc)
 
 -- after a step from the one end or the other
 pub part-ahead :

@@ -26,10 +26,12 @@ least m (suc h) n f le =
     let one = f.0.one_more in
     let power : 6 ^ suc h ≡ 6 ^ h * 6 = pow-suc 6 h in
     let every : All (λ k. 6 ^ suc h ≤ length k + 1) (lists h (children n)) =
-    All-map (λ k. 6 ^ suc h ≤ length k + 1) (λ k. flat h k) (children n) (λ i d lt. let e = f.1 i d lt in let l = least LEAST h _ e.1 e.0 in omega arith) in
+    All-map (λ k. 6 ^ suc h ≤ length k + 1) (λ k. flat h k) (children n)
+    (λ i d lt. let e = f.1 i d lt in let l = least LEAST h _ e.1 e.0 in omega arith) in
     let len = length-map (children n) (λ k. flat h k) in
     let w = wide (6 ^ suc h) (row n) (lists h (children n)) (omega arith) every in
-    let more : (m + 1) * 6 ^ suc h ≤ length (lists h (children n)) * 6 ^ suc h = mul-le-mul_right (6 ^ suc h) (omega arith) in
+    let more : (m + 1) * 6 ^ suc h ≤ length (lists h (children n)) * 6 ^ suc h =
+    mul-le-mul_right (6 ^ suc h) (omega arith) in
     omega arith
 
 power_pos : (h : ℕ) → 1 ≤ 6 ^ h

@@ -35,7 +35,8 @@ inners-joined : (h : ℕ) (l r one : Node) → children one ≡ children l ++ ch
     → inners h one + min 1 h ≡ inners h l + inners h r
 unfolding inners
 inners-joined zero l r one e = refl
-inners-joined (suc h) l r one e = omega (arith, ap (inners_of h) e, sum_by-append (λ k. inners h k) (children l) (children r))
+inners-joined (suc h) l r one e =
+    omega (arith, ap (inners_of h) e, sum_by-append (λ k. inners h k) (children l) (children r))
 
 -- two of the children were changed, and have as many inner nodes as before
 pub inners-two_set : (h i j : ℕ) (ks : List Node) (a b new_a new_b : Node) → i < length ks → j < length ks
@@ -60,12 +61,12 @@ pub children-room : (h : ℕ) (n : Node) → IsFormed h n → 0 < length (childr
 children-room zero n f some = absurd (omega (arith, (formed-sized zero n f).0.count))
 children-room (suc h) n f some = (formed-sized (suc h) n f).0.has_room
 
--- below a node that is counted fewer are
+-- a child has fewer inner nodes than its parent
 pub child-counted : (h i : ℕ) (n g : Node) → h ≢ 0 → i < length (children n) → g ≡ get_or (children n) i g
     → inners (h - 1) g + 1 ≤ inners h n
 child-counted h i n g ne lt is = omega (arith, inners-inner h n ne, get_or-le-sum_by (λ k. inners (h - 1) k) (children n) i g lt, ap (inners (h - 1)) is)
 
--- nothing was counted before, and nothing is now
+-- there were no inner nodes before, and there are none now
 pub unchanged : {was now : ℕ} (r : Reserved) → was ≡ 0 → now ≡ 0 → Recounts r r was now
 unchanged r e f = record { inners = omega arith; reserved = refl }
 

@@ -30,10 +30,12 @@ ends-inner h l i n p ne e ei f w =
     record {
       within = at;
       here = here;
-      place = place_at_level-at l h n p ne e ∙ ap (λ z. b z + length (flat (h - 1) (child n z))) (sym ei) ∙ ap (λ z. b i + length z) (sym (lists-at (h - 1) n i here));
+      place =
+          place_at_level-at l h n p ne e ∙ ap (λ z. b z + length (flat (h - 1) (child n z))) (sym ei)
+          ∙ ap (λ z. b i + length z) (sym (lists-at (h - 1) n i here));
     }
 
--- a node's indexes and children after an index was taken from the i-th child: they hold `left`
+-- A node's indexes and children, after an index was removed below the i-th child: together they hold `left`.
 pub record TookBelow (h i : ℕ) (old : Node) (xs : List ℕ) (ks : List Node) (left : List ℕ) : Type 0 where
   pub ne : h ≢ 0
   pub inner : IsInner old
@@ -69,12 +71,13 @@ took h i old g k xs left ne f some lt is_g same fk few items =
         one_more = omega arith;
         here = omega arith;
         at = λ d. rw (get_or-set_same (children old) i k d lt) (four, fk);
-        others = λ j d q apart_from. rw (get_or-set_other (children old) i j k d apart_from) (fs.below j d (omega arith));
+        others =
+            λ j d q apart_from. rw (get_or-set_other (children old) i j k d apart_from) (fs.below j d (omega arith));
       };
       items = items;
     }
 
--- all of the node, where an index was taken from the i-th child, of which k is left
+-- all indexes of the node, after a removal below its i-th child that leaves k of it
 woven-taken :
     (l h i : ℕ) (old k : Node) (p : List ℕ)
     → IsFormed h old
@@ -89,8 +92,10 @@ woven-taken l h i old k p f b items =
     let lt : q < length (get_or ks i []) = rw at b.within in
     let is : flat (h - 1) k ≡ remove (get_or ks i []) q = rw at items in
     ap (λ z. weave (row old) z) (map-set (λ k. flat (h - 1) k) (children old) i k)
-    ∙ weave-taken i (row old) ks [] (flat (h - 1) k) q (omega (arith, length-map (children old) (λ k. flat (h - 1) k))) (lists-one_more h old b.inner f) lt is
-    ∙ ap (λ z. remove (weave (row old) ks) z) (sym b.place) ∙ ap (λ z. remove z (place_at_level l h old p)) (sym (flat-inner h old b.inner))
+    ∙ weave-taken i (row old) ks [] (flat (h - 1) k) q
+    (omega (arith, length-map (children old) (λ k. flat (h - 1) k))) (lists-one_more h old b.inner f) lt is
+    ∙ ap (λ z. remove (weave (row old) ks) z) (sym b.place)
+    ∙ ap (λ z. remove z (place_at_level l h old p)) (sym (flat-inner h old b.inner))
 
 -- the path goes on into the i-th child
 pub took-below :
@@ -109,9 +114,10 @@ pub took-below :
 took-below l h i old g k p ne e ei f some w is_g items fk few =
     let b = goes-below h l i old p (omega (arith, holds-level l h old p w)) ei f w in
     let same : g ≡ child old i = is_g ∙ get_or_default (children old) i g old b.here in
-    took h i old g k (row old) _ ne f some b.here same refl fk few (woven-taken l h i old k p f b (items ∙ ap (λ z. remove (flat (h - 1) z) (place_at_level l (h - 1) z p)) same))
+    took h i old g k (row old) _ ne f some b.here same refl fk few
+    (woven-taken l h i old k p f b (items ∙ ap (λ z. remove (flat (h - 1) z) (place_at_level l (h - 1) z p)) same))
 
--- the path ends at this node, and the last index below its i-th child is put in the place of the i-th index
+-- the path ends at this node, and the last index below its i-th child replaces the i-th index
 pub took-here :
     (l h i : ℕ) (old g k : Node) (p : List ℕ) (last : ℕ)
     → h ≢ 0
@@ -129,11 +135,13 @@ took-here l h i old g k p last ne e ei f some w is_g items fk few =
     let s = ends-inner h l i old p ne e ei f w in
     let same : g ≡ child old i = is_g ∙ get_or_default (children old) i g old s.here in
     let ks : List (List ℕ) = lists (h - 1) (children old) in
-    let is : get_or ks i [] ≡ flat (h - 1) k ++ last ∷ [] = lists-at (h - 1) old i s.here ∙ ap (λ z. flat (h - 1) z) (sym same) ∙ items in
+    let is : get_or ks i [] ≡ flat (h - 1) k ++ last ∷ [] =
+    lists-at (h - 1) old i s.here ∙ ap (λ z. flat (h - 1) z) (sym same) ∙ items in
     took h i old g k (set (row old) i last) _ ne f some s.here same (length-set (row old) i last) fk few
     (ap (λ z. weave (set (row old) i last) z) (map-set (λ k. flat (h - 1) k) (children old) i k)
     ∙ weave-replaced i (row old) ks [] (flat (h - 1) k) last s.within (lists-one_more h old ne f) is
-    ∙ ap (λ z. remove (weave (row old) ks) z) (sym s.place) ∙ ap (λ z. remove z (place_at_level l h old p)) (sym (flat-inner h old ne)))
+    ∙ ap (λ z. remove (weave (row old) ks) z) (sym s.place)
+    ∙ ap (λ z. remove z (place_at_level l h old p)) (sym (flat-inner h old ne)))
 
 -- the last index of the last child was taken
 pub record TookLast (h count : ℕ) (old : Node) (ks : List Node) (last : ℕ) : Type 0 where
@@ -156,7 +164,9 @@ took-last h count old g k last ne ec f some is_g items fk few =
     let here : count < length (children old) = omega arith in
     let same : g ≡ child old count = is_g ∙ get_or_default (children old) count g old here in
     let ls : List (List ℕ) = lists (h - 1) (children old) in
-    let is : get_or ls (length (row old)) [] ≡ flat (h - 1) k ++ last ∷ [] = ap (λ z. get_or ls z []) (sym ec) ∙ lists-at (h - 1) old count here ∙ ap (λ z. flat (h - 1) z) (sym same) ∙ items in
+    let is : get_or ls (length (row old)) [] ≡ flat (h - 1) k ++ last ∷ [] =
+    ap (λ z. get_or ls z []) (sym ec) ∙ lists-at (h - 1) old count here ∙ ap (λ z. flat (h - 1) z) (sym same)
+    ∙ items in
     record {
       took = took h count old g k (row old) _ ne f some here same refl fk few refl;
       items =
@@ -184,8 +194,12 @@ remade h i old new xs new_xs ks new_ks left t m er ek rm =
     let hr = t.inner.has_room in let sm = t.same in let fw = m.fewer in let wi = m.within in
     let om = m.one_more in
     record {
-      items = flat-inner h new t.ne ∙ ap (λ z. weave z (lists (h - 1) (children new))) er ∙ ap (λ z. weave new_xs (lists (h - 1) z)) ek ∙ m.items ∙ t.items;
-      formed = inner-formed h new t.ne (record { within = rw er wi; one_more = rw (er, ek) om; has_room = omega arith }) (rw ek m.below);
+      items =
+          flat-inner h new t.ne ∙ ap (λ z. weave z (lists (h - 1) (children new))) er
+          ∙ ap (λ z. weave new_xs (lists (h - 1) z)) ek ∙ m.items ∙ t.items;
+      formed =
+          inner-formed h new t.ne (record { within = rw er wi; one_more = rw (er, ek) om; has_room = omega arith })
+          (rw ek m.below);
       fewer = rw er (omega arith);
     }
 
@@ -217,8 +231,10 @@ remade-leaf l h i old new p e ei f w eri ek =
     let lf = formed-leaf h old e f in
     let wi = lf.within in
     let lt = holds-leaf l h old p e w in
-    let er : row new ≡ remove (row old) (slice_index p 0) = eri ∙ ap (λ z. remove (row old) z) (ei ∙ ap (λ z. slice_index p z) e) in
-    let n : length (row new) + 1 ≡ length (row old) = ap (λ z. length z + 1) er ∙ length-remove (row old) (slice_index p 0) lt in
+    let er : row new ≡ remove (row old) (slice_index p 0) =
+    eri ∙ ap (λ z. remove (row old) z) (ei ∙ ap (λ z. slice_index p z) e) in
+    let n : length (row new) + 1 ≡ length (row old) =
+    ap (λ z. length z + 1) er ∙ length-remove (row old) (slice_index p 0) lt in
     record {
       items = rw (flat-leaf h new e, flat-leaf h old e, place_at_level-leaf l h old p e) er;
       formed = leaf-formed h new e (record { within = omega arith; childless = ek ∙ lf.childless });
@@ -237,7 +253,8 @@ removed-last xs some =
     let j : i + 1 ≡ length xs = omega arith in
     let gone : drop (suc i) xs ≡ [] = drop_all (suc i) xs (omega arith) in
     let whole : take (i + 1) xs ≡ xs = take_all (i + 1) xs (omega arith) in
-    sym whole ∙ take_more xs i 0 (omega arith) ∙ ap (λ z. z ++ get_or xs i 0 ∷ []) (sym (append-nil (take i xs)) ∙ ap (λ z. take i xs ++ z) (sym gone))
+    sym whole ∙ take_more xs i 0 (omega arith)
+    ∙ ap (λ z. z ++ get_or xs i 0 ∷ []) (sym (append-nil (take i xs)) ∙ ap (λ z. take i xs ++ z) (sym gone))
 
 pub last-of-leaf :
     (h count : ℕ) (old new : Node) (last : ℕ)
@@ -254,7 +271,9 @@ last-of-leaf h count old new last e ec f some erc elc ek =
     let el : last ≡ slice_index (row old) (length (row old) - 1) = elc ∙ ap (λ z. slice_index (row old) (z - 1)) ec in
     let lf = formed-leaf h old e f in
     let wi = lf.within in
-    let all : row old ≡ row new ++ last ∷ [] = removed-last (row old) some ∙ ap (λ z. z ++ slice_index (row old) (length (row old) - 1) ∷ []) (sym er) ∙ ap (λ z. row new ++ z ∷ []) (sym el) in
+    let all : row old ≡ row new ++ last ∷ [] =
+    removed-last (row old) some ∙ ap (λ z. z ++ slice_index (row old) (length (row old) - 1) ∷ []) (sym er)
+    ∙ ap (λ z. row new ++ z ∷ []) (sym el) in
     let n : length (row old) ≡ length (row new) + 1 = ap length all ∙ length_push (row new) last in
     record {
       items = rw (flat-leaf h new e, flat-leaf h old e) all;
@@ -278,7 +297,9 @@ pub child-below :
     → ChildAt l h n g p
 child-below l h i n g p ne e ei f w is_g =
     let down = holds-below l h n p ne e w in
-    let same : g ≡ child n (slice_index p h) = subst (λ z. g ≡ get_or (children n) z g) ei is_g ∙ get_or_default (children n) (slice_index p h) g n down.here in
+    let same : g ≡ child n (slice_index p h) =
+    subst (λ z. g ≡ get_or (children n) z g) ei is_g
+    ∙ get_or_default (children n) (slice_index p h) g n down.here in
     record { formed = rw same ((formed-inner h n ne f).below (slice_index p h) n down.here); holds = rw same down.on }
 
 -- the child before an index

@@ -59,5 +59,7 @@ pub IsIndexList-remapped :
     → IsIndexList (map (remapped remap) xs)
 IsIndexList-remapped remap xs can one h = record {
   distinct = IsDistinct-map (remapped remap) xs one h.distinct;
-  assigned = All-map (λ ix. ix ≢ sentinel) (remapped remap) xs (λ k d within. assigned-remapped remap _ (h.assigned k d within) (can _ (Contains-get_or xs k d within)));
+  assigned =
+      All-map (λ ix. ix ≢ sentinel) (remapped remap) xs
+      (λ k d within. assigned-remapped remap _ (h.assigned k d within) (can _ (Contains-get_or xs k d within)));
 }

@@ -20,7 +20,8 @@ abbrev pub kept_of : List (ℕ × Bool) → List ℕ
 kept_of asks = map (λ a. a.0) (filter (λ a. a.1) asks)
 
 module _ {F : Type 0} (g : Mut F (ℕ × Unit {0}) Bool) where
-  -- the indexes of xs before p were asked about, and those kept stand before t in ys, which from p on is as xs was
+  -- The closure was asked about the indexes of xs before p. Those that it keeps stand in ys before t. From p on, ys is
+  -- equal to xs.
   pub record Gathers (f : F) (xs ys : List ℕ) (p t : ℕ) (now : F) : Type 0 where
     pub kept : RetainsTo g f (take p xs) (take t ys) now
     pub rest : drop p ys ≡ drop p xs
@@ -31,7 +32,13 @@ module _ {F : Type 0} (g : Mut F (ℕ × Unit {0}) Bool) where
 
   pub gathers-none : (f : F) (xs : List ℕ) (p t : ℕ) → p ≡ 0 → t ≡ 0 → CanAsk g (Contains xs) f → Gathers f xs xs p t f
   gathers-none f xs p t ep et can = record {
-    kept = record { asks = []; each_once = ap (λ z. take z xs) (sym ep); were_asked = refl; kept = ap (λ z. take z xs) et };
+    kept =
+        record {
+          asks = [];
+          each_once = ap (λ z. take z xs) (sym ep);
+          were_asked = refl;
+          kept = ap (λ z. take z xs) et;
+        };
     rest = refl;
     few = omega arith;
     within = omega arith;
@@ -39,7 +46,7 @@ module _ {F : Type 0} (g : Mut F (ℕ × Unit {0}) Bool) where
     can = can;
   }
 
-  -- the next index
+  -- the index at p is still the one of xs
   next_is :
       {f now : F} {xs ys : List ℕ} {p t : ℕ} (ix : ℕ)
       → Gathers f xs ys p t now
@@ -47,7 +54,8 @@ module _ {F : Type 0} (g : Mut F (ℕ × Unit {0}) Bool) where
       → ix ≡ slice_index ys p
       → ix ≡ get_or xs p 0
   next_is {xs = xs} {ys = ys} {p = p} ix w lt e =
-      let c = w.counted in e ∙ ap (λ z. get_or z 0 0) (sym (drop_more ys p 0 lt) ∙ w.rest ∙ drop_more xs p 0 (omega arith))
+      let c = w.counted in
+      e ∙ ap (λ z. get_or z 0 0) (sym (drop_more ys p 0 lt) ∙ w.rest ∙ drop_more xs p 0 (omega arith))
 
   pub next_held :
       {f now : F} {xs ys : List ℕ} {p t : ℕ} (ix : ℕ)
@@ -57,7 +65,7 @@ module _ {F : Type 0} (g : Mut F (ℕ × Unit {0}) Bool) where
       → Contains xs ix
   next_held {xs = xs} {p = p} ix w lt e = let c = w.counted in Contains-at xs p ix (omega arith) (next_is ix w lt e)
 
-  -- it is asked about, and put in its new place where it is kept
+  -- the closure is asked about it, and if it is kept, it is written at t
   pub gathers-next :
       {f now : F} {xs ys : List ℕ} {p t : ℕ} (ix : ℕ) (b : Bool) (q u : ℕ) (new : List ℕ) (next : F)
       → Gathers f xs ys p t now
@@ -76,7 +84,9 @@ module _ {F : Type 0} (g : Mut F (ℕ × Unit {0}) Bool) where
       record {
         kept = record {
           asks = k.asks ++ one;
-          each_once = map-append (λ (a : ℕ × Bool). a.0) k.asks one ∙ (λ j. k.each_once j ++ next_is ix w lt e j ∷ []) ∙ sym (take_more xs p 0 (omega arith)) ∙ ap (λ z. take z xs) (sym eq);
+          each_once =
+              map-append (λ (a : ℕ × Bool). a.0) k.asks one ∙ (λ j. k.each_once j ++ next_is ix w lt e j ∷ [])
+              ∙ sym (take_more xs p 0 (omega arith)) ∙ ap (λ z. take z xs) (sym eq);
           were_asked = FoldsTo-push (λ q a r. Called g q (a.0, tt) a.1 r) f k.asks now (ix, b) next k.were_asked said;
           kept = front ∙ ap (λ z. z ++ kept_of one) k.kept ∙ sym (map-append (λ (a : ℕ × Bool). a.0) (filter (λ (a : ℕ × Bool). a.1) k.asks) (filter (λ (a : ℕ × Bool). a.1) one))
               ∙ ap (map (λ (a : ℕ × Bool). a.0)) (sym (filter-append (λ (a : ℕ × Bool). a.1) k.asks one));
@@ -94,13 +104,15 @@ module _ {F : Type 0} (g : Mut F (ℕ × Unit {0}) Bool) where
       → Gathers f xs ys p t now
       → length xs ≤ p
       → RetainsTo g f xs (take t ys) now
-  gathers-all {f = f} {now = now} {xs = xs} {ys = ys} {p = p} {t = t} w over = subst (λ z. RetainsTo g f z (take t ys) now) (take_all p xs over) w.kept
+  gathers-all {f = f} {now = now} {xs = xs} {ys = ys} {p = p} {t = t} w over =
+      subst (λ z. RetainsTo g f z (take t ys) now) (take_all p xs over) w.kept
 
 -- what holds of all indexes holds of those that are kept
 all_kept : (P : ℕ → Type 0) (asks : List (ℕ × Bool)) → All P (map (λ (a : ℕ × Bool). a.0) asks) → All P (kept_of asks)
 all_kept P asks all =
     let each : All (λ (a : ℕ × Bool). P a.0) asks = λ j d lt. subst P (get_or-map (λ (a : ℕ × Bool). a.0) asks j d d.0 lt) (all j d.0 (omega (arith, length-map asks (λ (a : ℕ × Bool). a.0)))) in
-    All-map P (λ (a : ℕ × Bool). a.0) (filter (λ (a : ℕ × Bool). a.1) asks) (All-filter (λ (a : ℕ × Bool). a.1) (λ (a : ℕ × Bool). P a.0) asks each)
+    All-map P (λ (a : ℕ × Bool). a.0) (filter (λ (a : ℕ × Bool). a.1) asks)
+    (All-filter (λ (a : ℕ × Bool). a.1) (λ (a : ℕ × Bool). P a.0) asks each)
 
 pub IsTable-retained :
     {F : Type 0} {q o : ℕ} (g : Mut F (ℕ × Unit {0}) Bool) (f last : F) (r : Option Node) (h n : ℕ) (s : Option Node)

@@ -13,7 +13,7 @@ use Rattle.iddqd_order.proofs.InnerLemmas.{wide, inners-below, inners-root}
 use Rattle.iddqd_order.proofs.InsertLemmas.{all_full}
 use Rattle.iddqd_order.proofs.TableLemmas.{few_blocks}
 
--- children that have five indexes or more beyond thirty for each inner node, and one that has `more` beyond these
+-- each child has at least thirty indexes for each inner node and five more, and child i has `more` beyond these
 wide-more :
     (f : Node → List ℕ) (g : Node → ℕ) (xs : List ℕ) (ns : List Node) (i more : ℕ) (d : Node)
     → length ns ≡ length xs + 1
@@ -30,10 +30,12 @@ wide-more f g (x ∷ xs) (n ∷ ns) zero more d e a lt le =
     omega (arith, sum_by-cons g n ns, length-append (f n) (x ∷ weave xs (map f ns)))
 wide-more f g (x ∷ xs) (n ∷ ns) (suc i) more d e a lt le =
     let h = All-head (λ n. 30 * g n + 5 ≤ length (f n)) n ns a in
-    let rest = wide-more f g xs ns i more d (omega arith) (All-tail (λ n. 30 * g n + 5 ≤ length (f n)) n ns a) (omega arith) le in
+    let rest =
+    wide-more f g xs ns i more d (omega arith) (All-tail (λ n. 30 * g n + 5 ≤ length (f n)) n ns a)
+    (omega arith) le in
     omega (arith, sum_by-cons g n ns, length-append (f n) (x ∷ weave xs (map f ns)))
 
--- what the full nodes of a path add, where the child on it has so much
+-- a bound on the inner nodes of the child that the path takes gives one for the node
 widened :
     (h k : ℕ) (n : Node) (p : List ℕ)
     → IsFormed (suc h) n
@@ -44,7 +46,9 @@ widened :
 unfolding inners flat IsFormed Passes
 widened h k n p f g some le =
     let one = f.0.one_more in
-    let w = wide-more (λ k. flat h k) (λ k. inners h k) (row n) (children n) (slice_index p (suc h)) (30 * k - 25) n one (λ i d lt. let e = f.1 i d lt in inners-below h _ e.1 e.0) (g.passes.2 (omega arith)).0 (omega arith) in
+    let w =
+    wide-more (λ k. flat h k) (λ k. inners h k) (row n) (children n) (slice_index p (suc h)) (30 * k - 25) n one
+    (λ i d lt. let e = f.1 i d lt in inners-below h _ e.1 e.0) (g.passes.2 (omega arith)).0 (omega arith) in
     omega arith
 
 -- a node below the root, with the full nodes of a path that goes through it
@@ -66,7 +70,9 @@ path-full (suc h) k n p f five g some le full =
     elim (cases_lt (h + 1) k) [
       | inl lt ↦
           (let eleven = full.0.0 (omega arith) in
-          let ih = path-full h (h + 1) (child n (slice_index p (suc h))) p below.1 below.0 on (omega arith) (omega arith) (all_full k (h + 1) h _ p (omega arith) (omega arith) full.1) in
+          let ih =
+          path-full h (h + 1) (child n (slice_index p (suc h))) p below.1 below.0 on (omega arith) (omega arith)
+          (all_full k (h + 1) h _ p (omega arith) (omega arith) full.1) in
           let w = widened h (h + 1) n p f g (omega arith) ih in omega arith)
       | inr ge ↦
           (let ih = path-full h k (child n (slice_index p (suc h))) p below.1 below.0 on some (omega arith) full.1 in
@@ -91,14 +97,18 @@ root-full :
     → 30 * (inners h n + blocks_for h k) ≤ length (flat h n) + 20
 unfolding IsFormed Passes IsFullBelow
 root-full h zero n p f one g le full = let few = inners-root h n f one in omega (arith, blocks-some h 0 (omega arith))
-root-full zero (suc k) n p f one g le full = let w = path-full zero (suc k) n p f (let eleven = full.0 (omega arith) in omega arith) g (omega arith) le full in omega (arith, blocks-all zero (suc k) (omega arith))
+root-full zero (suc k) n p f one g le full =
+    let w = path-full zero (suc k) n p f (let eleven = full.0 (omega arith) in omega arith) g (omega arith) le full in
+    omega (arith, blocks-all zero (suc k) (omega arith))
 root-full (suc h) (suc k) n p f one g le full =
     elim (cases_lt (suc h) (suc k)) [
       | inl lt ↦ (let w = path-full (suc h) (suc k) n p f (let eleven = full.0.0 lt in omega arith) g (omega arith) le full in omega (arith, blocks-all (suc h) (suc k) lt))
       | inr ge ↦
           (let down = g.passes.2 (omega arith) in
           let below = f.1 (slice_index p (suc h)) n down.0 in
-          let ih = path-full h (suc k) (child n (slice_index p (suc h))) p below.1 below.0 (record { passes = down.1 }) (omega arith) (omega arith) full.1 in
+          let ih =
+          path-full h (suc k) (child n (slice_index p (suc h))) p below.1 below.0 (record { passes = down.1 })
+          (omega arith) (omega arith) full.1 in
           let w = widened h (suc k) n p f g (omega arith) ih in omega (arith, blocks-some (suc h) (suc k) ge))
     ]
 
@@ -116,10 +126,12 @@ none-fresh (Some n) h blocks k p t g full le lt = let w = root-full h k n p t.0 
 
 -- up to the capacity a move takes no block, and past it one for each level and one for a new root
 pub move-none : (t : Order) → length (order_of t) ≤ capacity t → move_blocks t ≡ 0
-move-none t le = let b : nat_lt (capacity t) (length (order_of t)) ≡ false = le-ltb (capacity t) (length (order_of t)) le in rw b
+move-none t le =
+    let b : nat_lt (capacity t) (length (order_of t)) ≡ false = le-ltb (capacity t) (length (order_of t)) le in rw b
 
 pub move-most : (t : Order) → capacity t < length (order_of t) → move_blocks t ≡ t.height + 1
-move-most t lt = let b : nat_lt (capacity t) (length (order_of t)) ≡ true = lt-ltb (capacity t) (length (order_of t)) lt in rw b
+move-most t lt =
+    let b : nat_lt (capacity t) (length (order_of t)) ≡ true = lt-ltb (capacity t) (length (order_of t)) lt in rw b
 
 pub move-few : (t : Order) → t.height < LEVELS → move_blocks t ≤ LEVELS
 move-few t low = elim (cases_lt (capacity t) (length (order_of t))) [ inl lt ↦ omega (arith, move-most t lt) | inr le ↦ omega (arith, move-none t le) ]

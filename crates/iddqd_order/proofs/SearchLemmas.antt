@@ -19,7 +19,12 @@ split-init a xs = record { greater = λ k h. absurd (omega arith); less = λ k h
 
 module _ {a : ℕ → Ordering} {xs : List ℕ} {low high : ℕ} where
   pub IsPlace-from_split : low ≤ high → high ≤ low → high ≤ length xs → AreSplit a xs low high → IsPlace a xs low
-  IsPlace-from_split le ge within s = record { within = omega arith; greater_before = s.greater; less_from = λ k at_least lt. s.less k (omega arith) lt }
+  IsPlace-from_split le ge within s =
+      record {
+        within = omega arith;
+        greater_before = s.greater;
+        less_from = λ k at_least lt. s.less k (omega arith) lt;
+      }
 
   pub split-less :
       {middle : ℕ}
@@ -40,7 +45,8 @@ module _ {a : ℕ → Ordering} {xs : List ℕ} {low high : ℕ} where
       → AreSplit a xs low high
       → a (get_or xs middle 0) ≡ Greater
       → AreSplit a xs (middle + 1) high
-  split-greater {middle = middle} rising within s e = record { greater = below_more _ _ (λ k h. rising.greater_before k middle h within e) e; less = s.less }
+  split-greater {middle = middle} rising within s e =
+      record { greater = below_more _ _ (λ k h. rising.greater_before k middle h within e) e; less = s.less }
 
 -- where the answers are Greater before a place and Less from it on, none is Equal
 pub none_at_place : (a : ℕ → Ordering) (xs : List ℕ) (i : ℕ) → IsPlace a xs i → All (λ ix. a ix ≢ Equal) xs
@@ -61,7 +67,8 @@ pub not_missed :
     → Contains xs ix
     → ⊥
 not_missed answer xs ix i p held =
-    none_at_place (with_ties (Some ix) answer) xs i p held.0 ix held.1 (ap (with_ties (Some ix) answer) held.2 ∙ with_ties-itself answer ix)
+    none_at_place (with_ties (Some ix) answer) xs i p held.0 ix held.1
+    (ap (with_ties (Some ix) answer) held.2 ∙ with_ties-itself answer ix)
 
 -- so a search for a stored index meets it where the answers rise
 pub met_where_stored :
@@ -72,4 +79,5 @@ pub met_where_stored :
     → Contains xs ix
     → is_ok end ≡ true
 met_where_stored (Ok i) answer searches rises held = refl
-met_where_stored {xs = xs} {ix = ix} (Err i) answer searches rises held = absurd (not_missed answer xs ix i (searches.place answer rises) held)
+met_where_stored {xs = xs} {ix = ix} (Err i) answer searches rises held =
+    absurd (not_missed answer xs ix i (searches.place answer rises) held)

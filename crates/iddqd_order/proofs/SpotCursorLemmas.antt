@@ -1,4 +1,4 @@
--- Ways: what a step along one leaves, and what stays of them where an index is put in the place of another.
+-- What a step of a spot cursor leaves, and where paths go after an index is replaced.
 use Rattle.iddqd_order.proofs.Names.{◌≡◌, ◌≢◌, ◌∙◌, ℕ, zero, suc, ◌+◌, ◌-◌, ◌<◌, ◌≤◌, List, [], ◌++◌, length, get_or, set, slice_index, slice_set, refl, sym, ap, subst, arith, Option, Some, None, is_some, true, false, sub-one, length-append, length-set, get_or-set_same, get_or-set_other, inl, inr, cases_eq, length-map, map-set, All-set, Node, SpotCursor, row, children, child, child_room, weave, before, after, flat, IsFormed, ReachesIndex, place_at_level, StepsToNext, SamePlaces, IsSpotCursor, get_or_default, add-one, set-get_or, CAPACITY, LEAST, LEVELS}
 use Rattle.iddqd_order.proofs.NodeLemmas.{lists, AreChildren, formed-within, formed-leaf, leaf-formed, flat-leaf, formed-inner, inner-formed, flat-inner}
 use Rattle.iddqd_order.proofs.RemovalLemmas.{GoesBelow, goes-below, ends-inner, holds-leaf, holds-at, holds-level, holds-below, place_at_level-leaf, place_at_level-at, place_at_level-below}
@@ -32,7 +32,8 @@ first-place (suc h) n p f some zeros =
     record {
       holds = below-holds 0 (suc h) n p ne (rw here lt) (rw (here, sub-one) ih.holds);
       place =
-          let below : place_at_level 0 (suc h) n p ≡ 0 + place_at_level 0 h (child n 0) p = rw (here, sub-one) at (place_at_level-below 0 (suc h) n p ne (λ e. absurd (omega arith))) in
+          let below : place_at_level 0 (suc h) n p ≡ 0 + place_at_level 0 h (child n 0) p =
+          rw (here, sub-one) at (place_at_level-below 0 (suc h) n p ne (λ e. absurd (omega arith))) in
           let none = ih.place in
           omega arith;
     }
@@ -79,11 +80,15 @@ steps-here h l i n p q ne e ei f w next zeros =
     let one = (formed-inner h n ne f).inner.one_more in
     let lt : i + 1 < length (children n) = omega arith in
     let five = ((formed-inner h n ne f).below (i + 1) n lt).0 in
-    let first = first-place (h - 1) (child n (i + 1)) q (child-formed h n (i + 1) ne f lt) (omega arith) (λ m le. zeros m (omega arith)) in
+    let first =
+    first-place (h - 1) (child n (i + 1)) q (child-formed h n (i + 1) ne f lt) (omega arith)
+    (λ m le. zeros m (omega arith)) in
     let xs : List ℕ = row n in let ks : List (List ℕ) = lists (h - 1) (children n) in
     let is : place_at_level 0 h n q ≡ length (before (i + 1) xs ks) + place_at_level 0 (h - 1) (child n (i + 1)) q =
-    place_at_level-below 0 h n q ne ne ∙ ap (λ z. length (before z xs ks) + place_at_level 0 (h - 1) (child n z) q) next in
-    let len : length (before (i + 1) xs ks) ≡ index_place i xs ks + 1 = before-next i xs ks at (lists-one_more h n ne f) in
+    place_at_level-below 0 h n q ne ne
+    ∙ ap (λ z. length (before z xs ks) + place_at_level 0 (h - 1) (child n z) q) next in
+    let len : length (before (i + 1) xs ks) ≡ index_place i xs ks + 1 =
+    before-next i xs ks at (lists-one_more h n ne f) in
     let was = s.place in let none = first.place in
     (below-holds 0 h n q ne (rw next lt) (rw next first.holds), omega arith)
 
@@ -98,7 +103,8 @@ steps-below h l i m n p q b here s =
     let le = holds-level m (h - 1) (child n i) q s.0 in
     let was = b.place in
     let is : place_at_level m h n q ≡ length (before i (row n) (lists (h - 1) (children n))) + place_at_level m (h - 1) (child n i) q =
-    place_at_level-below m h n q b.inner (λ z. absurd (omega arith)) ∙ ap (λ z. length (before z (row n) (lists (h - 1) (children n))) + place_at_level m (h - 1) (child n z) q) here in
+    place_at_level-below m h n q b.inner (λ z. absurd (omega arith))
+    ∙ ap (λ z. length (before z (row n) (lists (h - 1) (children n))) + place_at_level m (h - 1) (child n z) q) here in
     let next = s.1 in
     (below-holds m h n q b.inner (rw here b.here) (rw here s.0), omega arith)
 
@@ -179,10 +185,12 @@ ends-here {h = h} {l = l} {i = i} {n = n} {p = p} le ei f w =
       level = e;
       within = lt;
       low = omega (arith, lt, formed-within h n f);
-      spot_is = ap (λ z. slice_index (flat h n) (place_at_level z h n p)) (sym e) ∙ place_at_level-row h n p f (rw (sym ei) lt) ∙ ap (slice_index (row n)) (sym ei);
+      spot_is =
+          ap (λ z. slice_index (flat h n) (place_at_level z h n p)) (sym e)
+          ∙ place_at_level-row h n p f (rw (sym ei) lt) ∙ ap (slice_index (row n)) (sym ei);
     }
 
--- what a step below the i-th child answers, if anything
+-- a step to an index below the i-th child is a step in the whole
 pub steps-below_any :
     (h l i : ℕ) (r : Option ℕ) (n : Node) (p q : List ℕ)
     → GoesBelow h l i n p
@@ -222,7 +230,7 @@ pub none-is : (r : Option ℕ) → is_some r ≡ false → r ≡ None
 none-is None e = refl
 none-is (Some m) e = absurd (cc)
 
--- what stands before a list is as long where the lists are as long
+-- what stands before the i-th list is as long, if the lists are as long
 before-as_long :
     (i : ℕ) (xs ys : List ℕ) (ks ls : List (List ℕ))
     → i ≤ length xs
@@ -250,7 +258,10 @@ same-places-inner :
     → SamePlaces h n m
 same-places-inner h n m ne fn fm rows long each = record { long = long; at = at }
   where
-    at : (l : ℕ) (p : List ℕ) → ReachesIndex l h n p → ReachesIndex l h m p × (place_at_level l h m p ≡ place_at_level l h n p)
+    at :
+        (l : ℕ) (p : List ℕ)
+        → ReachesIndex l h n p
+        → ReachesIndex l h m p × (place_at_level l h m p ≡ place_at_level l h n p)
     at l p w =
         let i : ℕ = slice_index p h in
         let one = (formed-inner h n ne fn).inner.one_more in let other = (formed-inner h m ne fm).inner.one_more in
@@ -268,14 +279,14 @@ same-places-inner h n m ne fn fm rows long each = record { long = long; at = at 
               (below-holds l h m p ne (omega arith) on.0, omega (arith, befores (omega arith), on.1, place_at_level-below l h m p ne below, place_at_level-below l h n p ne below)))
         ]
 
--- what an index that is put in the place of another leaves of a node
+-- what the replacement of an index leaves of a node
 pub record IsPut (h l : ℕ) (n m : Node) (p : List ℕ) (x : ℕ) : Type 0 where
   pub items : flat h m ≡ slice_set (flat h n) (place_at_level l h n p) x
   pub formed : IsFormed h m
   pub same_length : length (row m) ≡ length (row n)
   pub same_places : SamePlaces h n m
 
--- k is put in the place of the i-th child, and goes to the same places
+-- k replaces the i-th child, and paths through it go to the same places
 put-inner :
     (h l i x : ℕ) (n k m : Node) (p : List ℕ)
     → h ≢ 0
@@ -293,18 +304,22 @@ put-inner h l i x n k m p ne f here rows ek more child_is same woven =
     let fs = formed-inner h n ne f in
     let one = fs.inner.one_more in let within = fs.inner.within in let has_room = fs.inner.has_room in
     let count = ap length ek ∙ length-set (children n) i k in
-    let formed : IsFormed h m = inner-formed h m ne (record { within = omega arith; one_more = omega arith; has_room = omega arith })
+    let formed : IsFormed h m =
+    inner-formed h m ne (record { within = omega arith; one_more = omega arith; has_room = omega arith })
     (subst (AreChildren (h - 1)) (sym ek) (All-set (λ z. (LEAST ≤ length (row z)) × IsFormed (h - 1) z) (children n) i k child_is fs.below)) in
     let items : flat h m ≡ set (flat h n) (place_at_level l h n p) x =
-    flat-inner h m ne ∙ ap (λ z. weave (row m) (lists (h - 1) z)) ek ∙ woven ∙ ap (λ z. set z (place_at_level l h n p) x) (sym (flat-inner h n ne)) in
+    flat-inner h m ne ∙ ap (λ z. weave (row m) (lists (h - 1) z)) ek ∙ woven
+    ∙ ap (λ z. set z (place_at_level l h n p) x) (sym (flat-inner h n ne)) in
     record {
       items = items;
       formed = formed;
       same_length = rows;
-      same_places = same-places-inner h n m ne f formed rows (ap length items ∙ length-set (flat h n) (place_at_level l h n p) x) (λ j lt. elim (cases_eq j i) [
-        | inl e ↦ subst (λ z. SamePlaces (h - 1) (child n z) (child m z)) (sym e) (subst (SamePlaces (h - 1) (child n i)) (sym (ap (λ z. get_or z i m) ek ∙ get_or-set_same (children n) i k m here)) same)
-        | inr away ↦ subst (SamePlaces (h - 1) (child n j)) (sym (ap (λ z. get_or z j m) ek ∙ get_or-set_other (children n) i j k m away ∙ get_or_default (children n) j m n lt)) (SamePlaces-itself (h - 1) (child n j))
-      ]);
+      same_places =
+          same-places-inner h n m ne f formed rows
+          (ap length items ∙ length-set (flat h n) (place_at_level l h n p) x) (λ j lt. elim (cases_eq j i) [
+            | inl e ↦ subst (λ z. SamePlaces (h - 1) (child n z) (child m z)) (sym e) (subst (SamePlaces (h - 1) (child n i)) (sym (ap (λ z. get_or z i m) ek ∙ get_or-set_same (children n) i k m here)) same)
+            | inr away ↦ subst (SamePlaces (h - 1) (child n j)) (sym (ap (λ z. get_or z j m) ek ∙ get_or-set_other (children n) i j k m away ∙ get_or_default (children n) j m n lt)) (SamePlaces-itself (h - 1) (child n j))
+          ]);
     }
 
 pub put-here :
@@ -322,7 +337,9 @@ put-here zero l i x n m p e ei f w er ek more =
     let rows : length (row m) ≡ length (row n) = ap length er ∙ length-set (row n) i x in
     let lt = holds-leaf l 0 n p refl w in
     record {
-      items = flat-leaf 0 m refl ∙ er ∙ sym (λ j. set (flat-leaf 0 n refl j) ((place_at_level-leaf l 0 n p refl ∙ sym ei) j) x);
+      items =
+          flat-leaf 0 m refl ∙ er
+          ∙ sym (λ j. set (flat-leaf 0 n refl j) ((place_at_level-leaf l 0 n p refl ∙ sym ei) j) x);
       formed = leaf-formed 0 m refl (record { within = omega arith; childless = ek ∙ leaf.childless });
       same_length = rows;
       same_places = record {
@@ -337,10 +354,11 @@ put-here (suc h) l i x n m p e ei f w er ek more =
     let s = ends-inner (suc h) l i n p ne e ei f w in
     let ks : List (List ℕ) = lists (suc h - 1) (children n) in
     let same : set (children n) i (child n i) ≡ children n = set-get_or (children n) i n in
-    put-inner (suc h) l i x n (child n i) m p ne f s.here (ap length er ∙ length-set (row n) i x) (ek ∙ sym same) more ((formed-inner (suc h) n ne f).below i n s.here) (SamePlaces-itself (suc h - 1) (child n i))
+    put-inner (suc h) l i x n (child n i) m p ne f s.here (ap length er ∙ length-set (row n) i x) (ek ∙ sym same) more
+    ((formed-inner (suc h) n ne f).below i n s.here) (SamePlaces-itself (suc h - 1) (child n i))
     ((λ j. weave (er j) (lists (suc h - 1) (same j))) ∙ weave-set_own i (row n) ks x s.within (lists-one_more (suc h) n ne f) ∙ ap (λ z. set (weave (row n) ks) z x) (sym s.place))
 
--- the same where it goes on below the i-th child g, which k is put in the place of
+-- the same if the path goes on below the i-th child g, which k replaces
 pub put-below :
     (h l i x : ℕ) (n g k m : Node) (p : List ℕ)
     → l < h
@@ -356,14 +374,17 @@ pub put-below :
 put-below h l i x n g k m p low ei f w is_g put er ek more =
     let b = goes-below h l i n p low ei f w in
     let five = b.five in
-    let was : IsPut (h - 1) l (child n i) k p x = subst (λ z. IsPut (h - 1) l z k p x) (child_is n i g b.here is_g) put in
+    let was : IsPut (h - 1) l (child n i) k p x =
+    subst (λ z. IsPut (h - 1) l z k p x) (child_is n i g b.here is_g) put in
     let row_len = was.same_length in
     let ks : List (List ℕ) = lists (h - 1) (children n) in
     let list = lists-at (h - 1) n i b.here in
     let q : ℕ = place_at_level l (h - 1) (child n i) p in
     put-inner h l i x n k m p b.inner f b.here (ap length er) ek more (omega arith, was.formed) was.same_places
     ((λ j. weave (er j) (map-set (λ k. flat (h - 1) k) (children n) i k j))
-    ∙ weave-set_below i (row n) ks (flat (h - 1) k) q x (omega (arith, b.here, length-map (children n) (λ k. flat (h - 1) k))) (lists-one_more h n b.inner f) (rw list b.within) (rw list was.items)
+    ∙ weave-set_below i (row n) ks (flat (h - 1) k) q x
+    (omega (arith, b.here, length-map (children n) (λ k. flat (h - 1) k))) (lists-one_more h n b.inner f)
+    (rw list b.within) (rw list was.items)
     ∙ ap (λ z. set (weave (row n) ks) z x) (sym b.place))
 
 -- the cursor at the first index
@@ -386,7 +407,7 @@ IsSpotCursor-first h n w f some low path zeros level place =
       leads = λ more. ap (λ l. place_at_level l h n w.spot.path) level ∙ first.place ∙ sym place;
     }
 
--- a cursor stands where it stood, where the tree changes indexes alone
+-- a cursor stays at its place if the tree changes only indexes
 pub IsSpotCursor-same :
     (h : ℕ) (n m : Node) (w : SpotCursor)
     → SamePlaces h n m

@@ -10,14 +10,28 @@ use Rattle.iddqd_order.proofs.TreeLemmas.{place_at_level_in-within}
 
 -- no index at all
 pub IsTable-none : IsTable None 0 0 0
-IsTable-none = record { tree = refl; counted = refl; distinct = IsIndexList-nil.distinct; assigned = All-nil (λ ix. ix < sentinel); inners = refl }
+IsTable-none =
+    record {
+      tree = refl;
+      counted = refl;
+      distinct = IsIndexList-nil.distinct;
+      assigned = All-nil (λ ix. ix < sentinel);
+      inners = refl;
+    }
 
 pub index_list : {q : ℕ} (r : Option Node) (h n : ℕ) → IsTable r h n q → IsIndexList (in_order r h)
-index_list r h n t = record { distinct = t.distinct; assigned = All-weaker (λ ix. ix < sentinel) (λ ix. ix ≢ sentinel) (λ ix lt e. absurd (omega arith)) (in_order r h) t.assigned }
+index_list r h n t =
+    record {
+      distinct = t.distinct;
+      assigned =
+          All-weaker (λ ix. ix < sentinel) (λ ix. ix ≢ sentinel) (λ ix lt e. absurd (omega arith))
+          (in_order r h) t.assigned;
+    }
 
 -- an index has 32 bits, so there are no more
 pub few : {q : ℕ} (r : Option Node) (h n : ℕ) → IsTable r h n q → n ≤ MOST_INDEXES
-few r h n t = let most = few_indexes sentinel (in_order r h) t.distinct t.assigned in let counted = t.counted in omega arith
+few r h n t =
+    let most = few_indexes sentinel (in_order r h) t.distinct t.assigned in let counted = t.counted in omega arith
 
 -- at most one block for each of twelve levels
 at_most : (b : Bool) (k n : ℕ) → k ≤ n → (if b then k else k - 1) ≤ n
@@ -152,11 +166,20 @@ pub IsTable-renamed : {q : ℕ} (r : Option Node) (h n : ℕ) (s : Option Node) 
     → IsTree s h → in_order s h ≡ map (remapped remap) (in_order r h) → inners_in s h ≡ inners_in r h → IsTable s h n q
 IsTable-renamed r h n s remap t can unshared fits tree items inner =
     let xs : List ℕ = in_order r h in
-    let named : IsIndexList (map (remapped remap) xs) = IsIndexList-remapped remap xs can unshared (index_list r h n t) in
+    let named : IsIndexList (map (remapped remap) xs) =
+    IsIndexList-remapped remap xs can unshared (index_list r h n t) in
     let small : All (λ ix. ix ≤ MOST_INDEXES) (map (remapped remap) xs) =
     All-map (λ ix. ix ≤ MOST_INDEXES) (remapped remap) xs (λ k d lt. let below = t.assigned k d lt in fits (get_or xs k d) (omega arith) (can (get_or xs k d) (Contains-get_or xs k d lt))) in
-    let assigned : All (λ ix. ix < sentinel) (map (remapped remap) xs) = λ k d lt. let ne = named.assigned k d lt in let below = small k d lt in omega arith in
+    let assigned : All (λ ix. ix < sentinel) (map (remapped remap) xs) = λ k d lt. let ne = named.assigned k d lt in
+    let below = small k d lt in
+    omega arith in
     let counted = t.counted in
     let len = ap length items in
     let same = length-map xs (remapped remap) in
-    record { tree = tree; counted = omega arith; distinct = rw items named.distinct; assigned = rw items assigned; inners = t.inners ∙ sym inner }
+    record {
+      tree = tree;
+      counted = omega arith;
+      distinct = rw items named.distinct;
+      assigned = rw items assigned;
+      inners = t.inners ∙ sym inner;
+    }

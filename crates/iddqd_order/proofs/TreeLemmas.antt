@@ -41,11 +41,16 @@ new_root h old lower new m upper p x f g c er ek rm small =
     let same : h + 1 - 1 ≡ h = omega arith in
     let lr = ap length er in
     let lk = ap length ek in
-    let below : AreChildren (h + 1 - 1) (children new) = rw (same, ek) (All-cons (IsChild h) lower (upper ∷ []) c.low (All-cons (IsChild h) upper [] c.high (All-nil (IsChild h)))) in
-    let formed : IsFormed (h + 1) new = inner-formed (h + 1) new ne (record { within = omega arith; one_more = omega arith; has_room = rm }) below in
-    let items : flat (h + 1) new ≡ insert (flat h old) (place h old p) x = flat-inner (h + 1) new ne ∙ rw (er, ek, same) c.items in
+    let below : AreChildren (h + 1 - 1) (children new) =
+    rw (same, ek)
+    (All-cons (IsChild h) lower (upper ∷ []) c.low (All-cons (IsChild h) upper [] c.high (All-nil (IsChild h)))) in
+    let formed : IsFormed (h + 1) new =
+    inner-formed (h + 1) new ne (record { within = omega arith; one_more = omega arith; has_room = rm }) below in
+    let items : flat (h + 1) new ≡ insert (flat h old) (place h old p) x =
+    flat-inner (h + 1) new ne ∙ rw (er, ek, same) c.items in
     let one : 1 ≤ length (row new) = omega arith in
-    let len : length (flat (h + 1) new) ≤ MOST_INDEXES + 1 = rw items (omega (arith, length-insert (flat h old) (place h old p) x (place-within h old p f g))) in
+    let len : length (flat (h + 1) new) ≤ MOST_INDEXES + 1 =
+    rw items (omega (arith, length-insert (flat h old) (place h old p) x (place-within h old p f g))) in
     record { low = twelve_levels (h + 1) new formed one len; formed = formed; root = one; items = items }
 
 -- it takes a block for each level, and one for the new root
@@ -58,7 +63,8 @@ new_root-inners h old lower new m upper p x c ek =
     let ne : h + 1 ≢ 0 = λ z. absurd (omega arith) in
     let same : h + 1 - 1 ≡ h = omega arith in
     let below : inners_of (h + 1 - 1) (children new) ≡ inners h lower + inners h upper =
-    rw (same, ek) (omega (arith, sum_by-cons (λ k. inners h k) lower (upper ∷ []), sum_by-cons (λ k. inners h k) upper [])) in
+    rw (same, ek)
+    (omega (arith, sum_by-cons (λ k. inners h k) lower (upper ∷ []), sum_by-cons (λ k. inners h k) upper [])) in
     let inner = c.inner in
     omega (arith, inners-inner (h + 1) new ne)
 

@@ -8,7 +8,7 @@ All-front P xs ys a = subst (All P) (take-append_seam xs ys) (All-take P (length
 pub All-back : {X : Type 0} → (P : X → Type 0) (xs ys : List X) → All P (xs ++ ys) → All P ys
 All-back P xs ys a = subst (All P) (drop-append_seam xs ys) (All-drop P (length xs) (xs ++ ys) a)
 
--- what more indexes and lists add behind
+-- what further indexes and lists add at the end
 abbrev pub rest : List ℕ → List (List ℕ) → List ℕ
 rest [] ks = []
 rest (x ∷ xs) ks = x ∷ weave xs ks
@@ -21,7 +21,8 @@ weave-more ys xs [] ks e = absurd (omega arith)
 weave-more [] [] (l ∷ []) ks e = sym (append-nil l)
 weave-more [] (x ∷ xs) (l ∷ []) ks e = refl
 weave-more [] xs (l ∷ (l2 ∷ ls)) ks e = absurd (omega arith)
-weave-more (y ∷ ys) xs (l ∷ ls) ks e = ap (λ z. l ++ y ∷ z) (weave-more ys xs ls ks (omega arith)) ∙ sym (append_assoc l (y ∷ weave ys ls) (rest xs ks))
+weave-more (y ∷ ys) xs (l ∷ ls) ks e =
+    ap (λ z. l ++ y ∷ z) (weave-more ys xs ls ks (omega arith)) ∙ sym (append_assoc l (y ∷ weave ys ls) (rest xs ks))
 
 pub weave-append :
     (lo : List ℕ) (m : ℕ) (hi : List ℕ) (ks ls : List (List ℕ))
@@ -29,7 +30,7 @@ pub weave-append :
     → weave (lo ++ m ∷ hi) (ks ++ ls) ≡ weave lo ks ++ m ∷ weave hi ls
 weave-append lo m hi ks ls e = weave-more lo (m ∷ hi) ks ls e
 
--- a woven list, apart at its i-th list, which k is put in the place of
+-- a woven list, taken apart at its i-th list, which k replaces
 pub weave-set :
     (i : ℕ) (xs : List ℕ) (ks : List (List ℕ)) (k : List ℕ)
     → i < length ks
@@ -39,7 +40,9 @@ weave-set i xs [] k p e = absurd (omega arith)
 weave-set zero [] (l ∷ ks) k p e = sym (append-nil k)
 weave-set zero (x ∷ xs) (l ∷ ks) k p e = refl
 weave-set (suc i) [] (l ∷ ks) k p e = absurd (omega arith)
-weave-set (suc i) (x ∷ xs) (l ∷ ks) k p e = ap (λ z. l ++ x ∷ z) (weave-set i xs ks k (omega arith) (omega arith)) ∙ sym (append_assoc l (x ∷ before i xs ks) (k ++ after i xs ks))
+weave-set (suc i) (x ∷ xs) (l ∷ ks) k p e =
+    ap (λ z. l ++ x ∷ z) (weave-set i xs ks k (omega arith) (omega arith))
+    ∙ sym (append_assoc l (x ∷ before i xs ks) (k ++ after i xs ks))
 
 pub apart : (i : ℕ) (xs : List ℕ) (ks : List (List ℕ)) (d : List ℕ) → i < length ks → length ks ≡ length xs + 1
     → weave xs ks ≡ before i xs ks ++ (get_or ks i d ++ after i xs ks)
@@ -49,7 +52,7 @@ apart i xs ks d p e = sym (ap (weave xs) (set-get_or ks i d)) ∙ weave-set i xs
 abbrev pub index_place : ℕ → List ℕ → List (List ℕ) → ℕ
 index_place i xs ks = length (before i xs ks) + length (get_or ks i [])
 
--- an edit at a place of the i-th list is one of all, where it goes by the members about that place
+-- an edit f at a place of the i-th list is an edit of the woven list, if what f does doesn't depend on the rest of it
 pub weave-edit :
     (f : List ℕ → ℕ → List ℕ) (i : ℕ) (xs : List ℕ) (ks : List (List ℕ)) (d k : List ℕ) (q : ℕ)
     → i < length ks
@@ -64,7 +67,8 @@ weave-edit f i xs ks d k q p e is behind within =
     let g : List ℕ = get_or ks i d in
     let at : length b + q - length b ≡ q = omega arith in
     weave-set i xs ks k p e ∙ ap (λ z. b ++ (z ++ a)) is ∙ ap (λ z. b ++ z) (sym (ap (f (g ++ a)) at ∙ within a))
-    ∙ sym (behind b (g ++ a) (length b) (length b + q) refl (omega arith)) ∙ ap (λ z. f z (length b + q)) (sym (apart i xs ks d p e))
+    ∙ sym (behind b (g ++ a) (length b) (length b + q) refl (omega arith))
+    ∙ ap (λ z. f z (length b + q)) (sym (apart i xs ks d p e))
 
 -- an index put into the i-th list
 pub edited :
@@ -74,7 +78,9 @@ pub edited :
     → q ≤ length (get_or ks i d)
     → k ≡ insert (get_or ks i d) q x
     → weave xs (set ks i k) ≡ insert (weave xs ks) (length (before i xs ks) + q) x
-edited i xs ks d k q x p e w is = weave-edit (λ z j. insert z j x) i xs ks d k q p e is (λ b ys n j. insert-append_right b ys n j x) (λ a. insert-append_left (get_or ks i d) a q x w)
+edited i xs ks d k q x p e w is =
+    weave-edit (λ z j. insert z j x) i xs ks d k q p e is (λ b ys n j. insert-append_right b ys n j x)
+    (λ a. insert-append_left (get_or ks i d) a q x w)
 
 -- a child that is split about an index
 halved :
@@ -87,7 +93,8 @@ halved zero [] (k ∷ []) l m u p e = refl
 halved zero [] (k ∷ (k2 ∷ ks)) l m u p e = absurd (omega arith)
 halved zero (x ∷ xs) (k ∷ ks) l m u p e = sym (append_assoc l (m ∷ u) (x ∷ weave xs ks))
 halved (suc i) [] (k ∷ ks) l m u p e = absurd (omega arith)
-halved (suc i) (x ∷ xs) (k ∷ ks) l m u p e = let ih = rw add-one at (halved i xs ks l m u (omega arith) (omega arith)) in rw add-one (ap (λ z. k ++ x ∷ z) ih)
+halved (suc i) (x ∷ xs) (k ∷ ks) l m u p e =
+    let ih = rw add-one at (halved i xs ks l m u (omega arith) (omega arith)) in rw add-one (ap (λ z. k ++ x ∷ z) ih)
 
 -- the same, for what a child's insert left
 pub widened :

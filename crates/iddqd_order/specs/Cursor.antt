@@ -1,4 +1,4 @@
--- Where a walk along a tree stands: in a gap before, between or behind the indexes of a leaf.
+-- Where a cursor stands: in a gap before, between or behind the indexes of a leaf.
 use Rattle.std.specs.Prelude.{◌≡◌, ℕ, zero, suc, ◌+◌, ◌-◌, ◌<◌, ◌≤◌, List, [], Option, Some, None, ⊤, length, take, drop, slice_index, slice_set}
 use Rattle.std.specs.Borrow.{Bor}
 use Rattle.std.specs.Ordering.{MatchOrdering}
@@ -28,15 +28,15 @@ abbrev pub edge_of : End → ℕ → ℕ
 edge_of Front count = 0
 edge_of Back count = count
 
--- A step towards an end goes from gap i over one index to gap j. If gap i is at that end, there is no index, and j is
--- i.
+-- A step towards an end goes from gap i over one index to gap j. If gap i is at that end, there is no index to go over,
+-- and j is i.
 abbrev pub Steps : End → List ℕ → ℕ → Option ℕ → ℕ → Type 0
 Steps towards xs i None j = (i ≡ edge_of towards (length xs)) × (j ≡ i)
 Steps Front xs i (Some ix) j = IsBehind xs j ix × (i ≡ j + 1)
 Steps Back xs i (Some ix) j = IsBehind xs i ix × (j ≡ i + 1)
 
--- in a row of `count` indexes, the place of the index next to the gap `place` towards an end, and the gap beyond that
--- index; none if the gap is at that end
+-- In a row of `count` indexes, r.0 is the place of the index next to the gap `place`, towards an end, and r.1 is the
+-- gap on the other side of that index. With `None` the gap is at that end.
 abbrev pub AreBeside : End → ℕ → ℕ → Option (ℕ × ℕ) → Type 0
 AreBeside towards count place None = place ≡ edge_of towards count
 AreBeside Front count place (Some r) = (r.0 < count) × (place ≡ r.0 + 1) × (r.1 ≡ r.0)
@@ -59,8 +59,9 @@ pub record AtEdge (end : End) (h : ℕ) (n : Node) (xs p : List ℕ) : Type 0 wh
   pub place_is : place h n p ≡ edge_of end (length (flat h n))
   pub leaf_is : xs ≡ leaf h n p
 
--- ix is the index next to p's gap, towards an end; q goes to the gap beyond ix, and xs is q's leaf
-pub record Over (towards : End) (h : ℕ) (n : Node) (p : List ℕ) (ix : ℕ) (xs q : List ℕ) : Type 0 where
+-- ix is the index next to the gap of the path p, towards an end; the path q goes to the gap on the other side of ix, in
+-- the leaf xs
+pub record StepsOver (towards : End) (h : ℕ) (n : Node) (p : List ℕ) (ix : ℕ) (xs q : List ℕ) : Type 0 where
   pub goes : ReachesGap h n q
   pub steps : Steps towards (flat h n) (place h n p) (Some ix) (place h n q)
   pub leaf_is : xs ≡ leaf h n q

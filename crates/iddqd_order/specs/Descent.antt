@@ -22,12 +22,12 @@ abbrev pub stop_of : Result ℕ ℕ → Stop
 stop_of (Ok l) = AtIndex
 stop_of (Err k) = InGap
 
--- the same end, given by the place i of its index or gap in the whole list
+-- the same end, with the place i of its index or gap in the whole list in place of a level or a count
 abbrev pub end_at : Result ℕ ℕ → ℕ → Result ℕ ℕ
 end_at (Ok l) i = Ok i
 end_at (Err k) i = Err i
 
--- the end of a search of a table, given by the place of its index or gap in the whole list
+-- the end of a search of a table, with the place of its index or gap in the whole list
 abbrev pub end_in : Order → Result Spot Gap → Result ℕ ℕ
 end_in t (Ok spot) = Ok (spot_place t spot)
 end_in t (Err gap) = Err (gap_place t gap)

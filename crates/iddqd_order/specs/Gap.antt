@@ -32,7 +32,7 @@ module _ {F R : Type 0} (g : Mut F (ℕ × Unit {0}) R) (read : R → Ordering) 
     pub stored : Contains (order_of t) ix
     pub hit : (answer : ℕ → Ordering) → IsSteady g (order_of t) None read answer old → answer ix ≡ Equal
 
-  pub record FindsFreePlace (old : Asking F) (gap : Gap) : Type 0 where
+  pub record FindsFreeGap (old : Asking F) (gap : Gap) : Type 0 where
     pub fits : Fits t gap
     pub within : gap_place t gap ≤ length (order_of t)
     pub place : (answer : ℕ → Ordering) → IsSteadyRising g (order_of t) None read answer old →
@@ -42,7 +42,7 @@ module _ {F R : Type 0} (g : Mut F (ℕ × Unit {0}) R) (read : R → Ordering) 
 
   abbrev pub FindsGap : Asking F → Result Gap ℕ → Asking F → Type 0
   FindsGap old (Err ix) new = SearchAsks g (order_of t) None old new × FindsStored old ix
-  FindsGap old (Ok gap) new = SearchAsks g (order_of t) None old new × FindsFreePlace old gap
+  FindsGap old (Ok gap) new = SearchAsks g (order_of t) None old new × FindsFreeGap old gap
 
   -- a search for the gap of an index that isn't stored; if an answer is Equal, the lesser index comes first
   pub record FindsOwnGap (ix : ℕ) (old : Asking F) (gap : Gap) (new : Asking F) : Type 0 where

@@ -24,7 +24,7 @@ child_room n = vec_capacity (out-Node n).children
 abbrev pub child : Node → ℕ → Node
 child n i = slice_index_or (children n) i n
 
--- the indexes xs with the lists ks between them: one list more than indexes, or none
+-- the lists ks with the indexes xs between them; there is one list more than indexes, or no list
 abbrev pub weave : List ℕ → List (List ℕ) → List ℕ
 weave xs [] = xs
 weave [] (k ∷ ks) = k

@@ -17,8 +17,8 @@ use Rattle.iddqd_order.specs.declared.btree_table.range.Range.{Range}
 unfoldable pub indexes_ahead : Range → List ℕ
 indexes_ahead r = r
 
--- With Equal read as Less, the position of the first index whose answer isn't Greater. With Equal read as Greater, the
--- position of the first index whose answer is Less.
+-- Equal is read as `at_equal`. If that is Less, the position is that of the first index whose answer isn't Greater. If
+-- it is Greater, the position is that of the first index whose answer is Less.
 abbrev pub IsBoundAt : Ordering → (ℕ → Ordering) → List ℕ → ℕ → Type 0
 IsBoundAt at_equal answer xs place = IsPlace (λ ix. ordering_then (answer ix) at_equal) xs place
 
@@ -42,15 +42,17 @@ pub record IsPart (xs : List ℕ) (from to : ℕ) (walk : Range) : Type 0 where
   pub to_within : to ≤ length xs
   pub ahead : indexes_ahead walk ≡ part from to xs
 
--- a walk between two bounds: both use one asking, and differ in how they read its answer
+-- A walk between two bounds. One asking serves both. A bound says how it reads an answer.
 module _ {F R : Type 0} (g : Mut F (ℕ × Unit {0}) R) (xs : List ℕ) where
-  -- if the answers are steady and rise, the position of the first index within the lower bound
+  -- If the answers are steady and rise, the position of the first index within the lower bound. Without a bound it is
+  -- 0, for any answers.
   abbrev pub Begins : Bound (R → Ordering) → Asking F → ℕ → Type 0
   Begins (Included read) old place = IsBoundBy g read Less xs old place
   Begins (Excluded read) old place = IsBoundBy g read Greater xs old place
   Begins Unbounded old place = place ≡ 0
 
-  -- if the answers are steady and rise, the position of the first index beyond the upper bound
+  -- If the answers are steady and rise, the position of the first index beyond the upper bound. Without a bound it is
+  -- the length, for any answers.
   abbrev pub Ends : Bound (R → Ordering) → Asking F → ℕ → Type 0
   Ends (Included read) old place = IsBoundBy g read Greater xs old place
   Ends (Excluded read) old place = IsBoundBy g read Less xs old place

@@ -6,8 +6,8 @@ use Rattle.std.specs.Fn.{Called, Mut}
 -- g has the calls of the closure
 module _ {F : Type 0} (g : Mut F (ℕ × Unit {0}) Bool) where
   -- f is asked about each of the old indexes once, in their order. Each ask begins in the state in which the ask before
-  -- left f, and the last ask leaves it in the state `last`. The new indexes are those with the answer true, in their
-  -- order
+  -- it left f, and the last ask leaves f in the state `last`. The new indexes are those with the answer true, in their
+  -- order.
   pub record RetainsTo (f : F) (old new : List ℕ) (last : F) : Type 0 where
     pub asks : List (ℕ × Bool)
     pub each_once : map (λ a. a.0) asks ≡ old

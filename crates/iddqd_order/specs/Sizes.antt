@@ -11,8 +11,8 @@ pub record TakesRoom {E : Type 0} (indexes : ℕ) (result : Result Order E) : Ty
   pub roomy : IfOk result (λ t. indexes ≤ capacity t)
   pub succeeds : indexes ≤ FREE_INDEXES → IsOk result
 
--- Room was made for `additional` more indexes: the capacity is that of the blocks that all indexes will need. On an
--- error nothing changes. If there was room, the call succeeds and nothing changes.
+-- Room was made for `additional` more indexes: the capacity is that of the blocks that all indexes will then need. On
+-- an error nothing changes. If there was room already, the call succeeds and nothing changes.
 pub record Reserves {A E : Type 0} (additional : ℕ) (old : Order) (result : Result A E) (new : Order) : Type 0 where
   pub tree : HasSameTree old new
   pub contents : order_of new ≡ order_of old

@@ -3,10 +3,11 @@
 //! No table holds keys. Each search takes an [`Asking`](asking::Asking), which is asked about
 //! stored indexes and counts how often. `Less` means that what is sought stands before the index.
 //!
-//! A node owns its children, so definitions recurse over it. Nodes in one vector, linked by numbers, were
-//! up to a fifth faster in large tables, but need an invariant that relates numbers to nodes. A sorted
-//! vector shifts its elements at each change. Rows are searched by halves, since an ask costs what the
-//! caller's comparison costs. The count of asks is ghost data; only `Asking::new` and `ask` set it.
+//! A node owns its children, so definitions recurse over it. Two other layouts were rejected: nodes in one
+//! vector, linked by numbers, were up to a fifth faster in large tables, but need an invariant that relates
+//! numbers to nodes; a sorted vector shifts its elements at each change. Rows are searched by halves, since an
+//! ask costs what the caller's comparison costs. The count of asks is ghost data; only `Asking::new` and `ask`
+//! set it.
 //!
 //! Each inner node owns one block of memory. A tree of n indexes has at most `(n + 19) / 30` inner nodes,
 //! since each but the root has at least six children and five indexes. So with R blocks reserved, in the

@@ -49,13 +49,15 @@ impl Blocks {
         if count == 0 {
             return Ok(Blocks::none(alloc));
         }
-        // A result that is passed on whole stays in the memory that the call is given, and so do its copies.
+        // The match is for speed. If the call's result were returned as it is, it and each copy of it would lie in
+        // memory.
         match Blocks::some(count, alloc) {
             Ok(blocks) => Ok(blocks),
             Err(AllocError) => Err(AllocError),
         }
     }
 
+    // Allocates `count` blocks. If memory runs out, it drops the blocks allocated so far.
     #[inline(never)]
     fn some(count: usize, alloc: Global) -> Result<Blocks, AllocError>
         ensures { IfOk result (λ blocks. blocks ≡ count) }

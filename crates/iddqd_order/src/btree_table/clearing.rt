@@ -42,6 +42,6 @@ impl Node {
         while let Some(child) = children.pop() {
             child.dissolve(height - 1, reserve);
         }
-        reserve.give(children);
+        reserve.put_back(children);
     }
 }

@@ -1,10 +1,10 @@
-//! A cursor: a gap in a tree, from which a walk goes towards either end.
+//! A cursor stands at a gap of a tree, and steps towards either end.
 //!
 //! A cursor keeps the path from the root, and also the leaf, so it descends from the root only for a new leaf. A walk
 //! towards the back also keeps the node above the leaf, and descends about once in nine leaves. Descending at each
 //! leaf took twice as long for 1,000 indexes, and 1.4 times as long for a million.
 ghost use Rattle.std.specs.Prelude.{◌≡◌, ℕ, ◌<◌, ◌≤◌, length, slice_index, IfSome, IsNone};
-ghost use Rattle.iddqd_order.specs.Cursor.{AreBeside, AtEdge, Compares, Over, Steps, IsGap, Stands, edge_of, gap_of, leaf, leaf_parent, opposite, to_gap};
+ghost use Rattle.iddqd_order.specs.Cursor.{AreBeside, AtEdge, Compares, StepsOver, Steps, IsGap, Stands, edge_of, gap_of, leaf, leaf_parent, opposite, to_gap};
 ghost use Rattle.iddqd_order.specs.declared.btree_table.node.Node.{Node as NodeOf};
 ghost use Rattle.iddqd_order.specs.Node.{flat, ReachesGap, IsFormed, place};
 ghost use Rattle.iddqd_order.specs.Tree.{IsTree, ReachesGapIn, in_order, place_in};
@@ -121,7 +121,7 @@ impl<'a> Cursor<'a> {
         self.leave_leaf(root, height, End::Front)
     }
 
-    // Moves from the end of the leaf over the next index, into the next leaf. Returns that index.
+    // At the end of a leaf, moves over the next index into the next leaf, and returns the index.
     #[inline(never)]
     fn next_leaf(&mut self, root: &'a Option<Node>, height: usize) -> Option<ItemIndex>
         requires tree { IsTree root.now height }
@@ -144,8 +144,8 @@ impl<'a> Cursor<'a> {
         self.leave_leaf(root, height, End::Back)
     }
 
-    // Moves over the index next to the gap, towards an end, by a walk down from the root. Returns that index. If there
-    // is none, the cursor stays as it is.
+    // Walks down from the root, moves over the index next to the gap, towards an end, and returns it. If there is none,
+    // the cursor stays as it is.
     pub(super) fn leave_leaf(
         &mut self,
         root: &'a Option<Node>,
@@ -228,8 +228,8 @@ fn edge_place(row: &Row, end: End) -> usize
     }
 }
 
-// The index next to the gap at `place`, towards an end, in a row of `count` indexes: its place, and that of the gap
-// beyond it.
+// In a row of `count` indexes, finds the index next to the gap at `place`, towards an end. Returns the place of that
+// index, and the place of the gap on its other side.
 fn beside(place: usize, count: usize, towards: End) -> Option<(usize, usize)>
     requires { place ≤ count }
     ensures { AreBeside towards count place result }
@@ -302,7 +302,7 @@ impl Node {
         requires goes { ReachesGap level self.now path.old }
         ensures ended { IsNone result → place level self.now path.old ≡ edge_of towards (length (flat level self.now)) }
         ensures unchanged { IsNone result → path.new ≡ path.old }
-        ensures over { IfSome result (λ r. Over towards level self.now path.old r.0 r.1.now path.new) }
+        ensures over { IfSome result (λ r. StepsOver towards level self.now path.old r.0 r.1.now path.new) }
         ensures path { length path.new ≡ LEVELS }
         ensures above { (m : ℕ) → level < m → slice_index path.new m ≡ slice_index path.old m }
     {

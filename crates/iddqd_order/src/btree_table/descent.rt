@@ -1,7 +1,7 @@
 //! Searches of a tree: one walk down from the root, at most four asks a level.
 //!
-//! A tree with h levels above its leaves has at least `2 * 6^h - 1` indexes, so four asks a level are
-//! within the bound of `4 + 2 * digits(len)`, and so is one more ask before them.
+//! A tree with h levels above its leaves has at least `2 * 6^h - 1` indexes. So four asks a level, and one more
+//! at the front, are within the bound of `4 + 2 * digits(len)`.
 ghost use Rattle.std.specs.Prelude.{◌≡◌, ℕ, ◌+◌, ◌*◌, ◌<◌, ◌≤◌, Some, None, IfSome, IsNone, Contains, length, slice_index};
 ghost use Rattle.iddqd_order.specs.Descent.{Descends, FindsIn};
 ghost use Rattle.iddqd_order.specs.Digits.{row_asks};
@@ -113,8 +113,8 @@ impl Node {
     }
 }
 
-// Updates `full` at the node on the path that has this row and level. `full` is the lowest level so far at which the
-// node isn't full, or the number of levels if all nodes so far are full.
+// A walk down keeps in `full` the lowest level so far at which its node isn't full, or the number of levels if all
+// nodes so far are full. This returns the new `full` at a node that has this row and level.
 #[inline(always)]
 pub(super) fn full_from(row: &Row, level: usize, full: usize) -> usize
     requires { level < full }

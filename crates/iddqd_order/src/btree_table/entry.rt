@@ -95,7 +95,7 @@ impl MapBTreeTable {
         ensures table { (entry_table result).now ≡ self.old }
         ensures made { FindsEntry F.FnMut (H.reading how.now) (order_of self.old) asking.old result asking.new }
     {
-        match self.descend(self.is_at_front, asking, how, &None) {
+        match self.descend(self.insert_start, asking, how, &None) {
             Ok(spot) => Entry::Occupied(OccupiedEntry { table: self, spot }),
             Err(gap) => Entry::Vacant(VacantEntry { table: self, gap }),
         }
@@ -154,7 +154,7 @@ impl<'a> VacantEntry<'a> {
             IfOk result (λ p. prepared_insert.blocks_of p ≡ 0) }
     {
         let VacantEntry { table, gap } = self;
-        let blocks = match table.take_blocks(gap.full) {
+        let blocks = match table.allocate_blocks(gap.full) {
             Ok(blocks) => blocks,
             Err(AllocError) => return Err(AllocError),
         };

@@ -40,7 +40,7 @@ impl MapBTreeTable {
         requires { CanSearch F.FnMut (order_of self.now) None asking.old }
         ensures { FindsGap F.FnMut (λ r. r) self.now asking.old result asking.new }
     {
-        match self.descend(self.is_at_front, asking, &AsOrdering, &None) {
+        match self.descend(self.insert_start, asking, &AsOrdering, &None) {
             Ok(spot) => Err(self.index_at(&spot)),
             Err(gap) => Ok(gap),
         }
@@ -76,7 +76,7 @@ impl MapBTreeTable {
             gap_blocks self.now gap.now ≡ 0 }
         ensures none { gap_blocks self.now gap.now ≡ 0 → IsOk result }
     {
-        self.take_blocks(gap.full)
+        self.allocate_blocks(gap.full)
     }
 
     /// Allocates the blocks for a move to any place, or for an insert after a removal: none up to the capacity.
@@ -85,7 +85,7 @@ impl MapBTreeTable {
         ensures roomy { length (order_of self.now) ≤ capacity self.now → move_blocks self.now ≡ 0 }
         ensures none { move_blocks self.now ≡ 0 → IsOk result }
     {
-        self.take_move_blocks()
+        self.allocate_move_blocks()
     }
 
     /// Inserts the index at the gap. The others keep their order. It asks nothing.

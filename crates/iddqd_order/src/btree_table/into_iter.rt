@@ -72,7 +72,7 @@ impl OwnedCursor {
         self.leave_leaf(root, height, End::Front)
     }
 
-    // Moves over the index next to the gap, towards an end, by a walk down from the root. Returns that index.
+    // Walks down from the root, moves over the index next to the gap, towards an end, and returns it.
     fn leave_leaf(&mut self, root: &Option<Node>, height: usize, towards: End) -> Option<ItemIndex>
         requires tree { IsTree root.now height }
         requires at { IsAt root.now height self.old.path self.old.row self.old.at }

@@ -111,7 +111,7 @@ fn split_inner(
 impl Node {
     // Inserts an index at the path's gap, in a leaf that isn't full.
     pub(super) fn put_in_leaf(&mut self, height: usize, path: &Path, ix: ItemIndex)
-        requires low { height < LEVELS }
+        requires levels { height < LEVELS }
         requires formed { IsFormed height self.old }
         requires goes { ReachesGap height self.old path.now }
         requires room { IsFullBelow 0 height self.old path.now }
@@ -138,7 +138,7 @@ impl Node {
         fresh: &mut Blocks,
         alloc: Global,
     )
-        requires low { height < LEVELS }
+        requires levels { height < LEVELS }
         requires some { 0 < full }
         requires not_all { full ≤ height }
         requires formed { IsFormed height self.old }
@@ -178,7 +178,7 @@ impl Node {
         fresh: &mut Blocks,
         alloc: Global,
     ) -> (ItemIndex, Node)
-        requires low { height < LEVELS }
+        requires levels { height < LEVELS }
         requires formed { IsFormed height self.old }
         requires goes { ReachesGap height self.old path.now }
         requires full { IsFullBelow (height + 1) height self.old path.now }

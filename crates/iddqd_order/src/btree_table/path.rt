@@ -40,13 +40,6 @@ impl Path {
         }
     }
 
-    // Whether both places at the lower end are the first, as they are where the path goes before all indexes. To look
-    // at all twelve takes thirty instructions.
-    pub(super) fn is_near_front(&self) -> bool {
-        let places = &self.places;
-        places[0] == 0 && places[1] == 0
-    }
-
     // The place in the leaf.
     pub(super) fn leaf_place(&self) -> usize
         ensures place { result ≡ slice_index self.now 0 }

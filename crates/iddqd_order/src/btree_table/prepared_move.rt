@@ -50,7 +50,7 @@ impl MapBTreeTable {
         ensures no_blocks { length (order_of self.old) ≤ capacity self.old →
             IfOk result (λ p. prepared_move.blocks_of p ≡ 0) }
     {
-        let blocks = match self.take_move_blocks() {
+        let blocks = match self.allocate_move_blocks() {
             Ok(blocks) => blocks,
             Err(AllocError) => return Err(AllocError),
         };

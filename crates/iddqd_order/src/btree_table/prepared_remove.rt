@@ -1,7 +1,7 @@
 //! A removal whose search is done; it may have missed.
 //!
-//! Its contract describes what is left by a filter of the list, not by a place, so it is the same for a tree
-//! and for a sorted list.
+//! Its contract says what is left as a filter of the list. It names no position, so it would be the same for a
+//! sorted list.
 ghost use Rattle.std.specs.Prelude.{◌≡◌, ◌≤◌, IsTrue, false};
 ghost use Rattle.iddqd_order.specs.MapBTreeTable.{order_of, capacity, without, LeadsTo, LeadsTo-prop};
 

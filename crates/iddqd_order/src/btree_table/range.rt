@@ -7,8 +7,8 @@
 //! stand at the same gap.
 //!
 //! A contract describes a range by two positions, which exist for any answers; if answers rise, they are
-//! the bounds. `range_by` has inclusive bounds. For an exclusive bound the closure answers Greater for Equal at
-//! the lower bound, and Less for Equal at the upper one.
+//! the bounds. `range_by` includes what is Equal at either bound. To exclude it, let the closure answer Greater in
+//! place of Equal at the lower bound, and Less in place of Equal at the upper one.
 ghost use Rattle.std.specs.Prelude.{◌≡◌, ◌≢◌, None, length};
 ghost use Rattle.std.specs.declared.cmp.Ordering.{Ordering};
 ghost use Rattle.std.specs.declared.cmp.Ordering.TheVariants.{Less, Equal, Greater};
@@ -21,6 +21,7 @@ ghost use Rattle.iddqd_order.specs.Tree.{ReachesGapIn, place_in};
 
 use crate::btree_table::asking::Asking;
 use crate::btree_table::cursor::{Cursor, End};
+use crate::btree_table::front::Start;
 use crate::btree_table::node::Node;
 use crate::btree_table::path::Path;
 use crate::btree_table::reading::{AsOrdering, ByQuery, Reads, Unequal};
@@ -99,7 +100,7 @@ impl<'a> Range<'a> {
         }
     }
 
-    // Whether no index is left. Most often the places in the leaves differ, and the paths need not be compared.
+    // Whether no index is left. If the places in the leaves differ, as they mostly do, the paths aren't compared.
     fn has_ended(&self) -> bool
         ensures { IsTrue result ↔ (indexes_ahead self.now ≡ []) }
     {
@@ -247,7 +248,7 @@ impl MapBTreeTable {
         self.walk_between(&front, &back)
     }
 
-    // `iter_from_by`, `iter_from`, `iter_after_by` and `iter_after`, generic over how an answer is read, with Equal read
+    // `iter_from_by`, `iter_from`, `iter_after_by` and `iter_after`, generic over how an answer is read. Equal is read
     // as `at_equal`.
     fn walk_from<R, F: FnMut(ItemIndex) -> R, H: Reads<R>>(
         &self,
@@ -316,7 +317,7 @@ impl MapBTreeTable {
         ensures bound { IsBoundBy F.FnMut (H.reading how.now) at_equal (order_of self.now) asking.old
             (place_in self.now.root self.now.height result) }
     {
-        match self.descend(false, asking, &Unequal { how, at_equal }, &None) {
+        match self.descend(Start::Root, asking, &Unequal { how, at_equal }, &None) {
             // No answer is read as Equal.
             Ok(_) => unreachable!(),
             Err(gap) => gap.path,

@@ -1,8 +1,8 @@
 //! Removal from a node, which takes no memory.
 //!
 //! It repairs nodes on the way back up: a child left with four indexes takes one from a neighbour, or is merged
-//! with it. A separate descent for leaves that stay large enough saved 1 % of a random removal, so there is
-//! none.
+//! with it. A descent without this repair, for leaves that stay large enough, saved 1 % of a random removal, so
+//! there is none.
 //!
 //! If two inner nodes are merged, the block of the second goes to the reserve.
 ghost use Rattle.std.specs.Prelude.{◌≡◌, ◌↔◌, ℕ, ◌+◌, ◌<◌, ◌≤◌, [], ◌∷◌, ◌++◌, length, slice_index_or, option_to_list, vec_capacity, IsSome, min};
@@ -42,12 +42,16 @@ pub(super) fn remove_in(
             return height;
         }
     }
-    lower(root, height, reserve)
+    drop_empty_root(root, height, reserve)
 }
 
 // Drops a root without indexes, and returns the new height. The root's only child, if there is one, becomes the root,
 // and the old root's block goes to the reserve.
-pub(super) fn lower(root: &mut Option<Node>, height: usize, reserve: &mut Reserve) -> usize
+pub(super) fn drop_empty_root(
+    root: &mut Option<Node>,
+    height: usize,
+    reserve: &mut Reserve,
+) -> usize
     requires emptied { IsEmptied root.old height }
     requires inners { reserve.old.inners ≡ inners_in root.old height }
     ensures inners { reserve.new.inners ≡ inners_in root.new result }
@@ -63,14 +67,14 @@ pub(super) fn lower(root: &mut Option<Node>, height: usize, reserve: &mut Reserv
         return 0;
     };
     *root = Some(child);
-    reserve.give(children);
+    reserve.put_back(children);
     height.saturating_sub(1)
 }
 
 impl Node {
     // Removes the index to which the path goes at the level. This node may then hold one index fewer.
     pub(super) fn remove(&mut self, height: usize, path: &Path, level: usize, reserve: &mut Reserve)
-        requires low { height < LEVELS }
+        requires levels { height < LEVELS }
         requires some { 1 ≤ length (row self.old) }
         requires formed { IsFormed height self.old }
         requires holds { ReachesIndex level height self.old path.now }
@@ -189,7 +193,7 @@ impl Node {
             return;
         }
         let _ = self.children.append(&mut children);
-        reserve.give(children);
+        reserve.put_back(children);
     }
 }
 
@@ -212,7 +216,7 @@ fn mend(row: &mut Row, children: &mut Vec<Node>, i: usize, reserve: &mut Reserve
 #[inline(never)]
 fn fill_up(row: &mut Row, children: &mut Vec<Node>, i: usize, reserve: &mut Reserve)
     requires lacks { (h : ℕ) × MayLackOne h i row.old children.old.items }
-    requires poor { (d : Node) → length (row_of (slice_index_or children.old.items i d)) < LEAST }
+    requires too_few { (d : Node) → length (row_of (slice_index_or children.old.items i d)) < LEAST }
     requires some { 1 ≤ reserve.old.inners }
     ensures mended { (h : ℕ) → MayLackOne h i row.old children.old.items →
         IsMended h row.old children.old.items row.new children.new.items }
@@ -238,7 +242,7 @@ fn fill_up(row: &mut Row, children: &mut Vec<Node>, i: usize, reserve: &mut Rese
 fn borrow_left(row: &mut Row, children: &mut Vec<Node>, left: usize)
     requires lacks { (h : ℕ) × MayLackOne h (left + 1) row.old children.old.items }
     requires more { (d : Node) → LEAST < length (row_of (slice_index_or children.old.items left d)) }
-    requires poor { (d : Node) → length (row_of (slice_index_or children.old.items (left + 1) d)) < LEAST }
+    requires too_few { (d : Node) → length (row_of (slice_index_or children.old.items (left + 1) d)) < LEAST }
     ensures mended { (h : ℕ) → MayLackOne h (left + 1) row.old children.old.items →
         IsMended h row.old children.old.items row.new children.new.items }
     ensures inners { (h : ℕ) → inners_of h children.new.items ≡ inners_of h children.old.items }
@@ -256,7 +260,7 @@ fn borrow_right(row: &mut Row, children: &mut Vec<Node>, left: usize)
     requires lacks { (h : ℕ) × MayLackOne h left row.old children.old.items }
     requires within { left < length row.old }
     requires more { (d : Node) → LEAST < length (row_of (slice_index_or children.old.items (left + 1) d)) }
-    requires poor { (d : Node) → length (row_of (slice_index_or children.old.items left d)) < LEAST }
+    requires too_few { (d : Node) → length (row_of (slice_index_or children.old.items left d)) < LEAST }
     ensures mended { (h : ℕ) → MayLackOne h left row.old children.old.items →
         IsMended h row.old children.old.items row.new children.new.items }
     ensures inners { (h : ℕ) → inners_of h children.new.items ≡ inners_of h children.old.items }

@@ -41,6 +41,7 @@ impl Node {
     }
 }
 
+// Gives each index of a row its new name.
 fn rename_row(row: &mut Row, remap: &IndexRemap)
     requires { All (CanRemap remap.now) row.old }
     ensures { row.new ≡ map (remapped remap.now) row.old }

@@ -1,8 +1,9 @@
 //! The empty blocks that a table keeps beside its tree, so that it can hold the indexes that it was made for without
 //! asking for memory.
 //!
-//! With R blocks reserved, there are never fewer than R in the tree and beside it together. A split takes a block from
-//! here first. A merge gives one back if fewer than R would be left. Growth takes further blocks, and never changes R.
+//! With R blocks reserved, there are never fewer than R in the tree and beside it together. A split takes its block
+//! from the reserve, as long as that has one. A merge puts a block back if fewer than R would be left. Growth allocates
+//! further blocks, and never changes R.
 ghost use Rattle.std.specs.Prelude.{◌≡◌, ◌+◌, ◌-◌, ◌<◌, ◌≤◌, [], ◌++◌, All, length, min, max, OnOk, OnErr, vec_len, vec_capacity};
 ghost use Rattle.iddqd_order.specs.MapBTreeTable.{needed_blocks, capacity_of};
 ghost use Rattle.iddqd_order.specs.Node.{IsSpare};
@@ -61,7 +62,7 @@ pub(super) struct Reserve {
     blocks: Vec<Vec<Node>>,
     // How many inner nodes the tree has.
     inners: usize,
-    // The least number of blocks in the tree and here together.
+    // The least number of blocks in the tree and in the reserve together.
     reserved: usize,
 }
 
@@ -102,6 +103,7 @@ impl Reserve {
         }
     }
 
+    /// How many blocks are reserved, in the tree and in the reserve together.
     pub(super) fn reserved(&self) -> usize
         ensures value { result ≡ self.now.reserved }
         ensures few { result ≤ most_blocks }
@@ -109,14 +111,14 @@ impl Reserve {
         self.reserved
     }
 
-    /// How many empty blocks lie here.
+    /// How many empty blocks the reserve has.
     pub(super) fn spare(&self) -> usize
         ensures { result ≡ spare self.now }
     {
         self.blocks.len()
     }
 
-    /// A block for one more inner node: one from here, or else a fresh one.
+    /// Removes a block for one more inner node: one of the reserve, or else one of `fresh`.
     pub(super) fn take(&mut self, fresh: &mut Blocks) -> Vec<Node>
         requires some { 0 < spare self.old + fresh.old }
         requires fits { self.old.inners ≤ MOST_INDEXES }
@@ -134,7 +136,7 @@ impl Reserve {
     }
 
     /// Takes back the block of a removed inner node, and drops it if enough blocks are left without it.
-    pub(super) fn give(&mut self, block: Vec<Node>)
+    pub(super) fn put_back(&mut self, block: Vec<Node>)
         requires block { IsSpare block }
         requires some { 1 ≤ self.old.inners }
         ensures one_less { self.new.inners + 1 ≡ self.old.inners }

@@ -1,11 +1,11 @@
 //! The indexes that a closure keeps, gathered in place.
 //!
-//! The closure is asked about an index before anything is put in its place. Then the last indexes are removed,
-//! one by one. The closure is passed by reference, so that contracts can name its last state: it isn't called
-//! again after the last index.
+//! The closure is asked about an index before another one is written in its place. Then the last indexes are
+//! removed, one by one. The closure is passed by reference, so that contracts can name its last state: it isn't
+//! called again after the last index.
 //!
-//! Not done: reading from a copy of each leaf, and leaving the indexes before the first dropped one in place,
-//! would take 0.85 of the time if half stay, and 0.25 if all do.
+//! It could read from a copy of each leaf, and leave all indexes before the first dropped one as they are. That
+//! would take 0.85 of the time if half of the indexes stay, and 0.25 if all do, but isn't done.
 ghost use Rattle.std.specs.Prelude.{◌≡◌, ℕ, ◌+◌, ◌-◌, ◌<◌, ◌≤◌, length, take, Contains};
 ghost use Rattle.iddqd_order.specs.Asks.{CanAsk};
 ghost use Rattle.iddqd_order.specs.Node.{row, flat, inners, IsFormed};
@@ -14,7 +14,7 @@ ghost use Rattle.iddqd_order.specs.Tree.{in_order, inners_in, IsTree};
 
 use crate::btree_table::node::Node;
 use crate::btree_table::path::LEVELS;
-use crate::btree_table::removal::lower;
+use crate::btree_table::removal::drop_empty_root;
 use crate::btree_table::reserve::Reserve;
 use crate::btree_table::spot_cursor::SpotCursor;
 use iddqd::item_index::ItemIndex;
@@ -46,7 +46,7 @@ pub(super) fn retain_in<F: FnMut(ItemIndex) -> bool>(
 }
 
 // Moves the indexes at which `f` answers true to the front, in their order, and returns how many they are. `f` is
-// asked about each index before another one is put in its place.
+// asked about each index before another one is written in its place.
 fn gather<F: FnMut(ItemIndex) -> bool>(
     root: &mut Node,
     height: usize,
@@ -70,7 +70,7 @@ fn gather<F: FnMut(ItemIndex) -> bool>(
     while from.place < len {
         let ix = from.step(root, height);
         if f(ix) {
-            to.put(root, height, ix);
+            to.replace(root, height, ix);
         }
     }
     to.place
@@ -110,5 +110,5 @@ fn take_last(root: &mut Option<Node>, height: usize, reserve: &mut Reserve) -> u
             return height;
         }
     }
-    lower(root, height, reserve)
+    drop_empty_root(root, height, reserve)
 }

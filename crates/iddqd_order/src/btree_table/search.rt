@@ -1,8 +1,8 @@
 //! The search of a row by halves. All calls that search use it.
 //!
-//! Going along a row from the left was faster for keys that are numbers, but asked up to eleven times. Two
-//! indexes are compared only at Equal, by a `match`: `Ordering::then` compared the indexes at each ask. Four
-//! asks search fifteen indexes, and a row has at most eleven.
+//! Four asks search fifteen indexes, and a row has at most eleven. To go along a row from the left was faster
+//! for keys that are numbers, but asked up to eleven times. The `match` compares two indexes only if the answer
+//! is Equal; `Ordering::then` compared them at each ask.
 ghost use Rattle.std.specs.Prelude.{◌≡◌, ◌≢◌, ℕ, ◌+◌, ◌*◌, ◌<◌, ◌≤◌, List, Contains, Some, None, length};
 ghost use Rattle.std.specs.declared.cmp.Ordering.{Ordering};
 ghost use Rattle.iddqd_order.specs.Asking.{closure_of};

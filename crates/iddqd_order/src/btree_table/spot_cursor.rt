@@ -51,7 +51,7 @@ impl SpotCursor {
     }
 
     // Replaces the index at which the cursor stands, and moves the cursor to the next one.
-    pub(super) fn put(&mut self, root: &mut Node, height: usize, ix: ItemIndex)
+    pub(super) fn replace(&mut self, root: &mut Node, height: usize, ix: ItemIndex)
         requires formed { IsFormed height root.old }
         requires levels { height < LEVELS }
         requires stands { IsSpotCursor height root.old self.old }
@@ -67,13 +67,13 @@ impl SpotCursor {
     {
         let here = self.spot;
         self.step(root, height);
-        root.put(height, &here.path, here.level, ix);
+        root.replace(height, &here.path, here.level, ix);
     }
 }
 
 impl Node {
-    // Returns the index at a path's spot, and moves the path to the next index. Also returns the level of that next
-    // index, if it is below this node; if not, the path stays as it is.
+    // Returns the index to which a path goes at a level, and moves the path to the next index. It also returns the
+    // level of that next index. If there is none below this node, it returns None, and the path stays as it is.
     pub(super) fn step(
         &self,
         height: usize,
@@ -128,7 +128,7 @@ impl Node {
     }
 
     // Replaces the index to which a path goes at a level.
-    pub(super) fn put(&mut self, height: usize, path: &Path, level: usize, ix: ItemIndex)
+    pub(super) fn replace(&mut self, height: usize, path: &Path, level: usize, ix: ItemIndex)
         requires formed { IsFormed height self.old }
         requires levels { height < LEVELS }
         requires holds { ReachesIndex level height self.old path.now }
@@ -141,7 +141,7 @@ impl Node {
     {
         let i = path.get(height);
         if height > level {
-            self.children[i].put(height - 1, path, level, ix);
+            self.children[i].replace(height - 1, path, level, ix);
             return;
         }
         self.row.set(i, ix);

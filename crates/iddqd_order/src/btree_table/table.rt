@@ -2,18 +2,20 @@
 ghost use Rattle.std.specs.Prelude.{◌≡◌, ◌≢◌, ◌↔◌, ℕ, ◌+◌, ◌-◌, ◌<◌, ◌≤◌, List, [], length, map, slice_get, slice_index, is_some, IfOk, IsOk, IsSome, Contains, insert, IsTrue, false, Some, None};
 ghost use Rattle.std.specs.declared.cmp.Ordering.{Ordering};
 ghost use Rattle.iddqd.specs.Compaction.{CanRemap, remapped};
+ghost use Rattle.iddqd_order.specs.Asks.{AsksWithin};
 ghost use Rattle.iddqd_order.specs.Descent.{EndsIn};
 ghost use Rattle.iddqd_order.specs.Gap.{FindsOwnGap, gap_place};
 ghost use Rattle.iddqd_order.specs.MapBTreeTable.{order_of, capacity, spare_blocks, fresh_for, move_blocks, without, sentinel, IsIndexList, IsSpot, LeadsTo, spot_place};
 ghost use Rattle.iddqd_order.specs.Tree.{IsTree, ReachesGapIn, place_in, FullIn, ReachesIndexIn, place_at_level_in, blocks_for};
 ghost use Rattle.iddqd_order.specs.declared.btree_table.reserve.TheConstants.{FREE_INDEXES};
-ghost use Rattle.iddqd_order.specs.Search.{CanSearch, SearchAsks, IsSteadyRising, IsPlace, Finds, with_ties};
+ghost use Rattle.iddqd_order.specs.Search.{Askable, CanSearch, SearchAsks, IsSteady, IsSteadyRising, IsPlace, Finds, with_ties};
 
 use crate::btree_table::asking::Asking;
 use crate::btree_table::blocks::Blocks;
 use crate::btree_table::clearing::clear_in;
 use crate::btree_table::copies::copy_of;
 use crate::btree_table::cursor::{Cursor, End};
+use crate::btree_table::front::Start;
 use crate::btree_table::gap::Gap;
 use crate::btree_table::into_iter::IntoIter;
 use crate::btree_table::iter::{Iter, Rest};
@@ -59,8 +61,8 @@ pub struct MapBTreeTable {
     pub(super) reserve: Reserve,
     state: State,
     pub(super) alloc: Global,
-    // Whether the last insert went before all indexes, or near there: the next one tries that first.
-    pub(super) is_at_front: bool,
+    // Where the search of the next insert starts: at the front if the last insert went there, or near there.
+    pub(super) insert_start: Start,
 }
 
 impl Model for MapBTreeTable {
@@ -105,7 +107,7 @@ impl MapBTreeTable {
             reserve: Reserve::new(alloc),
             state: State::new(),
             alloc,
-            is_at_front: false,
+            insert_start: Start::Root,
         }
     }
 
@@ -182,9 +184,8 @@ impl MapBTreeTable {
 
     /// Keeps exactly the indexes at which `f` answers true, in their order.
     ///
-    /// `f` is asked about each index once, in the table's order. No memory is taken. Each kept index is
-    /// written once towards the front. Then the rest is removed from the end, each removal at the cost of a
-    /// search.
+    /// `f` is asked about each index once, in the table's order. No memory is taken. Each kept index is written
+    /// once, at its new position. Then the last indexes are removed one by one, each at the cost of a search.
     pub fn retain<F: FnMut(ItemIndex) -> bool>(&mut self, mut f: F)
         requires { CanAsk F.FnMut (Contains (order_of self.old)) f }
         ensures kept { Retains F.FnMut f (order_of self.old) (order_of self.new) }
@@ -343,7 +344,7 @@ impl MapBTreeTable {
             IfOk result (λ p. prepared_insert.blocks_of p ≡ 0) }
     {
         let gap = self.find_own_gap(ix, asking, how);
-        let blocks = match self.take_blocks(gap.full) {
+        let blocks = match self.allocate_blocks(gap.full) {
             Ok(blocks) => blocks,
             Err(AllocError) => return Err(AllocError),
         };
@@ -366,29 +367,34 @@ impl MapBTreeTable {
         requires can_ask { CanSearch F.FnMut (order_of self.now) (Some ix) asking.old }
         ensures { FindsOwnGap F.FnMut (H.reading how.now) self.now ix asking.old result asking.new }
     {
-        match self.descend(self.is_at_front, asking, how, &Some(ix)) {
+        match self.descend(self.insert_start, asking, how, &Some(ix)) {
             Ok(_) => unreachable!(),
             Err(gap) => gap,
         }
     }
 
-    // Searches from the root down: the spot of what is sought, or else the gap where it would go. With `tries_front`
-    // it may try the gap before all indexes first.
+    // Finds the spot of what is sought, or else the gap where it would go. It asks once if it starts at the front and
+    // what is sought goes there.
     pub(super) fn descend<R, F: FnMut(ItemIndex) -> R, H: Reads<R>>(
         &self,
-        tries_front: bool,
+        start: Start,
         asking: &mut Asking<F>,
         how: &H,
         sought: &Option<ItemIndex>,
     ) -> Result<Spot, Gap>
         requires { CanSearch F.FnMut (order_of self.now) sought.now asking.old }
-        ensures { EndsIn F.FnMut (H.reading how.now) sought.now self.now asking.old result asking.new }
+        ensures ends { EndsIn F.FnMut (H.reading how.now) sought.now self.now asking.old result asking.new }
+        ensures one_ask { start ≡ Start.Front → (answer : ℕ → Ordering) →
+            IsSteady F.FnMut (order_of self.now) sought.now (H.reading how.now) answer asking.old →
+            1 ≤ length (order_of self.now) →
+            with_ties sought.now answer (slice_index (order_of self.now) 0) ≡ Ordering.Less →
+            AsksWithin F.FnMut (Askable (order_of self.now) sought.now) 1 asking.old asking.new }
     {
         let mut path = Path::leftmost();
         let Some(root) = &self.root else {
             return Err(Gap { path, full: 0 });
         };
-        if let Some(full) = root.try_front(tries_front, self.height, asking, how, sought, &path) {
+        if let Some(full) = root.try_front(start, self.height, asking, how, sought, &path) {
             return Err(Gap { path, full });
         }
         match root.descend(self.height, asking, how, sought, &mut path) {
@@ -397,9 +403,9 @@ impl MapBTreeTable {
         }
     }
 
-    // Allocates the blocks for a move: none up to the capacity, or else what any insert into a tree of this height can
-    // need.
-    pub(super) fn take_move_blocks(&self) -> Result<Blocks, AllocError>
+    // Allocates the blocks for a move: none up to the capacity, and beyond it as many as any insert into a tree of this
+    // height can need.
+    pub(super) fn allocate_move_blocks(&self) -> Result<Blocks, AllocError>
         ensures indexes { IsIndexList (order_of self.now) }
         ensures blocks { IfOk result (λ blocks. blocks ≡ move_blocks self.now) }
         ensures few { move_blocks self.now ≤ LEVELS }
@@ -415,7 +421,7 @@ impl MapBTreeTable {
     }
 
     // Allocates the blocks that an insert through `full` full nodes needs beyond the spare ones.
-    pub(super) fn take_blocks(&self, full: usize) -> Result<Blocks, AllocError>
+    pub(super) fn allocate_blocks(&self, full: usize) -> Result<Blocks, AllocError>
         ensures blocks { IfOk result (λ blocks. blocks ≡ fresh_for self.now full) }
         ensures few { full ≤ self.now.height + 1 → fresh_for self.now full ≤ LEVELS }
         ensures roomy { (path : List ℕ) → ReachesGapIn self.now.root self.now.height path →
@@ -511,7 +517,7 @@ impl MapBTreeTable {
         if self.len == 0 || ix == ItemIndex::SENTINEL {
             return None;
         }
-        match self.descend(false, asking, how, &Some(ix)) {
+        match self.descend(Start::Root, asking, how, &Some(ix)) {
             Ok(spot) => Some(spot),
             Err(_) => None,
         }
@@ -553,7 +559,7 @@ impl MapBTreeTable {
         rename_in(&mut self.root, self.height, remap);
     }
 
-    // A law for proofs: the new names have 32 bits. When it runs, it loops over the names and changes nothing.
+    // For proofs alone: each new name fits in 32 bits. Its loop changes nothing.
     fn names_fit(remap: &IndexRemap)
         ensures { (ix : ℕ) → ix ≤ MOST_INDEXES → CanRemap remap.now ix → remapped remap.now ix ≤ MOST_INDEXES }
     {
@@ -596,7 +602,7 @@ impl MapBTreeTable {
         ensures reserved { self.new.reserved ≡ self.old.reserved }
     {
         let _number = ix.as_u32();
-        self.is_at_front = gap.path.is_near_front();
+        self.insert_start = Start::after(&gap.path);
         let height = self.height;
         let alloc = self.alloc;
         self.height = put_in(
@@ -661,7 +667,7 @@ impl Clone for MapBTreeTable {
             reserve: self.reserve.for_copy(self.alloc),
             state: self.state,
             alloc: self.alloc,
-            is_at_front: self.is_at_front,
+            insert_start: self.insert_start,
         })
     }
 }

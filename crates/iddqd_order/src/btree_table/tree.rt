@@ -69,7 +69,7 @@ fn put_and_split(
     fresh: &mut Blocks,
     alloc: Global,
 ) -> usize
-    requires low { height < LEVELS }
+    requires levels { height < LEVELS }
     requires some { 0 < full }
     requires formed { IsFormed height node.old }
     requires goes { ReachesGap height node.old path.now }
@@ -78,7 +78,7 @@ fn put_and_split(
     requires fits { length (flat height node.old) ≤ MOST_INDEXES }
     requires enough { blocks_for height full ≤ spare reserve.old + fresh.old }
     requires inners { reserve.old.inners ≡ inners height node.old }
-    ensures low { result < LEVELS }
+    ensures levels { result < LEVELS }
     ensures formed { IsFormed result node.new }
     ensures root { 1 ≤ length (row node.new) }
     ensures items { flat result node.new ≡ insert (flat height node.old) (place height node.old path.now) ix }

@@ -31,9 +31,11 @@ late ks lo hi n i a p q e f =
 pub returns-then-i-low-clause-parts : goal.returns-then-i-low-clause-parts
 returns-then-i-low-clause-parts c =
     let n : length c.args.children.now.items ≡ CHILDREN = search rules in
-    early _ _ _ (c.args.low - 1) c.args.i c.args.after (omega (arith, c.if-i-low.true)) (omega (arith, c.requires.not_all)) (search rules) c.move_tail.ensures.tail
+    early _ _ _ (c.args.low - 1) c.args.i c.args.after (omega (arith, c.if-i-low.true))
+    (omega (arith, c.requires.not_all)) (search rules) c.move_tail.ensures.tail
 
 pub returns-else-i-low-clause-parts : goal.returns-else-i-low-clause-parts
 returns-else-i-low-clause-parts c =
     let n : length c.args.children.now.items ≡ CHILDREN = search rules in
-    late _ _ _ c.args.low c.args.i c.args.after (omega (arith, c.if-i-low.false)) (omega (arith, c.requires.not_all)) c.move_tail-else-i-low.ensures.head (search rules)
+    late _ _ _ c.args.low c.args.i c.args.after (omega (arith, c.if-i-low.false))
+    (omega (arith, c.requires.not_all)) c.move_tail-else-i-low.ensures.head (search rules)

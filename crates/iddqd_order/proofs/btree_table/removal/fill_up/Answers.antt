@@ -15,10 +15,12 @@ returns-then-len-gt-LEAST-2-clause-mended c h f =
     c.borrow_right.ensures.mended h (subst (λ z. MayLackOne h z c.args.row.now c.args.children.now.items) e f)
 
 pub returns-else-len-gt-LEAST-2-clause-mended : goal.returns-else-len-gt-LEAST-2-clause-mended
-returns-else-len-gt-LEAST-2-clause-mended c h f = c.merge-else-len-gt-LEAST-2.ensures.mended h c.args.i (omega arith) (omega arith) f
+returns-else-len-gt-LEAST-2-clause-mended c h f =
+    c.merge-else-len-gt-LEAST-2.ensures.mended h c.args.i (omega arith) (omega arith) f
 
 pub returns-else-len-gt-LEAST-clause-counted : goal.returns-else-len-gt-LEAST-clause-counted
 returns-else-len-gt-LEAST-clause-counted c h f = c.merge.ensures.counted h c.args.i (omega arith) (omega arith) f
 
 pub returns-else-len-gt-LEAST-2-clause-counted : goal.returns-else-len-gt-LEAST-2-clause-counted
-returns-else-len-gt-LEAST-2-clause-counted c h f = c.merge-else-len-gt-LEAST-2.ensures.counted h c.args.i (omega arith) (omega arith) f
+returns-else-len-gt-LEAST-2-clause-counted c h f =
+    c.merge-else-len-gt-LEAST-2.ensures.counted h c.args.i (omega arith) (omega arith) f

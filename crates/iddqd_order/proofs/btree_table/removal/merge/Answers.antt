@@ -27,6 +27,8 @@ returns-clause-counted c h i low high f =
     let one = f.one_more in let within = c.requires.within in
     let m = inners-merged h c.args.left c.args.children.now.items c.index_mut.result.now c.remove-other.result c.join.new.self (omega arith) (search rules) (search rules) c.join.ensures.children in
     record {
-      inners = rw c.remove-other.ensures.items (omega (arith, m, c.join.ensures.given, children-some h c.remove-other.result j.pair.right_is.1));
+      inners =
+          rw c.remove-other.ensures.items
+          (omega (arith, m, c.join.ensures.given, children-some h c.remove-other.result j.pair.right_is.1));
       reserved = c.join.ensures.reserved;
     }

@@ -22,12 +22,19 @@ loop-from-init g c =
 
 pub f-requires : goal.f-requires
 f-requires g c =
-    let i = c.loop-from.invariant in let counted = i.gathers.counted in let len = c.requires.counted in let test = c.loop-from-test.true in
-    i.gathers.can.at 0 c.loop-from.f At_once c.step-ix.result (next_held g.F.FnMut c.step-ix.result i.gathers (omega arith) c.step-ix.ensures.index)
+    let i = c.loop-from.invariant in
+    let counted = i.gathers.counted in
+    let len = c.requires.counted in
+    let test = c.loop-from-test.true in
+    i.gathers.can.at 0 c.loop-from.f At_once c.step-ix.result
+    (next_held g.F.FnMut c.step-ix.result i.gathers (omega arith) c.step-ix.ensures.index)
 
 pub loop-from-preserved : goal.loop-from-preserved
 loop-from-preserved g c =
-    let i = c.loop-from.invariant in let counted = i.gathers.counted in let len = c.requires.counted in let test = c.loop-from-test.true in
+    let i = c.loop-from.invariant in
+    let counted = i.gathers.counted in
+    let len = c.requires.counted in
+    let test = c.loop-from-test.true in
     let no : c.f.result ≡ false = search rules in
     record {
       formed = i.formed;
@@ -35,27 +42,40 @@ loop-from-preserved g c =
       inners = i.inners;
       from = c.step-ix.ensures.stands;
       to = i.to;
-      gathers = gathers-next g.F.FnMut c.step-ix.result c.f.result c.step-ix.new.self.place c.loop-from.to.place (flat c.args.height c.loop-from.root) c.f.new.self i.gathers (omega arith) c.step-ix.ensures.index c.f.ensures c.step-ix.ensures.place
+      gathers =
+          gathers-next g.F.FnMut c.step-ix.result c.f.result c.step-ix.new.self.place c.loop-from.to.place
+          (flat c.args.height c.loop-from.root) c.f.new.self i.gathers
+          (omega arith) c.step-ix.ensures.index c.f.ensures c.step-ix.ensures.place
           (rw no (sym (append-nil _))) refl refl (omega arith);
     }
 
 pub loop-from-preserved-then-f : goal.loop-from-preserved-then-f
 loop-from-preserved-then-f g c =
-    let i = c.loop-from.invariant in let counted = i.gathers.counted in let few = i.gathers.few in let len = c.requires.counted in let test = c.loop-from-test.true in
+    let i = c.loop-from.invariant in
+    let counted = i.gathers.counted in
+    let few = i.gathers.few in
+    let len = c.requires.counted in
+    let test = c.loop-from-test.true in
     let yes : c.f.result ≡ true = search rules in
-    let put = c.put.ensures in let rows = put.same_length in let some = i.some in
+    let put = c.replace.ensures in let rows = put.same_length in let some = i.some in
     let old = flat c.args.height c.loop-from.root in let place = c.loop-from.to.place in
     record {
       formed = put.formed;
       some = omega arith;
       inners = put.inners ∙ i.inners;
-      from = IsSpotCursor-same c.args.height c.loop-from.root c.put.new.root c.step-ix.new.self put.same_places c.step-ix.ensures.stands;
+      from = IsSpotCursor-same c.args.height c.loop-from.root c.replace.new.root c.step-ix.new.self put.same_places c.step-ix.ensures.stands;
       to = put.stands;
-      gathers = gathers-next g.F.FnMut c.step-ix.result c.f.result c.step-ix.new.self.place c.put.new.self.place (flat c.args.height c.put.new.root) c.f.new.self i.gathers (omega arith) c.step-ix.ensures.index c.f.ensures c.step-ix.ensures.place
-          (rw (yes, put.items) (take-set_at old place c.put.new.self.place c.step-ix.result put.place (omega arith))) (rw put.items (drop-set-lt c.step-ix.new.self.place old place c.step-ix.result (omega arith))) put.same_places.long (omega arith);
+      gathers =
+          gathers-next g.F.FnMut c.step-ix.result c.f.result c.step-ix.new.self.place c.replace.new.self.place
+          (flat c.args.height c.replace.new.root) c.f.new.self i.gathers
+          (omega arith) c.step-ix.ensures.index c.f.ensures c.step-ix.ensures.place
+          (rw (yes, put.items) (take-set_at old place c.replace.new.self.place c.step-ix.result put.place (omega arith))) (rw put.items (drop-set-lt c.step-ix.new.self.place old place c.step-ix.result (omega arith))) put.same_places.long (omega arith);
     }
 
 pub returns-clause-kept : goal.returns-clause-kept
 returns-clause-kept g c =
-    let i = c.loop-from.invariant in let counted = i.gathers.counted in let len = c.requires.counted in let test = c.loop-from-test.false in
+    let i = c.loop-from.invariant in
+    let counted = i.gathers.counted in
+    let len = c.requires.counted in
+    let test = c.loop-from-test.false in
     gathers-all g.F.FnMut i.gathers (omega arith)

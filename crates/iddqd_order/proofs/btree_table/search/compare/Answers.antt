@@ -5,7 +5,8 @@ use Rattle.iddqd_order.proofs.AskLemmas.{asks_one, asks_none, asks_more}
 use Rattle.iddqd_order.proofs.btree_table.search.compare.Goals as goal
 
 pub returns-in-None-clause-asks : goal.returns-in-None-clause-asks
-returns-in-None-clause-asks g c xs h = rw c.in-None.is (asks_one g.F.FnMut (Askable xs None) h c.ask.ensures.answered c.ask.ensures.count)
+returns-in-None-clause-asks g c xs h =
+    rw c.in-None.is (asks_one g.F.FnMut (Askable xs None) h c.ask.ensures.answered c.ask.ensures.count)
 
 pub returns-in-None-clause-steady : goal.returns-in-None-clause-steady
 returns-in-None-clause-steady g c xs answer h s =
@@ -13,7 +14,8 @@ returns-in-None-clause-steady g c xs answer h s =
     rw c.in-None.is (c.read.ensures ∙ told)
 
 pub returns-then-eq-clause-asks : goal.returns-then-eq-clause-asks
-returns-then-eq-clause-asks g c xs h = asks_more g.F.FnMut _ (omega arith) (asks_none g.F.FnMut (Askable xs c.args.sought.now) _)
+returns-then-eq-clause-asks g c xs h =
+    asks_more g.F.FnMut _ (omega arith) (asks_none g.F.FnMut (Askable xs c.args.sought.now) _)
 
 -- where an answer isn't Equal, the indexes say nothing
 then-other : (r x : Ordering) → (r ≡ Equal → ⊥) → r ≡ ordering_then r x

@@ -55,7 +55,10 @@ returns-in-Equal g c =
     let m = met c.args.items.now ((c.loop-low.low + c.loop-low.high) / 2) _ (omega arith) c.index-items-middle.is in
     let asks = asked.1 in
     record {
-      asked = asks_more g.F.FnMut _ (let one = digits-half (c.loop-low.high - c.loop-low.low) (omega arith) in omega arith) (asks_then g.F.FnMut (Askable c.args.items.now c.args.sought.now) asked.2 (c.in-Equal.ensures.asks _ m.1));
+      asked =
+          asks_more g.F.FnMut _
+          (let one = digits-half (c.loop-low.high - c.loop-low.low) (omega arith) in omega arith)
+          (asks_then g.F.FnMut (Askable c.args.items.now c.args.sought.now) asked.2 (c.in-Equal.ensures.asks _ m.1));
       found = omega arith;
       missed = tt;
       itself = λ ix same. m.0 ∙ c.in-Equal.ensures.itself refl ix same;
@@ -79,4 +82,5 @@ returns g c =
 
 pub compare-requires : goal.compare-requires
 compare-requires g c other =
-    c.requires.at _ _ c.loop-low.invariant.asked.2.after _ (Askable-other c.args.items.now c.args.sought.now _ other (met _ _ _ (omega arith) c.index-items-middle.is).1)
+    c.requires.at _ _ c.loop-low.invariant.asked.2.after _
+    (Askable-other c.args.items.now c.args.sought.now _ other (met _ _ _ (omega arith) c.index-items-middle.is).1)

@@ -5,16 +5,22 @@ use Rattle.iddqd_order.proofs.TreeLemmas.{new_root, new_root-inners}
 use Rattle.iddqd_order.proofs.btree_table.tree.put_and_split.Goals as goal
 
 pub split-middle-requires-clause-full : goal.split-middle-requires-clause-full
-split-middle-requires-clause-full c = all_full c.args.full (c.args.height + 1) _ _ _ (omega arith) (omega (arith, c.if-full-height.false)) c.requires.full
+split-middle-requires-clause-full c =
+    all_full c.args.full (c.args.height + 1) _ _ _ (omega arith) (omega (arith, c.if-full-height.false)) c.requires.full
 
 pub returns : goal.returns
 returns c =
     let split : Split c.args.height c.args.node.now c.split-middle.new.self c.split-middle.result.0 c.split-middle.result.1 c.args.path.now c.args.ix =
-    record { items = c.split-middle.ensures.items; low = c.split-middle.ensures.low; high = c.split-middle.ensures.high; inner = c.split-middle.ensures.inner } in
+    record {
+      items = c.split-middle.ensures.items;
+      low = c.split-middle.ensures.low;
+      high = c.split-middle.ensures.high;
+      inner = c.split-middle.ensures.inner;
+    } in
     let r = new_root _ _ _ _ _ _ _ _ c.requires.formed c.requires.goes split c.grow.ensures.root_row c.grow.ensures.root_children c.grow.ensures.has_room c.requires.fits in
     let taken = c.take-children.ensures in
     record {
-      low = r.low;
+      levels = r.low;
       formed = r.formed;
       root = r.root;
       items = r.items;
@@ -26,14 +32,14 @@ returns c =
 pub put_through_full-requires-clause-fits : goal.put_through_full-requires-clause-fits
 put_through_full-requires-clause-fits c =
     let few = inners-root _ _ c.requires.formed c.requires.root in
-    omega (arith, c.requires.low, c.requires.fits, c.requires.inners, c.if-full-height.true)
+    omega (arith, c.requires.levels, c.requires.fits, c.requires.inners, c.if-full-height.true)
 
 pub split-middle-requires-clause-fits : goal.split-middle-requires-clause-fits
 split-middle-requires-clause-fits c =
     let few = inners-root _ _ c.requires.formed c.requires.root in
-    omega (arith, c.requires.low, c.requires.fits, c.requires.inners)
+    omega (arith, c.requires.levels, c.requires.fits, c.requires.inners)
 
 pub take-children-requires-clause-fits : goal.take-children-requires-clause-fits
 take-children-requires-clause-fits c =
     let few = inners-root _ _ c.requires.formed c.requires.root in
-    omega (arith, c.requires.low, c.requires.fits, c.requires.inners, c.split-middle.ensures.counted)
+    omega (arith, c.requires.levels, c.requires.fits, c.requires.inners, c.split-middle.ensures.counted)

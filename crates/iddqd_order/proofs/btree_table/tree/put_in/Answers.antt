@@ -6,12 +6,16 @@ use Rattle.iddqd_order.proofs.btree_table.tree.put_in.Goals as goal
 
 pub returns-in-None-clause-tree : goal.returns-in-None-clause-tree
 returns-in-None-clause-tree c =
-    let r = first_root (roll-Node (record { row = c.insert.new.self; children = c.new-children.result })) c.args.ix (row-roll _ ∙ search rules) (children-roll _ ∙ c.new-children.ensures.items) in
+    let r =
+    first_root (roll-Node (record { row = c.insert.new.self; children = c.new-children.result })) c.args.ix
+    (row-roll _ ∙ search rules) (children-roll _ ∙ c.new-children.ensures.items) in
     (r.formed, r.root, r.low)
 
 pub returns-in-None-clause-items : goal.returns-in-None-clause-items
 returns-in-None-clause-items c =
-    let r = first_root (roll-Node (record { row = c.insert.new.self; children = c.new-children.result })) c.args.ix (row-roll _ ∙ search rules) (children-roll _ ∙ c.new-children.ensures.items) in
+    let r =
+    first_root (roll-Node (record { row = c.insert.new.self; children = c.new-children.result })) c.args.ix
+    (row-roll _ ∙ search rules) (children-roll _ ∙ c.new-children.ensures.items) in
     rw c.in-None.is r.items
 
 pub returns-in-None-clause-inners : goal.returns-in-None-clause-inners

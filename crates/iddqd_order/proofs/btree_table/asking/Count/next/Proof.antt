@@ -27,7 +27,8 @@ stayed = (stay_dropped (RefOf (0 ∷ []) tt (plain (λ _. the_row)) (λ _. tt)) 
 pub next_spec : {M : Type 1} → statement M
 next_spec 𝓤 𝓛 𝓜 𝓡 wired =
     let c = f.clauses 𝓛 𝓜.mem 𝓡.returns in let W = walk_of 𝓛 f.ended stayed c in
-    proved 𝓛 f.ended stayed c 𝓜 𝓡 (Goes-dropped 𝓛 1 (RefOf (0 ∷ []) tt (plain (λ _. the_row)) (λ _. tt)) yes (λ κs x w. refl), tt)
+    proved 𝓛 f.ended stayed c 𝓜 𝓡
+    (Goes-dropped 𝓛 1 (RefOf (0 ∷ []) tt (plain (λ _. the_row)) (λ _. tt)) yes (λ κs x w. refl), tt)
     f.Key.name code.function (code.unfolded 𝓤 𝓛.H 𝓜 𝓡 wired)
     (λ κs. (shr_vals, tt)) (λ κs. (shr_Tells (named 0) κs.0 the_row, tt)) (λ κs qs bounds a _ are.
     let y : W.Ghost = ((κs, qs, bounds, a, (shr_vals a.0, tt)), tt) in
@@ -36,5 +37,6 @@ next_spec 𝓤 𝓛 𝓜 𝓡 wired =
     enter ! _ _ _ _ _ $ alloc_all ! (λ l. pass_all ! refl ((tt, tt), tt) $
     sets ! (agg ! (no_more !)) refl (tt, tt) $
     returns ! (look_at ! 0 refl) $ free_all ! refl $
-    suffices ! _ (ends_at 𝓛 f.ended stayed c y no_bytes (record { total = a.0.now.total + 1 }) (tt, tt) (tt, tt)) $ says ! refl $
+    suffices ! _
+    (ends_at 𝓛 f.ended stayed c y no_bytes (record { total = a.0.now.total + 1 }) (tt, tt) (tt, tt)) $ says ! refl $
     count_made ! (record { total = a.0.now.total + 1 }) $ nothing ! $ nothing ! $ join ! $ move ! (2 ∷ []) $ done !))

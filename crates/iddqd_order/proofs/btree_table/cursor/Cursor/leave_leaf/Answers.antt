@@ -10,7 +10,10 @@ gap-path-requires c =
 pub returns-in-Front-clause-stands : goal.returns-in-Front-clause-stands
 returns-in-Front-clause-stands c =
     let e = c.in-Some-step_over.ensures in
-    record { at = (IsAt-whole _ _ c.in-Some.node _ _ _ c.in-Some.is e.path e.over.goes e.over.leaf_is c.get-self.ensures).1; leaf_parent = tt }
+    record {
+      at = (IsAt-whole _ _ c.in-Some.node _ _ _ c.in-Some.is e.path e.over.goes e.over.leaf_is c.get-self.ensures).1;
+      leaf_parent = tt;
+    }
 
 pub returns-in-Back-clause-stands : goal.returns-in-Back-clause-stands
 returns-in-Back-clause-stands c =

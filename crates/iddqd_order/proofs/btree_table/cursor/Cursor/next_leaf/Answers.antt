@@ -30,12 +30,17 @@ stepped c =
 pub returns-then-place-len-clause-stands : goal.returns-then-place-len-clause-stands
 returns-then-place-len-clause-stands c =
     let s = stepped c in
-    let is : c.index.result.now ≡ child c.in-Some.leaf_parent.now (slice_index c.args.self.now.path 1 + 1) = child_is c.in-Some.leaf_parent.now _ c.index.result.now s.inside (rw c.get-place.ensures at c.index.ensures) in
-    record { at = rw (c.as_slice-self.ensures, is) s.at_is; leaf_parent = rw c.in-Some.is (s.leaf_parent_is c.in-Some.leaf_parent refl) }
+    let is : c.index.result.now ≡ child c.in-Some.leaf_parent.now (slice_index c.args.self.now.path 1 + 1) =
+    child_is c.in-Some.leaf_parent.now _ c.index.result.now s.inside (rw c.get-place.ensures at c.index.ensures) in
+    record {
+      at = rw (c.as_slice-self.ensures, is) s.at_is;
+      leaf_parent = rw c.in-Some.is (s.leaf_parent_is c.in-Some.leaf_parent refl);
+    }
 
 pub returns-then-place-len-clause-next : goal.returns-then-place-len-clause-next
 returns-then-place-len-clause-next c =
-    let item : c.get.result ≡ slice_index (row c.in-Some.leaf_parent.now) (slice_index c.args.self.now.path 1) = rw c.get-place.ensures at c.get.ensures in
+    let item : c.get.result ≡ slice_index (row c.in-Some.leaf_parent.now) (slice_index c.args.self.now.path 1) =
+    rw c.get-place.ensures at c.get.ensures in
     rw item (stepped c).steps
 
 pub returns-clause-stands : goal.returns-clause-stands

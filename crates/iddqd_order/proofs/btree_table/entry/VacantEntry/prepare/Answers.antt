@@ -11,7 +11,13 @@ returns c =
       record {
         unchanged = tt;
         same_reference = refl;
-        prepared = record { table = refl; index = refl; place = refl; few_blocks = rw taken.blocks (taken.few c.args.self.levels) };
+        prepared =
+            record {
+              table = refl;
+              index = refl;
+              place = refl;
+              few_blocks = rw taken.blocks (taken.few c.args.self.levels);
+            };
         memory = refl;
         roomy = λ _. refl;
         no_blocks = λ lt. taken.blocks ∙ taken.roomy _ c.args.self.goes c.args.self.full_nodes c.args.self.levels lt;

@@ -12,4 +12,5 @@ pub returns-clause-steps : goal.returns-clause-steps
 unfolding indexes_to_come
 returns-clause-steps c =
     let i = c.self.invariant in
-    rw (← c.self.view_is) (left-back _ _ _ _ _ _ c.if-self-eq0.false i.3 (place_in-within _ _ _ i.0 i.2.gap.goes) c.next_back.ensures.next).1
+    rw (← c.self.view_is)
+    (left-back _ _ _ _ _ _ c.if-self-eq0.false i.3 (place_in-within _ _ _ i.0 i.2.gap.goes) c.next_back.ensures.next).1

@@ -11,7 +11,9 @@ pub returns-then-height-eq0 : goal.returns-then-height-eq0
 returns-then-height-eq0 t c =
     let none = (formed-leaf c.args.height c.args.self.now c.if-height-eq0.true c.requires).childless in
     let empty = ap length none in
-    copied c.args.height c.args.self.now (roll-Node _) c.requires (row-roll _ ∙ c.copy.ensures) (rw c.if-height-eq0.true (omega arith)) (ap length (children-roll _ ∙ c.new.ensures.items ∙ sym none)) (λ j d lt. absurd (omega arith))
+    copied c.args.height c.args.self.now (roll-Node _) c.requires (row-roll _ ∙ c.copy.ensures)
+    (rw c.if-height-eq0.true (omega arith)) (ap length (children-roll _ ∙ c.new.ensures.items ∙ sym none))
+    (λ j d lt. absurd (omega arith))
 
 pub copy-requires-in-loop-i : goal.copy-requires-in-loop-i
 copy-requires-in-loop-i t c =
@@ -20,7 +22,9 @@ copy-requires-in-loop-i t c =
 
 pub push_reserved-requires : goal.push_reserved-requires
 push_reserved-requires t c =
-    let inner = (formed-inner c.args.height c.args.self.now c.if-height-eq0.false c.requires).inner in let few = inner.within in let one = inner.one_more in
+    let inner = (formed-inner c.args.height c.args.self.now c.if-height-eq0.false c.requires).inner in
+    let few = inner.within in
+    let one = inner.one_more in
     let lt : c.loop-i.i < length (children c.args.self.now) = search rules in let room = c.loop-i.invariant.room in
     let count : vec_len c.loop-i.children ≡ c.loop-i.i = search (rules, c.loop-i.invariant.count) in
     omega arith
@@ -38,7 +42,8 @@ returns t c =
     let n = c.args.self.now in
     let over : length (children n) ≤ c.loop-i.i = search rules in
     let done = rw (take_all c.loop-i.i (children n) over) at c.loop-i.invariant.done in
-    copied c.args.height n (roll-Node _) c.requires (row-roll _ ∙ c.copy-2.ensures) (rw room-roll (omega (arith, arity-most c.args.height 11, c.loop-i.invariant.room)))
+    copied c.args.height n (roll-Node _) c.requires (row-roll _ ∙ c.copy-2.ensures)
+    (rw room-roll (omega (arith, arity-most c.args.height 11, c.loop-i.invariant.room)))
     (ap length (children-roll _) ∙ sym (length_all_zip (IsCopy (c.args.height - 1)) (children n) c.loop-i.children.items done))
     (λ j d lt. rw (children-roll _) (AllZip-get_or (IsCopy (c.args.height - 1)) (children n) c.loop-i.children.items j d d done lt))
 

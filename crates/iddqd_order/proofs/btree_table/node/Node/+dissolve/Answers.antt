@@ -13,7 +13,13 @@ returns-then-height-eq0-clause-given t c = omega (arith, inners-leaf c.args.heig
 pub loop-child-init : goal.loop-child-init
 loop-child-init t c =
     let f = formed-inner c.args.height c.args.self c.if-height-eq0.false c.requires.formed in
-    record { room = f.inner.has_room; formed = f.below; counted = omega (arith, c.requires.counted, inners-inner c.args.height c.args.self c.if-height-eq0.false); given = refl; reserved = refl }
+    record {
+      room = f.inner.has_room;
+      formed = f.below;
+      counted = omega (arith, c.requires.counted, inners-inner c.args.height c.args.self c.if-height-eq0.false);
+      given = refl;
+      reserved = refl;
+    }
 
 pub loop-child-preserved : goal.loop-child-preserved
 loop-child-preserved t c =
@@ -22,7 +28,9 @@ loop-child-preserved t c =
     let sum = sum_by_push (λ k. inners (c.args.height - 1) k) c.pop.new.self.items c.in-Some.child in
     record {
       room = rw c.pop.ensures.capacity i.room;
-      formed = All-front (IsChild (c.args.height - 1)) c.pop.new.self.items (c.in-Some.child ∷ []) (subst (All (IsChild (c.args.height - 1))) last i.formed);
+      formed =
+          All-front (IsChild (c.args.height - 1)) c.pop.new.self.items (c.in-Some.child ∷ [])
+          (subst (All (IsChild (c.args.height - 1))) last i.formed);
       counted = omega (arith, i.counted, all, sum, given);
       given = omega (arith, i.given, all, sum, given);
       reserved = c.dissolve.ensures.reserved ∙ i.reserved;
@@ -32,4 +40,4 @@ pub returns-clause-given : goal.returns-clause-given
 returns-clause-given t c =
     let i = c.loop-child.invariant in
     let none : c.loop-child.children.items ≡ [] = nil_from_length c.loop-child.children.items (search rules) in
-    omega (arith, i.given, c.give.ensures.one_less, ap (inners_of (c.args.height - 1)) none, inners-inner c.args.height c.args.self c.if-height-eq0.false)
+    omega (arith, i.given, c.put_back.ensures.one_less, ap (inners_of (c.args.height - 1)) none, inners-inner c.args.height c.args.self c.if-height-eq0.false)

@@ -6,12 +6,14 @@ use Rattle.iddqd_order.proofs.btree_table.node.Node.+edge.Goals as goal
 
 pub set-requires-clause-place : goal.set-requires-clause-place
 set-requires-clause-place t c =
-    let within = edge-within c.args.end (length (row c.args.self.now)) c.edge_place-place.result c.edge_place-place.ensures in
+    let within =
+    edge-within c.args.end (length (row c.args.self.now)) c.edge_place-place.result c.edge_place-place.ensures in
     let few = formed-within c.args.level c.args.self.now c.requires.formed in omega arith
 
 pub returns-then-level-eq0-clause-edge : goal.returns-then-level-eq0-clause-edge
 returns-then-level-eq0-clause-edge t c =
-    let here = path-here c.args.path.now c.set.new.self c.args.level _ c.requires.path c.requires.levels c.set.ensures.place in
+    let here =
+    path-here c.args.path.now c.set.new.self c.args.level _ c.requires.path c.requires.levels c.set.ensures.place in
     at_edge-leaf c.args.end c.args.level c.edge_place-place.result c.args.self.now _ c.set.new.self c.if-level-eq0.true here c.edge_place-place.ensures c.as_slice.ensures
 
 -- the child at that place
@@ -34,7 +36,8 @@ child_at end h i n k ne f e is_k =
 
 pub index-requires : goal.index-requires
 index-requires t c =
-    let within = edge-within c.args.end (length (row c.args.self.now)) c.edge_place-place.result c.edge_place-place.ensures in
+    let within =
+    edge-within c.args.end (length (row c.args.self.now)) c.edge_place-place.result c.edge_place-place.ensures in
     let lt = child-within c.args.level c.args.self.now c.edge_place-place.result c.if-level-eq0.false c.requires.formed within in
     search (rules, lt)
 

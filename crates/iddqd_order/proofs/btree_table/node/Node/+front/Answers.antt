@@ -5,12 +5,14 @@ use Rattle.iddqd_order.proofs.NodeLemmas.{child-within, child-formed, child-leas
 use Rattle.iddqd_order.proofs.btree_table.node.Node.+front.Goals as goal
 
 pub returns-then-level-eq0-clause-first : goal.returns-then-level-eq0-clause-first
-returns-then-level-eq0-clause-first t c = behind-row c.args.level _ c.args.self.now c.if-level-eq0.true (omega arith) c.get.ensures
+returns-then-level-eq0-clause-first t c =
+    behind-row c.args.level _ c.args.self.now c.if-level-eq0.true (omega arith) c.get.ensures
 
 pub returns-then-level-eq0-clause-full : goal.returns-then-level-eq0-clause-full
 returns-then-level-eq0-clause-full t c path first =
     let e = c.full_from-here.ensures in
-    full-leaf c.full_from-here.result c.args.full c.args.level c.args.self.now path c.if-level-eq0.true (record { above = c.requires.above; not_full = e.not_full; is_full = e.is_full })
+    full-leaf c.full_from-here.result c.args.full c.args.level c.args.self.now path c.if-level-eq0.true
+    (record { above = c.requires.above; not_full = e.not_full; is_full = e.is_full })
 
 -- the first child
 record Child (h : ℕ) (n k : Node) : Type 0 where
@@ -41,11 +43,13 @@ front-requires t c =
 pub returns-clause-first : goal.returns-clause-first
 returns-clause-first t c =
     let k = child_at c.args.level c.args.self.now c.index.result.now c.if-level-eq0.false c.requires.formed c.index.ensures in
-    behind-first c.args.level _ c.args.self.now c.if-level-eq0.false c.requires.formed k.here (rw k.is at c.front.ensures.first)
+    behind-first c.args.level _ c.args.self.now c.if-level-eq0.false c.requires.formed k.here
+    (rw k.is at c.front.ensures.first)
 
 pub returns-clause-full : goal.returns-clause-full
 returns-clause-full t c path first =
     let k = child_at c.args.level c.args.self.now c.index.result.now c.if-level-eq0.false c.requires.formed c.index.ensures in
     let e = c.full_from-here.ensures in
-    full-inner _ c.args.full c.full_from-here.result c.args.level c.args.self.now path c.if-level-eq0.false (record { above = c.requires.above; not_full = e.not_full; is_full = e.is_full }) (first c.args.level (omega arith))
+    full-inner _ c.args.full c.full_from-here.result c.args.level c.args.self.now path c.if-level-eq0.false
+    (record { above = c.requires.above; not_full = e.not_full; is_full = e.is_full }) (first c.args.level (omega arith))
     (rw k.is at (c.front.ensures.full path (λ l le. first l (omega arith))))

@@ -3,7 +3,8 @@ use Rattle.iddqd_order.proofs.CursorLemmas.{goes-here, goes-in, leaf-at, leaf-ze
 use Rattle.iddqd_order.proofs.btree_table.node.Node.+leaf.Goals as goal
 
 pub returns-then-level-eq0 : goal.returns-then-level-eq0
-returns-then-level-eq0 t c = c.as_slice.ensures ∙ sym (leaf-zero c.args.level c.args.self.now c.args.path.now c.if-level-eq0.true)
+returns-then-level-eq0 t c =
+    c.as_slice.ensures ∙ sym (leaf-zero c.args.level c.args.self.now c.args.path.now c.if-level-eq0.true)
 
 pub index-requires : goal.index-requires
 index-requires t c =
@@ -19,4 +20,5 @@ leaf-requires t c =
 pub returns : goal.returns
 returns t c =
     let b = goes-in c.args.level c.get.result c.args.self.now c.index.result.now c.args.path.now c.if-level-eq0.false c.get.ensures c.requires.formed c.requires.goes c.index.ensures in
-    rw b.is at c.leaf.ensures ∙ sym (leaf-at c.args.level c.get.result c.args.self.now c.args.path.now c.if-level-eq0.false (sym c.get.ensures))
+    rw b.is at c.leaf.ensures
+    ∙ sym (leaf-at c.args.level c.get.result c.args.self.now c.args.path.now c.if-level-eq0.false (sym c.get.ensures))

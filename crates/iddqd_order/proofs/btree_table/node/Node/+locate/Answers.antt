@@ -12,11 +12,13 @@ pub returns-in-Some-clause-there : goal.returns-in-Some-clause-there
 returns-in-Some-clause-there t c =
     let at = rw c.as_slice.ensures at (c.in-Some.ensures.there c.in-Some.i refl) in
     let here = path-here c.args.path.now c.set.new.self c.args.height c.in-Some.i c.requires.path c.requires.levels c.set.ensures.place in
-    holds_index-here c.args.height c.args.self.now c.set.new.self c.args.ix c.requires.formed (rw here at.0) (rw here at.1)
+    holds_index-here c.args.height c.args.self.now c.set.new.self c.args.ix c.requires.formed (rw here at.0)
+    (rw here at.1)
 
 pub returns-then-height-eq0-clause-missing : goal.returns-then-height-eq0-clause-missing
 returns-then-height-eq0-clause-missing t c none =
-    absent_leaf c.args.height c.args.self.now c.args.ix c.if-height-eq0.true (rw c.as_slice.ensures at (c.in_default.ensures.missing refl))
+    absent_leaf c.args.height c.args.self.now c.args.ix c.if-height-eq0.true
+    (rw c.as_slice.ensures at (c.in_default.ensures.missing refl))
 
 pub set-requires-in-loop-i-clause-place : goal.set-requires-in-loop-i-clause-place
 set-requires-in-loop-i-clause-place t c =
@@ -28,7 +30,8 @@ set-requires-in-loop-i-clause-place t c =
 pub locate-requires : goal.locate-requires
 locate-requires t c =
     let lt : c.loop-i.i < length (children c.args.self.now) = search rules in
-    let same : c.index.result.now ≡ child c.args.self.now c.loop-i.i = child_is c.args.self.now c.loop-i.i c.index.result.now lt c.index.ensures in
+    let same : c.index.result.now ≡ child c.args.self.now c.loop-i.i =
+    child_is c.args.self.now c.loop-i.i c.index.result.now lt c.index.ensures in
     let levels = c.requires.levels in
     (omega arith, (rw same (child-formed c.args.height c.args.self.now c.loop-i.i c.if-height-eq0.false c.requires.formed lt), (omega arith, c.set-in-loop-i.ensures.length)))
 
@@ -41,13 +44,16 @@ returns-in-Some-locate-clause-there t c =
 
 pub returns-in-Some-locate-clause-above : goal.returns-in-Some-locate-clause-above
 returns-in-Some-locate-clause-above t c l lt =
-    c.in-Some-locate.ensures.above l (omega arith) ∙ path-above c.loop-i.path c.set-in-loop-i.new.self c.args.height c.loop-i.i l c.set-in-loop-i.ensures.place lt ∙ c.loop-i.invariant.above l lt
+    c.in-Some-locate.ensures.above l (omega arith)
+    ∙ path-above c.loop-i.path c.set-in-loop-i.new.self c.args.height c.loop-i.i l c.set-in-loop-i.ensures.place lt
+    ∙ c.loop-i.invariant.above l lt
 
 pub loop-i-preserved : goal.loop-i-preserved
 loop-i-preserved t c =
     let h = c.args.height in let i = c.loop-i.i in
     let lt : i < length (children c.args.self.now) = search rules in
-    let same : c.index.result.now ≡ child c.args.self.now i = child_is c.args.self.now i c.index.result.now lt c.index.ensures in
+    let same : c.index.result.now ≡ child c.args.self.now i =
+    child_is c.args.self.now i c.index.result.now lt c.index.ensures in
     record {
       path = c.in_default-locate.ensures.path;
       above = λ m up. c.in_default-locate.ensures.above m (omega arith) ∙ path-above c.loop-i.path c.set-in-loop-i.new.self h i m c.set-in-loop-i.ensures.place up ∙ c.loop-i.invariant.above m up;
@@ -57,5 +63,6 @@ loop-i-preserved t c =
 pub returns-clause-missing : goal.returns-clause-missing
 returns-clause-missing t c none =
     let over = c.loop-i-test.false in
-    absent_inner c.args.height c.args.self.now c.args.ix c.if-height-eq0.false c.requires.formed (rw c.as_slice.ensures at (c.in_default.ensures.missing refl))
+    absent_inner c.args.height c.args.self.now c.args.ix c.if-height-eq0.false c.requires.formed
+    (rw c.as_slice.ensures at (c.in_default.ensures.missing refl))
     (λ k lt. c.loop-i.invariant.missing k (let all : k < c.len-i-end.result = search (rules, lt) in omega arith))

@@ -10,7 +10,8 @@ pub insert-requires-clause-room : goal.insert-requires-clause-room
 insert-requires-clause-room t c = (full-here _ _ _ _ c.requires.room).1 c.if-height-eq0.true
 
 pub index_mut-requires : goal.index_mut-requires
-index_mut-requires t c = let g = goes-inner _ _ _ c.if-height-eq0.false c.requires.goes in rw c.get-i.ensures (search (rules, g.here))
+index_mut-requires t c =
+    let g = goes-inner _ _ _ c.if-height-eq0.false c.requires.goes in rw c.get-i.ensures (search (rules, g.here))
 
 pub put_in_leaf-requires : goal.put_in_leaf-requires
 put_in_leaf-requires t c =

@@ -6,11 +6,16 @@ use Rattle.iddqd_order.proofs.InsertLemmas.{is_taken, taken, put_below, put_here
 use Rattle.iddqd_order.proofs.btree_table.node.Node.+put_through_full.Goals as goal
 
 pub index_mut-requires : goal.index_mut-requires
-index_mut-requires t c = let more = c.if-height-full.true in let g = goes-inner _ _ _ (λ e. absurd (omega arith)) c.requires.goes in rw c.get-i.ensures (search (rules, g.here))
+index_mut-requires t c =
+    let more = c.if-height-full.true in
+    let g = goes-inner _ _ _ (λ e. absurd (omega arith)) c.requires.goes in
+    rw c.get-i.ensures (search (rules, g.here))
 
 pub put_through_full-requires : goal.put_through_full-requires
 put_through_full-requires t c =
-    let k = is_taken c.args.height _ _ _ c.index_mut.result.now (λ e. absurd (omega arith)) c.requires.formed c.requires.goes c.get-i.ensures c.index_mut.ensures.value in
+    let k =
+    is_taken c.args.height _ _ _ c.index_mut.result.now
+    (λ e. absurd (omega arith)) c.requires.formed c.requires.goes c.get-i.ensures c.index_mut.ensures.value in
     let b = taken _ _ _ _ _ k in let more = c.if-height-full.true in
     (omega arith, (omega arith, (c.requires.some, (omega arith, (b.formed, (b.goes, (full_child _ _ _ _ _ _ k c.requires.full, (c.requires.enough, c.requires.fits))))))))
 
@@ -22,10 +27,23 @@ index_mut-requires-else-height-full t c =
 
 pub split-middle-requires : goal.split-middle-requires
 split-middle-requires t c =
-    let some = c.requires.some in let not_all = c.requires.not_all in let here = c.if-height-full.false in let enough = c.requires.enough in let fits = c.requires.fits in
+    let some = c.requires.some in
+    let not_all = c.requires.not_all in
+    let here = c.if-height-full.false in
+    let enough = c.requires.enough in
+    let fits = c.requires.fits in
     let k = is_taken c.args.height _ _ _ c.index_mut-else-height-full.result.now (λ e. absurd (omega arith)) c.requires.formed c.requires.goes c.get-i.ensures c.index_mut-else-height-full.ensures.value in
     let b = taken _ _ _ _ _ k in
-    record { low = omega arith; formed = b.formed; goes = b.goes; full = all_full _ (c.args.height - 1 + 1) _ _ _ (omega arith) (omega arith) (full_child _ _ _ _ _ _ k c.requires.full); enough = omega arith; fits = omega arith }
+    record {
+      levels = omega arith;
+      formed = b.formed;
+      goes = b.goes;
+      full =
+          all_full _ (c.args.height - 1 + 1) _ _ _ (omega arith) (omega arith)
+          (full_child _ _ _ _ _ _ k c.requires.full);
+      enough = omega arith;
+      fits = omega arith;
+    }
 
 pub put_between-requires : goal.put_between-requires
 put_between-requires t c =
@@ -34,11 +52,18 @@ put_between-requires t c =
     let here = b.here in let one = b.node.one_more in
     let room = (full-here _ _ _ _ c.requires.full).1 (omega arith) in
     let count : vec_len (out-Node c.args.self.now).children ≡ length (row c.args.self.now) + 1 = search (rules, one) in
-    record { within = rw out-roll-Node (omega arith); room = rw out-roll-Node room; one_more = simp out-roll-Node count; has_room = simp out-roll-Node b.node.has_room }
+    record {
+      within = rw out-roll-Node (omega arith);
+      room = rw out-roll-Node room;
+      one_more = simp out-roll-Node count;
+      has_room = simp out-roll-Node b.node.has_room;
+    }
 
 pub returns-then-height-full-clause-put : goal.returns-then-height-full-clause-put
 returns-then-height-full-clause-put t c =
-    let k = is_taken c.args.height _ _ _ c.index_mut.result.now (λ e. absurd (omega arith)) c.requires.formed c.requires.goes c.get-i.ensures c.index_mut.ensures.value in
+    let k =
+    is_taken c.args.height _ _ _ c.index_mut.result.now
+    (λ e. absurd (omega arith)) c.requires.formed c.requires.goes c.get-i.ensures c.index_mut.ensures.value in
     put_below c.args.height c.args.self.now (roll-Node _) c.args.path.now c.args.ix c.get-i.result c.index_mut.result.now c.put_through_full.new.self k c.put_through_full.ensures.put
     (row-roll _) (children-roll _) (room-from _ (taken _ _ _ _ _ k).node.has_room)
 

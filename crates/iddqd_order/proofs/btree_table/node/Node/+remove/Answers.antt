@@ -14,8 +14,18 @@ remove-requires t c =
 
 pub returns-then-height-eq0 : goal.returns-then-height-eq0
 returns-then-height-eq0 t c =
-    let k = remade-leaf c.args.level c.args.height c.get-i.result c.args.self.now (roll-Node _) c.args.path.now c.if-height-eq0.true c.get-i.ensures c.requires.formed c.requires.holds (row-roll _ ∙ c.remove.ensures.items) (children-roll _) in
-    record { items = k.items; formed = k.formed; fewer = k.fewer; counted = unchanged c.args.reserve.now (inners-leaf c.args.height c.args.self.now c.if-height-eq0.true) (inners-leaf c.args.height (roll-Node _) c.if-height-eq0.true) }
+    let k =
+    remade-leaf c.args.level c.args.height c.get-i.result c.args.self.now
+    (roll-Node _) c.args.path.now c.if-height-eq0.true c.get-i.ensures c.requires.formed c.requires.holds
+    (row-roll _ ∙ c.remove.ensures.items) (children-roll _) in
+    record {
+      items = k.items;
+      formed = k.formed;
+      fewer = k.fewer;
+      counted =
+          unchanged c.args.reserve.now (inners-leaf c.args.height c.args.self.now c.if-height-eq0.true)
+          (inners-leaf c.args.height (roll-Node _) c.if-height-eq0.true);
+    }
 
 pub index_mut-requires : goal.index_mut-requires
 index_mut-requires t c =
@@ -25,9 +35,13 @@ pub remove_last-last-requires : goal.remove_last-last-requires
 remove_last-last-requires t c =
     let e = ends-inner c.args.height c.args.level c.get-i.result c.args.self.now c.args.path.now c.if-height-eq0.false c.if-height-level.true c.get-i.ensures c.requires.formed c.requires.holds in
     let at = e.within in
-    let b = child-before c.args.height c.get-i.result c.args.self.now c.index_mut.result.now c.if-height-eq0.false (omega arith) c.requires.formed (search rules) in
+    let b =
+    child-before c.args.height c.get-i.result c.args.self.now c.index_mut.result.now c.if-height-eq0.false
+    (omega arith) c.requires.formed (search rules) in
     let five = b.1.0 in
-    let k = child-counted c.args.height c.get-i.result c.args.self.now c.index_mut.result.now c.if-height-eq0.false e.here (search rules) in
+    let k =
+    child-counted c.args.height c.get-i.result c.args.self.now c.index_mut.result.now c.if-height-eq0.false e.here
+    (search rules) in
     record { some = omega arith; formed = b.1.1; counted = omega (arith, k, c.requires.counted) }
 
 pub set-requires : goal.set-requires
@@ -52,18 +66,23 @@ remove-requires-else-height-level t c =
 took :
     (t : ℕ) (c : goal.After-mend-arg-3-1 t)
     → TookNow c.args.height c.get-i.result c.args.self.now c.if-height-level.self
-    (remove (flat c.args.height c.args.self.now) (place_at_level c.args.level c.args.height c.args.self.now c.args.path.now))
+    (remove (flat c.args.height c.args.self.now)
+    (place_at_level c.args.level c.args.height c.args.self.now c.args.path.now))
 took t c =
     elim c.if-height-level.branch [
       | then-height-level w ↦
           (let d = w.remove_last-last.ensures in
           let k = took-here c.args.level c.args.height c.get-i.result c.args.self.now w.index_mut.result.now w.remove_last-last.new.self c.args.path.now w.remove_last-last.result c.if-height-eq0.false w.if-height-level.true c.get-i.ensures c.requires.formed c.requires.some c.requires.holds (search rules) d.items d.formed d.fewer in
           let set_is = simp out-roll-Node at w.set.ensures in
-          took-now c.args.height c.get-i.result c.args.self.now c.if-height-level.self _ _ _ k (ap row w.self-is ∙ row-roll _ ∙ set_is) (ap children w.self-is ∙ children-roll _ ∙ children-roll _) (ap child_room w.self-is ∙ room-roll _ ∙ room-roll _))
+          took-now c.args.height c.get-i.result c.args.self.now c.if-height-level.self _ _ _ k
+          (ap row w.self-is ∙ row-roll _ ∙ set_is) (ap children w.self-is ∙ children-roll _ ∙ children-roll _)
+          (ap child_room w.self-is ∙ room-roll _ ∙ room-roll _))
       | else-height-level w ↦
           (let d = w.remove-else-height-level.ensures in
           let k = took-below c.args.level c.args.height c.get-i.result c.args.self.now w.index_mut-else-height-level.result.now w.remove-else-height-level.new.self c.args.path.now c.if-height-eq0.false w.if-height-level.false c.get-i.ensures c.requires.formed c.requires.some c.requires.holds (search rules) d.items d.formed d.fewer in
-          took-now c.args.height c.get-i.result c.args.self.now c.if-height-level.self _ _ _ k (ap row w.self-is ∙ row-roll _) (ap children w.self-is ∙ children-roll _) (ap child_room w.self-is ∙ room-roll _))
+          took-now c.args.height c.get-i.result c.args.self.now c.if-height-level.self _ _ _ k
+          (ap row w.self-is ∙ row-roll _) (ap children w.self-is ∙ children-roll _)
+          (ap child_room w.self-is ∙ room-roll _))
     ]
 
 below :
@@ -85,12 +104,19 @@ below t c =
     ]
 
 pub mend-requires : goal.mend-requires
-mend-requires t c = record { lacks = (c.args.height - 1, (took t c).took.may_lack); some = omega (arith, c.requires.counted, (below t c).inners) }
+mend-requires t c =
+    record {
+      lacks = (c.args.height - 1, (took t c).took.may_lack);
+      some = omega (arith, c.requires.counted, (below t c).inners);
+    }
 
 pub returns : goal.returns
 returns t c =
     let k = took t c.before in
-    let m = remade c.args.height c.get-i.result c.args.self.now (roll-Node _) _ _ _ _ _ k.took (c.mend.ensures.mended (c.args.height - 1) k.took.may_lack) (row-roll _) (children-roll _) (room-kept c.args.self.now _ (c.mend.ensures.capacity ∙ k.room_is)) in
+    let m =
+    remade c.args.height c.get-i.result c.args.self.now (roll-Node _) _ _ _ _ _ k.took
+    (c.mend.ensures.mended (c.args.height - 1) k.took.may_lack) (row-roll _) (children-roll _)
+    (room-kept c.args.self.now _ (c.mend.ensures.capacity ∙ k.room_is)) in
     record {
       items = m.items;
       formed = m.formed;

@@ -9,16 +9,27 @@ use Rattle.iddqd_order.proofs.btree_table.node.Node.+remove_last.Goals as goal
 pub returns-then-height-eq0 : goal.returns-then-height-eq0
 returns-then-height-eq0 t c =
     let k = last-of-leaf c.args.height c.len-count.result c.args.self.now (roll-Node _) c.remove.result c.if-height-eq0.true c.len-count.ensures.length c.requires.formed c.requires.some (row-roll _ ∙ c.remove.ensures.items) c.remove.ensures.value (children-roll _) in
-    record { items = k.items; formed = k.formed; fewer = k.fewer; counted = unchanged c.args.reserve.now (inners-leaf c.args.height c.args.self.now c.if-height-eq0.true) (inners-leaf c.args.height (roll-Node _) c.if-height-eq0.true) }
+    record {
+      items = k.items;
+      formed = k.formed;
+      fewer = k.fewer;
+      counted =
+          unchanged c.args.reserve.now (inners-leaf c.args.height c.args.self.now c.if-height-eq0.true)
+          (inners-leaf c.args.height (roll-Node _) c.if-height-eq0.true);
+    }
 
 pub index_mut-requires : goal.index_mut-requires
 index_mut-requires t c =
-    let w = child-within c.args.height c.args.self.now c.len-count.result c.if-height-eq0.false c.requires.formed (omega arith) in
+    let w =
+    child-within c.args.height c.args.self.now c.len-count.result c.if-height-eq0.false c.requires.formed
+    (omega arith) in
     search (rules, w)
 
 pub remove_last-last-requires : goal.remove_last-last-requires
 remove_last-last-requires t c =
-    let b = child-before c.args.height c.len-count.result c.args.self.now c.index_mut.result.now c.if-height-eq0.false (omega arith) c.requires.formed (search rules) in
+    let b =
+    child-before c.args.height c.len-count.result c.args.self.now c.index_mut.result.now c.if-height-eq0.false
+    (omega arith) c.requires.formed (search rules) in
     let five = b.1.0 in
     let k = child-counted c.args.height c.len-count.result c.args.self.now c.index_mut.result.now c.if-height-eq0.false b.0 (search rules) in
     (omega arith, (omega arith, (b.1.1, omega (arith, k, c.requires.counted))))
@@ -41,13 +52,20 @@ below t c =
     (child-within c.args.height c.args.self.now c.len-count.result c.if-height-eq0.false c.requires.formed (omega arith)) (search rules) c.remove_last-last.ensures.counted
 
 pub mend-requires : goal.mend-requires
-mend-requires t c = record { lacks = (c.args.height - 1, simp out-roll-Node (took t c).took.may_lack); some = omega (arith, c.requires.counted, (below t c).inners) }
+mend-requires t c =
+    record {
+      lacks = (c.args.height - 1, simp out-roll-Node (took t c).took.may_lack);
+      some = omega (arith, c.requires.counted, (below t c).inners);
+    }
 
 pub returns : goal.returns
 returns t c =
     let k = took t c.before in
     let m = simp out-roll-Node at c.mend.ensures.mended in
-    let r = remade c.args.height c.len-count.result c.args.self.now (roll-Node _) _ _ _ _ _ k.took (m (c.args.height - 1) k.took.may_lack) (row-roll _) (children-roll _) (room-kept c.args.self.now _ (simp out-roll-Node at c.mend.ensures.capacity)) in
+    let r =
+    remade c.args.height c.len-count.result c.args.self.now (roll-Node _) _ _ _ _ _ k.took
+    (m (c.args.height - 1) k.took.may_lack) (row-roll _) (children-roll _)
+    (room-kept c.args.self.now _ (simp out-roll-Node at c.mend.ensures.capacity)) in
     let d = simp out-roll-Node at c.mend.ensures.counted in
     record {
       items = k.items ∙ ap (λ z. z ++ c.remove_last-last.result ∷ []) (sym r.items);

@@ -5,7 +5,8 @@ use Rattle.iddqd_order.proofs.NodeRenameLemmas.{own-can, next-can, renamed}
 use Rattle.iddqd_order.proofs.btree_table.node.Node.+rename.Goals as goal
 
 pub rename_row-requires : goal.rename_row-requires
-rename_row-requires t c = own-can (CanRemap c.args.remap.now) c.args.height c.args.self.now c.requires.formed c.requires.can_remap
+rename_row-requires t c =
+    own-can (CanRemap c.args.remap.now) c.args.height c.args.self.now c.requires.formed c.requires.can_remap
 
 pub returns-then-height-eq0 : goal.returns-then-height-eq0
 returns-then-height-eq0 t c =

@@ -48,16 +48,21 @@ pub get-ix-requires : goal.get-ix-requires
 get-ix-requires t c = (ends-here c.if-height-level.false c.get-i.ensures c.requires.formed c.requires.holds).within
 
 pub overflow_add-i : goal.overflow_add-i
-overflow_add-i t c = omega (arith, (ends-here c.if-height-level.false c.get-i.ensures c.requires.formed c.requires.holds).low)
+overflow_add-i t c =
+    omega (arith, (ends-here c.if-height-level.false c.get-i.ensures c.requires.formed c.requires.holds).low)
 
 pub set_and_zero_below-requires-clause-place : goal.set_and_zero_below-requires-clause-place
-set_and_zero_below-requires-clause-place t c = omega (arith, (ends-here c.if-height-level.false c.get-i.ensures c.requires.formed c.requires.holds).low)
+set_and_zero_below-requires-clause-place t c =
+    omega (arith, (ends-here c.if-height-level.false c.get-i.ensures c.requires.formed c.requires.holds).low)
 
 pub overflow_add-i-2 : goal.overflow_add-i-2
-overflow_add-i-2 t c = omega (arith, (ends-here c.if-height-level.false c.get-i.ensures c.requires.formed c.requires.holds).low)
+overflow_add-i-2 t c =
+    omega (arith, (ends-here c.if-height-level.false c.get-i.ensures c.requires.formed c.requires.holds).low)
 
 pub returns-then-height-gt0-clause-index : goal.returns-then-height-gt0-clause-index
-returns-then-height-gt0-clause-index t c = c.get-ix.ensures ∙ sym (ends-here c.if-height-level.false c.get-i.ensures c.requires.formed c.requires.holds).spot_is
+returns-then-height-gt0-clause-index t c =
+    c.get-ix.ensures
+    ∙ sym (ends-here c.if-height-level.false c.get-i.ensures c.requires.formed c.requires.holds).spot_is
 
 pub returns-then-height-gt0-clause-next : goal.returns-then-height-gt0-clause-next
 returns-then-height-gt0-clause-next t c =
@@ -65,21 +70,27 @@ returns-then-height-gt0-clause-next t c =
     steps-here c.args.height c.args.level c.get-i.result c.args.self.now c.args.path.now c.set_and_zero_below.new.self (λ z. absurd (omega arith)) e.level c.get-i.ensures c.requires.formed c.requires.holds c.set_and_zero_below.ensures.here c.set_and_zero_below.ensures.below
 
 pub returns-then-i-len-2-clause-index : goal.returns-then-i-len-2-clause-index
-returns-then-i-len-2-clause-index t c = c.get-ix.ensures ∙ sym (ends-here c.if-height-level.false c.get-i.ensures c.requires.formed c.requires.holds).spot_is
+returns-then-i-len-2-clause-index t c =
+    c.get-ix.ensures
+    ∙ sym (ends-here c.if-height-level.false c.get-i.ensures c.requires.formed c.requires.holds).spot_is
 
 pub returns-then-i-len-2-clause-next : goal.returns-then-i-len-2-clause-next
 returns-then-i-len-2-clause-next t c =
     let lt = c.if-i-len-2.true in let len = c.len-2.ensures.length in
-    steps-leaf c.args.height c.args.level c.get-i.result c.args.self.now c.args.path.now c.set.new.self (omega arith) c.get-i.ensures c.requires.holds (search (rules, lt))
+    steps-leaf c.args.height c.args.level c.get-i.result c.args.self.now c.args.path.now c.set.new.self
+    (omega arith) c.get-i.ensures c.requires.holds (search (rules, lt))
     (path-here c.args.path.now c.set.new.self 0 (c.get-i.result + 1) c.requires.path (omega arith) c.set.ensures.place)
 
 pub returns-clause-index : goal.returns-clause-index
-returns-clause-index t c = c.get-ix.ensures ∙ sym (ends-here c.if-height-level.false c.get-i.ensures c.requires.formed c.requires.holds).spot_is
+returns-clause-index t c =
+    c.get-ix.ensures
+    ∙ sym (ends-here c.if-height-level.false c.get-i.ensures c.requires.formed c.requires.holds).spot_is
 
 pub returns-clause-next : goal.returns-clause-next
 returns-clause-next t c =
     let over = c.if-i-len-2.false in let len = c.len-2.ensures.length in
-    ends-leaf c.args.height c.args.level c.get-i.result c.args.self.now c.args.path.now c.args.path.now (omega arith) c.get-i.ensures c.requires.holds (search (rules, over))
+    ends-leaf c.args.height c.args.level c.get-i.result c.args.self.now c.args.path.now c.args.path.now
+    (omega arith) c.get-i.ensures c.requires.holds (search (rules, over))
 
 pub returns-then-i-len-clause-above : goal.returns-then-i-len-clause-above
 returns-then-i-len-clause-above t c = grind (arith, common_steps)

@@ -10,16 +10,20 @@ use Rattle.iddqd_order.proofs.btree_table.node.Node.+step_over.Goals as goal
 pub beside-requires : goal.beside-requires
 beside-requires t c =
     let at = goes-leaf c.args.level c.args.self.now c.args.path.now c.if-level-eq0.true c.requires.goes in
-    let is = c.get-place.ensures ∙ ap (slice_index c.args.path.now) c.if-level-eq0.true in let len = c.len.ensures.length in
+    let is = c.get-place.ensures ∙ ap (slice_index c.args.path.now) c.if-level-eq0.true in
+    let len = c.len.ensures.length in
     omega arith
 
 pub returns-in_default-clause-ended : goal.returns-in_default-clause-ended
 returns-in_default-clause-ended t c none =
-    ended-leaf c.args.towards c.args.level c.get-place.result c.args.self.now c.args.path.now c.if-level-eq0.true (rw (c.in_default.is, c.len.ensures.length) at c.beside.ensures) c.get-place.ensures
+    ended-leaf c.args.towards c.args.level c.get-place.result c.args.self.now c.args.path.now c.if-level-eq0.true
+    (rw (c.in_default.is, c.len.ensures.length) at c.beside.ensures) c.get-place.ensures
 
 pub returns-then-level-eq0-clause-over : goal.returns-then-level-eq0-clause-over
 returns-then-level-eq0-clause-over t c =
-    let here = ap (slice_index c.set.new.self) c.if-level-eq0.true ∙ path-here c.args.path.now c.set.new.self 0 _ c.requires.path (omega arith) c.set.ensures.place in
+    let here =
+    ap (slice_index c.set.new.self) c.if-level-eq0.true
+    ∙ path-here c.args.path.now c.set.new.self 0 _ c.requires.path (omega arith) c.set.ensures.place in
     rw c.get.ensures (over-leaf c.args.towards c.args.level c.get-place.result (c.in-Some.at, c.in-Some.next) c.args.self.now c.args.path.now _ c.set.new.self c.if-level-eq0.true
     (rw c.len.ensures.length at c.in-Some.ensures) c.get-place.ensures here c.as_slice.ensures)
 
@@ -45,7 +49,8 @@ returns-in-Some-step_over-clause-over t c =
 pub beside-requires-2 : goal.beside-requires-2
 beside-requires-2 t c =
     let lt = goes-here c.args.level c.get-place.result c.args.self.now c.args.path.now c.if-level-eq0.false c.get-place.ensures c.requires.goes in
-    let one = (formed-inner c.args.level c.args.self.now c.if-level-eq0.false c.requires.formed).inner.one_more in let len = c.len-2.ensures.length in
+    let one = (formed-inner c.args.level c.args.self.now c.if-level-eq0.false c.requires.formed).inner.one_more in
+    let len = c.len-2.ensures.length in
     omega arith
 
 pub returns-in_default-beside-clause-ended : goal.returns-in_default-beside-clause-ended
@@ -55,25 +60,40 @@ returns-in_default-beside-clause-ended t c none =
 
 pub index-requires-2 : goal.index-requires-2
 index-requires-2 t c =
-    let inside = beside-within c.args.towards _ _ (c.in-Some-beside.at, c.in-Some-beside.next) c.in-Some-beside.ensures in let len = c.len-2.ensures.length in
-    let lt = child-within c.args.level c.args.self.now c.in-Some-beside.next c.if-level-eq0.false c.requires.formed (omega arith) in
+    let inside =
+    beside-within c.args.towards _ _ (c.in-Some-beside.at, c.in-Some-beside.next) c.in-Some-beside.ensures in
+    let len = c.len-2.ensures.length in
+    let lt =
+    child-within c.args.level c.args.self.now c.in-Some-beside.next c.if-level-eq0.false c.requires.formed
+    (omega arith) in
     search (rules, lt)
 
 pub edge-row-requires-clause-formed : goal.edge-row-requires-clause-formed
 edge-row-requires-clause-formed t c =
-    let inside = beside-within c.args.towards _ _ (c.in-Some-beside.at, c.in-Some-beside.next) c.in-Some-beside.ensures in let len = c.len-2.ensures.length in
-    let lt = child-within c.args.level c.args.self.now c.in-Some-beside.next c.if-level-eq0.false c.requires.formed (omega arith) in
-    rw (child_is c.args.self.now c.in-Some-beside.next c.index-2.result.now lt c.index-2.ensures) (child-formed c.args.level c.args.self.now c.in-Some-beside.next c.if-level-eq0.false c.requires.formed lt)
+    let inside =
+    beside-within c.args.towards _ _ (c.in-Some-beside.at, c.in-Some-beside.next) c.in-Some-beside.ensures in
+    let len = c.len-2.ensures.length in
+    let lt =
+    child-within c.args.level c.args.self.now c.in-Some-beside.next c.if-level-eq0.false c.requires.formed
+    (omega arith) in
+    rw (child_is c.args.self.now c.in-Some-beside.next c.index-2.result.now lt c.index-2.ensures)
+    (child-formed c.args.level c.args.self.now c.in-Some-beside.next c.if-level-eq0.false c.requires.formed lt)
 
 pub returns-clause-over : goal.returns-clause-over
 returns-clause-over t c =
     let b = goes-in c.args.level c.get-place.result c.args.self.now c.index.result.now c.args.path.now c.if-level-eq0.false c.get-place.ensures c.requires.formed c.requires.goes c.index.ensures in
-    let inside = beside-within c.args.towards _ _ (c.in-Some-beside.at, c.in-Some-beside.next) c.in-Some-beside.ensures in let len = c.len-2.ensures.length in
-    let lt = child-within c.args.level c.args.self.now c.in-Some-beside.next c.if-level-eq0.false c.requires.formed (omega arith) in
+    let inside =
+    beside-within c.args.towards _ _ (c.in-Some-beside.at, c.in-Some-beside.next) c.in-Some-beside.ensures in
+    let len = c.len-2.ensures.length in
+    let lt =
+    child-within c.args.level c.args.self.now c.in-Some-beside.next c.if-level-eq0.false c.requires.formed
+    (omega arith) in
     let is = child_is c.args.self.now c.in-Some-beside.next c.index-2.result.now lt c.index-2.ensures in
     let here = c.edge-row.ensures.above c.args.level (omega arith) ∙ path-here c.step_over.new.path c.set-2.new.self c.args.level _ c.in_default-step_over.ensures.path c.requires.levels c.set-2.ensures.place in
     rw c.get-2.ensures (over-here c.args.towards c.args.level c.get-place.result (c.in-Some-beside.at, c.in-Some-beside.next) c.args.self.now c.index.result.now _ c.args.path.now _ c.edge-row.new.path
-    c.if-level-eq0.false c.requires.formed b c.get-place.ensures (rw c.len-2.ensures.length at c.in-Some-beside.ensures) (c.in_default-step_over.ensures.ended refl) lt is here (rw c.opposite.ensures at c.edge-row.ensures.edge))
+    c.if-level-eq0.false c.requires.formed b c.get-place.ensures
+    (rw c.len-2.ensures.length at c.in-Some-beside.ensures) (c.in_default-step_over.ensures.ended refl) lt is here
+    (rw c.opposite.ensures at c.edge-row.ensures.edge))
 
 pub returns-clause-ended : goal.returns-clause-ended
 returns-clause-ended t c = grind (arith, common_steps)

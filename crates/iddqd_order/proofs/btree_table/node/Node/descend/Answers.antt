@@ -21,19 +21,30 @@ search_row-requires g c =
 pub returns-in-Ok-clause-descends : goal.returns-in-Ok-clause-descends
 returns-in-Ok-clause-descends g c =
     let read = g.H.Reads.reading c.args.how.now in
-    let l = c.loop-i.level in let n = c.loop-i.node.now in let p = c.set.new.self in let a = c.loop-i.asking in let b = c.search_row.new.asking in
+    let l = c.loop-i.level in
+    let n = c.loop-i.node.now in
+    let p = c.set.new.self in
+    let a = c.loop-i.asking in
+    let b = c.search_row.new.asking in
     let held = c.loop-i.invariant in
-    let here : slice_index p l ≡ c.in-Ok.i = path-here c.loop-i.path p l c.in-Ok.i held.path held.levels c.set.ensures.place in
+    let here : slice_index p l ≡ c.in-Ok.i =
+    path-here c.loop-i.path p l c.in-Ok.i held.path held.levels c.set.ensures.place in
     held.rest p (Ok l) b (λ m lt. path-above c.loop-i.path p l c.in-Ok.i m c.set.ensures.place lt)
     (Descends-hit g.F.FnMut read c.args.sought.now (row_asks * (l + 1)) c.loop-i.full l n p a b (omega arith) held.formed (rw here c.in-Ok.ensures))
 
 pub returns-then-level-eq0-clause-descends : goal.returns-then-level-eq0-clause-descends
 returns-then-level-eq0-clause-descends g c =
     let read = g.H.Reads.reading c.args.how.now in
-    let l = c.loop-i.level in let n = c.loop-i.node.now in let p = c.set-in-Err.new.self in let a = c.loop-i.asking in let b = c.search_row.new.asking in
+    let l = c.loop-i.level in
+    let n = c.loop-i.node.now in
+    let p = c.set-in-Err.new.self in
+    let a = c.loop-i.asking in
+    let b = c.search_row.new.asking in
     let held = c.loop-i.invariant in let counted = c.full_from-full.ensures in
-    let here : slice_index p l ≡ c.in-Err.i = path-here c.loop-i.path p l c.in-Err.i held.path held.levels c.set-in-Err.ensures.place in
-    held.rest p (Err c.full_from-full.result) b (λ m lt. path-above c.loop-i.path p l c.in-Err.i m c.set-in-Err.ensures.place lt)
+    let here : slice_index p l ≡ c.in-Err.i =
+    path-here c.loop-i.path p l c.in-Err.i held.path held.levels c.set-in-Err.ensures.place in
+    held.rest p (Err c.full_from-full.result) b
+    (λ m lt. path-above c.loop-i.path p l c.in-Err.i m c.set-in-Err.ensures.place lt)
     (Descends-leaf g.F.FnMut read c.args.sought.now (row_asks * (l + 1)) c.loop-i.full c.full_from-full.result l n p a b (omega arith) c.if-level-eq0.true held.formed (rw here c.in-Err.ensures)
     (record { above = held.above; not_full = counted.not_full; is_full = counted.is_full }))
 
@@ -52,7 +63,12 @@ loop-i-preserved g c =
     let lt : i < length (children n) = child-within l n i ne held.formed s.missed in
     let same : k ≡ child n i = child_is n i k lt c.index-node.ensures in
     let levels = held.levels in
-    let counts : Counts n c.loop-i.full l full = record { above = held.above; not_full = c.full_from-full.ensures.not_full; is_full = c.full_from-full.ensures.is_full } in
+    let counts : Counts n c.loop-i.full l full =
+    record {
+      above = held.above;
+      not_full = c.full_from-full.ensures.not_full;
+      is_full = c.full_from-full.ensures.is_full;
+    } in
     record {
       formed = rw same (child-formed l n i ne held.formed lt);
       levels = omega arith;
@@ -60,7 +76,9 @@ loop-i-preserved g c =
       can_search = rw same (can_ask_below g.F.FnMut read sought l n i a b ne held.formed s held.can_search);
       above = (let up = c.full_from-full.ensures.above in omega arith);
       rest = λ p end new on d.
-          let here : slice_index p l ≡ i = on l (omega arith) ∙ path-here c.loop-i.path path l i held.path held.levels c.set-in-Err.ensures.place in
-          held.rest p end new (λ m up. on m (omega arith) ∙ path-above c.loop-i.path path l i m c.set-in-Err.ensures.place up)
+          let here : slice_index p l ≡ i =
+          on l (omega arith) ∙ path-here c.loop-i.path path l i held.path held.levels c.set-in-Err.ensures.place in
+          held.rest p end new
+          (λ m up. on m (omega arith) ∙ path-above c.loop-i.path path l i m c.set-in-Err.ensures.place up)
           (Descends-below g.F.FnMut read sought (row_asks * (l + 1)) c.loop-i.full full l n p end a b new (omega arith) ne held.formed (rw here s) counts (subst (λ z. Descends g.F.FnMut read sought (row_asks * (l - 1 + 1)) full (l - 1) z b p end new) (same ∙ ap (child n) (sym here)) d));
     }

@@ -23,7 +23,8 @@ returns-then-level-eq0 g c =
 pub index-node-requires : goal.index-node-requires
 index-node-requires g c =
     let n = c.loop-i.node.now in let s = c.in-Err.ensures in
-    let lt : c.in-Err.i < length (children n) = child-within c.loop-i.level n c.in-Err.i c.if-level-eq0.false c.loop-i.invariant.formed s.missed in
+    let lt : c.in-Err.i < length (children n) =
+    child-within c.loop-i.level n c.in-Err.i c.if-level-eq0.false c.loop-i.invariant.formed s.missed in
     search (rules, lt)
 
 pub loop-i-preserved : goal.loop-i-preserved
@@ -38,6 +39,7 @@ loop-i-preserved g c =
       formed = rw same (child-formed l n i ne f lt);
       can_search = subst (λ z. CanSearch g.F.FnMut (flat (l - 1) z) None c.search_row.new.asking) (sym same) (can_ask_below g.F.FnMut read None l n i c.loop-i.asking c.search_row.new.asking ne f s c.loop-i.invariant.can_search);
       rest = λ found new t.
-          c.loop-i.invariant.rest found new (FindsIn-below g.F.FnMut read None l n i found c.loop-i.asking c.search_row.new.asking new ne f s
+          c.loop-i.invariant.rest found new
+          (FindsIn-below g.F.FnMut read None l n i found c.loop-i.asking c.search_row.new.asking new ne f s
           (subst (λ z. FindsIn g.F.FnMut read None (l - 1) z c.search_row.new.asking found new) same t));
     }

@@ -7,7 +7,8 @@ insert_again-requires-clause-absent g c = rw c.remove_by_search.ensures.removed 
 
 pub insert_again-requires-clause-can_ask : goal.insert_again-requires-clause-can_ask
 unfolding index_of
-insert_again-requires-clause-can_ask g c = rw c.remove_by_search.ensures.removed (can-insert g.G.FnMut _ _ _ c.requires.entering)
+insert_again-requires-clause-can_ask g c =
+    rw c.remove_by_search.ensures.removed (can-insert g.G.FnMut _ _ _ c.requires.entering)
 
 pub returns-clause-entering_asked : goal.returns-clause-entering_asked
 unfolding index_of

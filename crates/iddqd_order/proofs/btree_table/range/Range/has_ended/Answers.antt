@@ -9,7 +9,8 @@ pub returns-then-self : goal.returns-then-self
 unfolding indexes_ahead
 returns-then-self c =
     let i = c.self.invariant in
-    rw (← c.self.view_is, c.is_eq.ensures) (ended-told c.compare.result _ _ _ c.compare.ensures i.3 (place_in-within _ _ _ i.0 i.2.at.gap.goes))
+    rw (← c.self.view_is, c.is_eq.ensures)
+    (ended-told c.compare.result _ _ _ c.compare.ensures i.3 (place_in-within _ _ _ i.0 i.2.at.gap.goes))
 
 pub returns-else-self : goal.returns-else-self
 unfolding indexes_ahead

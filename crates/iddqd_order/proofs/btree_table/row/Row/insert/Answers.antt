@@ -9,7 +9,8 @@ moved_up :
     → len < length items
     → at ≤ len
     → take (len + 1) (set (copy_within items at len (at + 1)) at x) ≡ insert (take len items) at x
-moved_up items len at x p q = same_lists _ _ (grind (arith, places, length-set)) (λ k d h. grind (arith, places, length-set, get_or-set_at))
+moved_up items len at x p q =
+    same_lists _ _ (grind (arith, places, length-set)) (λ k d h. grind (arith, places, length-set, get_or-set_at))
 
 pub returns : goal.returns
 returns c =
@@ -18,4 +19,5 @@ returns c =
     let at = c.requires.in_bounds in
     let n = length-take c.self.inside.len c.self.inside.items in
     ap (λ z. take (c.self.inside.len + 1) (set z c.args.at c.args.ix)) c.copy_within.ensures.after
-    ∙ moved_up c.self.inside.items c.self.inside.len c.args.at c.args.ix (omega arith) (omega arith) ∙ ap (λ z. insert z c.args.at c.args.ix) c.self.view_is
+    ∙ moved_up c.self.inside.items c.self.inside.len c.args.at c.args.ix (omega arith) (omega arith)
+    ∙ ap (λ z. insert z c.args.at c.args.ix) c.self.view_is

@@ -11,7 +11,11 @@ split_about :
     → IsSplit xs i x (take i xs) x (drop i xs)
 split_about xs i x n low high =
     let l = length-take-le i xs (omega arith) in
-    record { is = refl; low_length = ((λ le. omega arith), (λ lt. omega arith)); high_length = omega (arith, length-drop i xs) }
+    record {
+      is = refl;
+      low_length = ((λ le. omega arith), (λ lt. omega arith));
+      high_length = omega (arith, length-drop i xs);
+    }
 
 -- or goes to the lower part
 split_low :
@@ -41,7 +45,9 @@ split_high xs i x n p q = record {
 }
 
 pub returns-then-at-eq-LEAST : goal.returns-then-at-eq-LEAST
-returns-then-at-eq-LEAST c = rw (c.if-at-eq-LEAST.true, c.split_off-upper.ensures.head, c.split_off-upper.ensures.tail) (split_about c.args.self.now LEAST c.args.ix c.requires.full (omega arith) (omega arith))
+returns-then-at-eq-LEAST c =
+    rw (c.if-at-eq-LEAST.true, c.split_off-upper.ensures.head, c.split_off-upper.ensures.tail)
+    (split_about c.args.self.now LEAST c.args.ix c.requires.full (omega arith) (omega arith))
 
 pub returns-then-at : goal.returns-then-at
 returns-then-at c = rw (c.if-at.true, c.split_off-upper-else-at-le-LEAST.ensures.head, c.split_off-upper-else-at-le-LEAST.ensures.tail) (split_about c.args.self.now (LEAST + 1) c.args.ix c.requires.full (omega arith) (omega arith))

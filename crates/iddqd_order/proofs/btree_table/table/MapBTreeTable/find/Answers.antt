@@ -13,7 +13,8 @@ pub returns-in_default : goal.returns-in_default
 unfolding order_of
 returns-in_default g c =
     let read = g.H.Reads.reading c.args.how.now in
-    rw (← c.self.view_is, c.in_default.is) (Finds-from_searches g.F.FnMut read [] (Err 0) None _ _ (Searches-nil g.F.FnMut read None _) refl)
+    rw (← c.self.view_is, c.in_default.is)
+    (Finds-from_searches g.F.FnMut read [] (Err 0) None _ _ (Searches-nil g.F.FnMut read None _) refl)
 
 pub returns : goal.returns
 unfolding order_of

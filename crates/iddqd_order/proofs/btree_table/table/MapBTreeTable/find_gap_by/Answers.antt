@@ -5,12 +5,12 @@ use Rattle.iddqd_order.proofs.btree_table.table.MapBTreeTable.find_gap_by.Goals 
 
 pub returns-in-Ok : goal.returns-in-Ok
 returns-in-Ok g c =
-    let s = c.in-Ok.ensures.searches in
+    let s = c.in-Ok.ensures.ends.searches in
     (s.asked, record { stored = rw c.index_at.ensures (Contains-at _ _ _ s.found refl); hit = λ answer steady. rw c.index_at.ensures (s.hit answer steady) })
 
 pub returns-in-Err : goal.returns-in-Err
 returns-in-Err g c =
-    let e = c.in-Err.ensures in
+    let e = c.in-Err.ensures.ends in
     let s = e.searches in (
       s.asked,
       record {

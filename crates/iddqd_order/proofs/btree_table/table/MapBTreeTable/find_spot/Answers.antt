@@ -9,7 +9,8 @@ use Rattle.iddqd_order.proofs.btree_table.table.MapBTreeTable.find_spot.Goals.{t
 use Rattle.iddqd_order.proofs.btree_table.table.MapBTreeTable.find_spot.Goals as goal
 
 pub returns-then-self-eq0-clause-asked : goal.returns-then-self-eq0-clause-asked
-returns-then-self-eq0-clause-asked g c = asks_more g.F.FnMut _ (omega arith) (asks_none g.F.FnMut (Askable (order_of c.args.self.now) (Some c.args.ix)) _)
+returns-then-self-eq0-clause-asked g c =
+    asks_more g.F.FnMut _ (omega arith) (asks_none g.F.FnMut (Askable (order_of c.args.self.now) (Some c.args.ix)) _)
 
 pub returns-then-self-eq0-clause-rising : goal.returns-then-self-eq0-clause-rising
 unfolding order_of
@@ -24,17 +25,17 @@ returns-then-self-eq0-clause-rising g c answer s held =
 pub returns-in-Ok-clause-there : goal.returns-in-Ok-clause-there
 unfolding order_of
 returns-in-Ok-clause-there g c =
-    let e = c.in-Ok.ensures in
+    let e = c.in-Ok.ensures.ends in
     (e.holds, e.searches.itself c.args.ix refl)
 
 pub returns-in-Ok-clause-stored : goal.returns-in-Ok-clause-stored
 returns-in-Ok-clause-stored g c is =
-    let s = c.in-Ok.ensures.searches in
+    let s = c.in-Ok.ensures.ends.searches in
     Contains-at _ _ _ s.found (sym (s.itself c.args.ix refl))
 
 pub returns-in-Err-clause-rising : goal.returns-in-Err-clause-rising
 returns-in-Err-clause-rising g c answer steady held =
-    let e = c.in-Err.ensures in
+    let e = c.in-Err.ensures.ends in
     met_where_stored _ answer e.searches steady held
 
 pub returns-in-Err-clause-stored : goal.returns-in-Err-clause-stored

@@ -3,7 +3,8 @@ use Rattle.iddqd_order.proofs.TableLemmas.{few, IsTable-put}
 use Rattle.iddqd_order.proofs.btree_table.table.MapBTreeTable.insert_at.Goals as goal
 
 pub put_in-self-inside-requires-clause-fits : goal.put_in-self-inside-requires-clause-fits
-put_in-self-inside-requires-clause-fits c = let most = few _ _ _ c.self.invariant in let counted = c.self.invariant.counted in omega arith
+put_in-self-inside-requires-clause-fits c =
+    let most = few _ _ _ c.self.invariant in let counted = c.self.invariant.counted in omega arith
 
 pub overflow_add-self : goal.overflow_add-self
 overflow_add-self c = let most = few _ _ _ c.self.invariant in omega arith
@@ -15,4 +16,5 @@ invariant_of-self c =
     let small = c.as_u32-number.type_inv in
     let assigned = c.requires.assigned in
     let put = c.put_in-self-inside.ensures in
-    IsTable-put _ _ _ _ _ _ _ c.self.invariant (rw (← c.self.view_is) at c.requires.goes) (rw (← c.self.view_is) at c.requires.absent) (omega arith) put.tree put.items put.inners
+    IsTable-put _ _ _ _ _ _ _ c.self.invariant (rw (← c.self.view_is) at c.requires.goes)
+    (rw (← c.self.view_is) at c.requires.absent) (omega arith) put.tree put.items put.inners

@@ -7,7 +7,7 @@ use Rattle.iddqd_order.proofs.btree_table.table.MapBTreeTable.make_entry.Goals a
 pub returns-in-Ok-clause-made : goal.returns-in-Ok-clause-made
 unfolding entry_index
 returns-in-Ok-clause-made g c =
-    let s = c.in-Ok.ensures.searches in
+    let s = c.in-Ok.ensures.ends.searches in
     record {
       asked = s.asked;
       stored = Contains-at _ _ _ s.found refl;
@@ -20,7 +20,7 @@ returns-in-Ok-clause-made g c =
 pub returns-in-Err-clause-made : goal.returns-in-Err-clause-made
 unfolding vacant_place
 returns-in-Err-clause-made g c =
-    let s = c.in-Err.ensures.searches in
+    let s = c.in-Err.ensures.ends.searches in
     record {
       asked = s.asked;
       stored = tt;

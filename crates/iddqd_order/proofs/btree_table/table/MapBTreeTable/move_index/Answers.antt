@@ -6,7 +6,8 @@ insert_again-requires-clause-absent g c = rw c.remove_by_search.ensures.removed 
 
 pub insert_again-requires-clause-can_ask : goal.insert_again-requires-clause-can_ask
 insert_again-requires-clause-can_ask g c =
-    rw c.remove_by_search.ensures.removed (can-insert_then g.F.FnMut _ _ _ _ c.remove_by_search.ensures.asked c.requires.can_search)
+    rw c.remove_by_search.ensures.removed
+    (can-insert_then g.F.FnMut _ _ _ _ c.remove_by_search.ensures.asked c.requires.can_search)
 
 pub insert_again-requires-clause-enough : goal.insert_again-requires-clause-enough
 insert_again-requires-clause-enough g c full =
@@ -15,7 +16,11 @@ insert_again-requires-clause-enough g c full =
     move-left c.args.self.now _ c.args.ix _ fewer left.removed left.lower left.reserved c.requires.enough full
 
 pub returns-clause-asked : goal.returns-clause-asked
-returns-clause-asked g c = asked-both g.F.FnMut _ _ c.remove_by_search.ensures.asked (rw c.remove_by_search.ensures.removed at c.insert_again.ensures.asked)
+returns-clause-asked g c =
+    asked-both g.F.FnMut _ _ c.remove_by_search.ensures.asked
+    (rw c.remove_by_search.ensures.removed at c.insert_again.ensures.asked)
 
 pub returns-clause-moved : goal.returns-clause-moved
-returns-clause-moved g c = puts-then g.F.FnMut _ _ c.remove_by_search.ensures.asked (rw c.remove_by_search.ensures.removed at c.insert_again.ensures.inserted)
+returns-clause-moved g c =
+    puts-then g.F.FnMut _ _ c.remove_by_search.ensures.asked
+    (rw c.remove_by_search.ensures.removed at c.insert_again.ensures.inserted)

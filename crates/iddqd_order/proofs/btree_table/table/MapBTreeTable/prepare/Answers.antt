@@ -11,7 +11,14 @@ returns g c =
         unchanged = tt;
         same_reference = refl;
         asked = gap.asked;
-        prepared = record { table = refl; index = refl; within = gap.within; few_blocks = rw taken.blocks (taken.few gap.fits.levels); place = gap.place };
+        prepared =
+            record {
+              table = refl;
+              index = refl;
+              within = gap.within;
+              few_blocks = rw taken.blocks (taken.few gap.fits.levels);
+              place = gap.place;
+            };
         memory = refl;
         roomy = λ _. refl;
         no_blocks = λ lt. taken.blocks ∙ taken.roomy _ gap.fits.goes gap.fits.full gap.fits.levels lt;

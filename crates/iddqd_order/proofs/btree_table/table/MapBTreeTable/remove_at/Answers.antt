@@ -18,4 +18,5 @@ pub returns-clause-removed : goal.returns-clause-removed
 unfolding order_of
 returns-clause-removed c =
     let way = rw (← c.self.view_is) at c.requires in let taken = c.remove_in-self-inside.ensures in
-    rw (← c.self.view_is) (shorter _ _ _ _ _ _ _ _ c.self.invariant way.0 way.1 taken.tree taken.items taken.inners).items
+    rw (← c.self.view_is)
+    (shorter _ _ _ _ _ _ _ _ c.self.invariant way.0 way.1 taken.tree taken.items taken.inners).items
