@@ -2,7 +2,7 @@
 use Rattle.std.proofs.Common.{◌≡◌, ℕ, ◌+◌, ◌-◌, ◌<◌, ◌≤◌, List, [], ◌∷◌, ◌++◌, map, length, set, None, sym, ap, ◌∙◌, arith, append-nil}
 use Rattle.std.proofs.lemmas.List.{map-set, map_push, length-map, length_push, get_or-set_same, get_or-set_other}
 use Rattle.iddqd.specs.LiveItems.{pairs_from, items_in, item_at, KeepsOtherItems}
-use Rattle.iddqd.specs.Slots.{item_of, IsWalk}
+use Rattle.iddqd.specs.Slots.{item_of, IsSlotWalk}
 use Rattle.iddqd.specs.declared.item_set.ItemSlot.{ItemSlot}
 use Rattle.iddqd.specs.declared.item_set.ItemSlot.TheVariants.{Occupied, Vacant}
 use Rattle.iddqd.proofs.LiveItemLemmas.{pairs_from-append, items_in-append}
@@ -23,14 +23,14 @@ module _ {T : Type 0} where
   -- what a walk that had `all` left keeps once it gives its last item
   pub record GaveLast (rest : List (ItemSlot T)) (first left : ℕ) (item : T) (all : List (ℕ × T)) : Type 0 where
     pub had_one : 1 ≤ left
-    pub walk : IsWalk rest first (left - 1)
+    pub walk : IsSlotWalk rest first (left - 1)
     pub steps : all ≡ pairs_from first (map item_of rest) ++ (first + length rest, item) ∷ []
     pub shorter : length (pairs_from first (map item_of rest)) < length all
 
   pub last_occupied :
       (slots rest : List (ItemSlot T)) (first left : ℕ) (item : T) (all : List (ℕ × T))
       → slots ≡ rest ++ Occupied item ∷ []
-      → IsWalk slots first left × (pairs_from first (map item_of slots) ≡ all)
+      → IsSlotWalk slots first left × (pairs_from first (map item_of slots) ≡ all)
       → GaveLast rest first left item all
   last_occupied slots rest first left item all split kept =
       let steps : all ≡ pairs_from first (map item_of rest) ++ (first + length rest, item) ∷ [] =
@@ -48,8 +48,8 @@ module _ {T : Type 0} where
   pub last_vacant :
       (slots rest : List (ItemSlot T)) (first left next : ℕ) (all : List (ℕ × T))
       → slots ≡ rest ++ Vacant next ∷ []
-      → IsWalk slots first left × (pairs_from first (map item_of slots) ≡ all)
-      → IsWalk rest first left × (pairs_from first (map item_of rest) ≡ all)
+      → IsSlotWalk slots first left × (pairs_from first (map item_of slots) ≡ all)
+      → IsSlotWalk rest first left × (pairs_from first (map item_of rest) ≡ all)
   last_vacant slots rest first left next all split kept =
       let same : pairs_from first (map item_of slots) ≡ pairs_from first (map item_of rest) =
       ap (λ l. pairs_from first (map item_of l)) split ∙ pairs_from-push first rest (Vacant next) ∙ append-nil _ in

@@ -22,7 +22,7 @@ module _ {T : Type 0} where
   pub record ReservesSlots {A E : Type 0} (additional : ℕ)
       (old : SizedStore T) (result : Result A E) (new : SizedStore T) : Type 0 where
     pub contents : new.store ≡ old.store
-    pub capacity_stays : old.capacity ≤ new.capacity
+    pub capacity_at_least : old.capacity ≤ new.capacity
     pub reserved : OnOk result (slot_count old.store + additional ≤ new.capacity)
     pub grows :
         OnOk result (old.capacity < slot_count old.store + additional → new.capacity ≡ grown

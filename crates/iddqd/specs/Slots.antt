@@ -59,6 +59,6 @@ module _ {T : Type 0} where
     pub named : limit ≤ sentinel
 
   -- an iterator has these slots left; the index of the first slot is `first`, and `left` counts the items
-  pub record IsWalk (slots : List (ItemSlot T)) (first left : ℕ) : Type 0 where
+  pub record IsSlotWalk (slots : List (ItemSlot T)) (first left : ℕ) : Type 0 where
     pub counted : left ≡ length (pairs_from first (map item_of slots))
     pub named : first + length slots ≤ sentinel

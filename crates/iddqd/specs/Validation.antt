@@ -21,12 +21,12 @@ abbrev pub Allows : ValidateCompact → ℕ → Type 0
 Allows Compact vacant = vacant ≡ 0
 Allows NonCompact vacant = ⊤
 
--- slots, head and length are sound in a mode: in `Compact`, also no slot is vacant
+-- slots, head and length are sound in a mode: for `Compact`, also no slot is vacant
 abbrev pub IsSoundIn : {T : Type 0} → ValidateCompact → List (ItemSlot T) → ℕ → ℕ → Type 0
 IsSoundIn Compact slots head len = IsSound slots head len × ((ix next : ℕ) → slice_get slots ix ≢ Some (Vacant next))
 IsSoundIn NonCompact slots head len = IsSound slots head len
 
--- The indexes of a hash table are sound if they have the expected length and are distinct; in `Compact`, they are the
+-- The indexes of a hash table are sound if they have the expected length and are distinct; for `Compact`, they are the
 -- numbers below that length in any order.
 abbrev pub AreSound : ValidateCompact → ℕ → List ℕ → Type 0
 AreSound Compact expected indexes = (length indexes ≡ expected) × IsPermutation (numbers expected) indexes

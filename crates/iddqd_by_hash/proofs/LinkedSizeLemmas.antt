@@ -152,14 +152,14 @@ same_linked t u filed slots capacity memory = λ i. record {
 }
 
 -- what was held for so many indexes stays after both parts were made smaller
-pub capacity_stays :
+pub capacity_at_least :
     (heads links least len wanted heads' links' : ℕ)
     → len ≤ wanted
     → least ≤ wanted
     → min heads (max least len) ≤ heads'
     → min wanted links ≤ links'
     → min (min heads links) (max least len) ≤ min heads' links'
-capacity_stays heads links least len wanted heads' links' holds most for_heads for_links = omega arith
+capacity_at_least heads links least len wanted heads' links' holds most for_heads for_links = omega arith
 
 -- where no cell may be left over, no index is asked for
 pub none_kept : (slots count : ℕ) → kept_linked slots count ≡ 0 → count ≡ 0

@@ -16,11 +16,11 @@ use Rattle.iddqd.specs.LiveItems.{pairs_from, live_pairs, live_items}
 use Rattle.iddqd.proofs.StoreLemmas.{contains_head, contains_tail, contains_cases, contains_none}
 use Rattle.iddqd.proofs.LiveLemmas.{live_at, get-removed_other}
 use Rattle.iddqd.proofs.LiveItemLemmas.{pairs_from-append, length-pairs_from, items_of_pairs, IsWalkOf-live_pairs}
-use Rattle.iddqd_hash.specs.Asks.{CanAsk, Keeps}
-use Rattle.iddqd_hash.specs.MapHashTable.{turned, pairs_of}
+use Rattle.iddqd_hash.specs.Asks.{CanAsk, RetainsPairs}
+use Rattle.iddqd_hash.specs.MapHashTable.{swapped, pairs_of}
 use Rattle.iddqd_hash.proofs.AskLemmas.{CanAsk-takes, CanAsk-asked, CanAsk-everywhere}
 use Rattle.iddqd_hash.proofs.FiledLemmas.{filed_from_under, under_from_filed}
-use Rattle.iddqd_hash.proofs.RetainLemmas.{Contains-values, Keeps-tested}
+use Rattle.iddqd_hash.proofs.RetainLemmas.{Contains-values, RetainsPairs-tested}
 use Rattle.iddqd_keys.specs.Scan.{IsLive}
 use Rattle.iddqd_keys.specs.Removals.{removed_all}
 use Rattle.iddqd_by_hash.specs.Retain.{MayAsk, kept_of, removed_of, RetainsTo}
@@ -108,7 +108,7 @@ module _ {T : Type 0} where
   was_there s [] j item is = is
   was_there s (ix ∷ ixs) j item is = from_removed s ix j item (was_there (removed s ix) ixs j item is)
 
--- `ask p x b q` says that x, asked in the state p, may be answered b and leave the state q
+-- `ask p x b q`: called on x in the state p, the closure may answer b and be in the state q afterwards
 module _ {F T : Type 0} (ask : F → T → Bool → F → Type 0) where
   -- no more items are left than there were
   pub RetainsTo-fewer :
@@ -320,11 +320,11 @@ module _ {T : Type 0} where
 
 -- ---- what a hash table keeps by a test
 
-contains_pair : (es : List (ℕ × ℕ)) (hash ix : ℕ) → Contains (map turned es) (hash, ix) → Contains es (ix, hash)
+contains_pair : (es : List (ℕ × ℕ)) (hash ix : ℕ) → Contains (map swapped es) (hash, ix) → Contains es (ix, hash)
 contains_pair [] hash ix here = absurd (contains_none _ here)
 contains_pair (e ∷ es) hash ix here =
     elim (contains_cases _ _ _ here) [
-      | inl same ↦ subst (Contains (e ∷ es)) (ap turned same) (contains_head e es)
+      | inl same ↦ subst (Contains (e ∷ es)) (ap swapped same) (contains_head e es)
       | inr there ↦ contains_tail e (ix, hash) es (contains_pair es hash ix there)
     ]
 
@@ -404,7 +404,7 @@ module _ (m : FinMap nat_cmp ℕ) (hash ix : ℕ) where
       from_mapped (λ (e : ℕ × ℕ). e.0) (filter under_hash (finite.entries m)) ix (under_from_filed m hash ix is) in
       let both = from_passed under_hash (finite.entries m) e passed in
       let same : e ≡ (ix, hash) = λ i. (at i, eqb-true e.1 hash both.1 i) in
-      contains_mapped turned (finite.entries m) (ix, hash) (subst (Contains (finite.entries m)) same both.0)
+      contains_mapped swapped (finite.entries m) (ix, hash) (subst (Contains (finite.entries m)) same both.0)
 
 -- where each answer is a function of the index, an index is kept exactly where it passes the test, under its hash
 pub filed_kept :
@@ -412,11 +412,11 @@ pub filed_kept :
     → ((s : F) (ix : ℕ) (b : Bool) (t : F) → I s → ask s ix b t → (b ≡ test ix) × I t)
     → (f : F) (old new : FinMap nat_cmp ℕ)
     → I f
-    → Keeps ask f (pairs_of old) (pairs_of new)
+    → RetainsPairs ask f (pairs_of old) (pairs_of new)
     → (ix : ℕ)
     → finite.get new ix ≡ cond (test ix) (finite.get old ix) None
 filed_kept ask I test says f old new i keeps ix =
-    let moved = Keeps-tested ask I test says f (pairs_of old) (pairs_of new) i keeps in
+    let moved = RetainsPairs-tested ask I test says f (pairs_of old) (pairs_of new) i keeps in
     let passes : ℕ × ℕ → Bool = λ (e : ℕ × ℕ). test e.1 in
     elim (finite.get new ix) as (λ o. finite.get new ix ≡ o → o ≡ cond (test ix) (finite.get old ix) None) [
       | Some hash ↦ λ is.

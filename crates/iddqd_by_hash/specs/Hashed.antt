@@ -10,7 +10,7 @@ use Rattle.std.specs.declared.hash.BuildHasher as builder
 use Rattle.iddqd.specs.MapHash.{hash_one}
 use Rattle.iddqd.specs.Store.{Store, get}
 use Rattle.iddqd_keys.specs.Scan.{IsLive, IsHit, AnswersScan, passes_by}
-use Rattle.iddqd_keys.specs.AnyTable.{HasExactly, IsInSyncIf, KeepsIf}
+use Rattle.iddqd_keys.specs.AnyTable.{HasExactly, TableIsInSync, TableKeeps}
 
 -- when two keys are equal, and the hash of a key
 pub record Hashing (K : Type 0) : Type 0 where
@@ -64,7 +64,8 @@ module _ {T : Type 0} where
     pub hit : IsHit s test ix
     pub filed : finite.get hashes ix ≡ Some hash
 
-  -- what a look-up under a hash may answer in any state: an index that hits, and `None` if and only if there is none
+  -- what a look-up under a hash may answer in any state: an index that is a hit under that hash, and `None` if and only
+  -- if there is none
   abbrev pub Finds : Store T → FinMap nat_cmp ℕ → ℕ → (T → Bool) → Option ℕ → Type 0
   Finds s hashes hash test None = (ix : ℕ) → IsHitUnder s hashes hash test ix → ⊥
   Finds s hashes hash test (Some ix) = IsHitUnder s hashes hash test ix
@@ -78,12 +79,12 @@ module _ {T K : Type 0} (key_of : T → K) where
 
     -- the table is in place, and no two items share a key
     abbrev pub IsInSync : Store T → FinMap nat_cmp ℕ → Type 0
-    IsInSync s hashes = IsInSyncIf key_of hashing.equal (IsInPlace s hashes) s
+    IsInSync s hashes = TableIsInSync key_of hashing.equal (IsInPlace s hashes) s
 
     -- what a call preserves if it changes no key of a live index
     abbrev pub Keeps : Store T → FinMap nat_cmp ℕ → Store T → FinMap nat_cmp ℕ → Type 0
     Keeps old old_hashes new new_hashes =
-        KeepsIf key_of hashing.equal (IsInPlace old old_hashes) old (IsInPlace new new_hashes) new
+        TableKeeps key_of hashing.equal (IsInPlace old old_hashes) old (IsInPlace new new_hashes) new
 
   -- What a look-up under a hash by a test of keys answers: `found` holds in any state; if the table is in sync, and the
   -- query stands for one key, the answer is a scan's.

@@ -37,8 +37,8 @@ most_linked count = most_cells count + count
 abbrev pub kept_linked : ℕ → ℕ → ℕ
 kept_linked slots count = most_cells count + slots
 
--- no memory was taken or given back; unlike `KeepsMemory` of the hash tables it says nothing of room
-pub record KeepsMemory (old new : LinkedState) : Type 0 where
+-- no memory was taken or given back
+pub record KeepsLinkMemory (old new : LinkedState) : Type 0 where
   pub same_capacity : new.capacity ≡ old.capacity
   pub same_memory : new.memory ≡ old.memory
 

@@ -9,7 +9,7 @@ use Rattle.iddqd.specs.Store.{sentinel}
 use Rattle.iddqd_hash.specs.MapHashTable.{Renames}
 use Rattle.iddqd_by_hash.specs.declared.linked_table.links.Link.{Link}
 
--- The link of a slot whose index isn't in the table has that index itself as the previous one.
+-- The link of an index that isn't in the table has that index itself as the previous one.
 abbrev pub absent_link : ℕ → Link
 absent_link ix = record { hash = 0; next = sentinel; prev = ix }
 
@@ -24,11 +24,11 @@ hashed_from at (l ∷ links) =
 unfoldable pub filed_by : List Link → FinMap nat_cmp ℕ
 filed_by links = finite.from_sorted (hashed_from 0 links)
 
--- of an index in the table the next one under its hash, or `SENTINEL`; if the array has no link of it, `SENTINEL`
+-- the next index under the same hash, or `SENTINEL` if there is none; `SENTINEL` too for an index without a link
 abbrev pub next_of : List Link → ℕ → ℕ
 next_of links ix = (slice_index_or links ix (absent_link ix)).next
 
--- of an index in the table the previous one under its hash, or `SENTINEL`; of any other index itself
+-- the previous index under the same hash, or `SENTINEL` if there is none; for an index not in the table, that index
 abbrev pub prev_of : List Link → ℕ → ℕ
 prev_of links ix = (slice_index_or links ix (absent_link ix)).prev
 

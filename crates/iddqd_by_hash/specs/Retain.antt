@@ -1,5 +1,5 @@
--- How `retain` of a map calls its closure, and which items it leaves in the store. Maps and driver use it; no call of
--- this crate does.
+-- How `retain` of `Map` and of `KeyedItems` calls its closure, and which items it leaves in the store. (`IdOrdMap` has
+-- definitions of its own, since its `retain` goes in the order of the keys.) No call of this crate uses it.
 use Rattle.std.specs.Prelude.{◌≡◌, ℕ, Bool, not, List, map, filter}
 use Rattle.std.specs.List.{FoldsTo}
 use Rattle.iddqd.specs.Store.{Store}
@@ -19,13 +19,14 @@ module _ {T : Type 0} where
 -- `takes p x`: in the state p the closure may be called on x; `ask p x b q`: called so, it may answer b and be in the
 -- state q afterwards
 module _ {F T : Type 0} (takes : F → T → Type 0) (ask : F → T → Bool → F → Type 0) where
-  -- The closure may be called on each of the items, in every state that such calls lead to. This says the same as
-  -- `CanAsk`, as an implication whose premise always holds (`CanAsk-everywhere`). In this form the proof search finds
-  -- it by itself for a closure without `requires`, so a caller needs no proof file.
+  -- The closure may be called on each of the items, in every state that such calls lead to. The definition says that
+  -- `CanAsk` follows from an implication: "if the closure may be called on anything in any state, then `CanAsk`". This
+  -- implication always holds (the lemma `CanAsk-everywhere`), so `MayAsk` is equivalent to `CanAsk`. It has this form
+  -- so that the proof search finds it by itself for a closure without `requires`: a caller then needs no proof file.
   abbrev pub MayAsk : F → List T → Type 0
   MayAsk f items = (((p : F) (x : T) → takes p x) → CanAsk takes ask f items) → CanAsk takes ask f items
 
--- `ask p x b q` says that x, asked in the state p, may be answered b and leave the state q
+-- `ask p x b q`: called on x in the state p, the closure may answer b and be in the state q afterwards
 module _ {F T : Type 0} (ask : F → T → Bool → F → Type 0) where
   -- f was called on each item once, by rising index, each time in the state that the call before left, and is then in
   -- the last state. The items for which it answered true stay under their indexes; the others were removed.

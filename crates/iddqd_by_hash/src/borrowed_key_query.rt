@@ -1,7 +1,7 @@
 //! Queries for borrowed keys.
 use iddqd::map_hash::Equivalent;
 
-/// Makes a query for `K` a query for `&K`: a look-up hands the table borrowed keys.
+/// Makes a query for `K` a query for `&K`. The table compares its query with keys that are borrowed from items.
 #[derive(Clone, Copy)]
 pub struct BorrowedKeyQuery<'a, Q>(pub &'a Q);
 

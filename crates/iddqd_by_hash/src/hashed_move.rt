@@ -1,7 +1,7 @@
 //! What a table does when the item at a live index is replaced, maybe by one with another key.
 //!
-//! The removal of the old entry leaves the room that the insert of the new one takes, so a move takes no memory
-//! and can't fail. A map plans the move in each of its tables before it moves in any.
+//! The removal of the old entry leaves the room that the insert of the new one takes, so a move takes no memory and
+//! can't fail. A map plans what each of its tables does before it changes any of them.
 ghost use Rattle.std.specs.Prelude.{◌≡◌, IsSome};
 ghost use Rattle.std.specs.FinMap as finite;
 ghost use Rattle.iddqd_hash.specs.{filed};

@@ -19,7 +19,7 @@ ghost use Rattle.std.specs.FinMap as finite;
 ghost use Rattle.iddqd.specs.Store.{sentinel};
 ghost use Rattle.iddqd_hash.specs.{filed};
 ghost use Rattle.iddqd_hash.specs.HashTable.{capacity, memory, room};
-ghost use Rattle.iddqd_by_hash.specs.LinkedTable.{AreHeadsOf, KeepsMemory};
+ghost use Rattle.iddqd_by_hash.specs.LinkedTable.{AreHeadsOf, KeepsLinkMemory};
 ghost use Rattle.iddqd_by_hash.specs.Links.{filed_by, next_of, prev_of, next_behind, prev_behind};
 
 mod copies;
@@ -40,8 +40,8 @@ use std::marker::Model;
 
 /// Indexes under hashes, each index once. Many may share a hash.
 ///
-/// A contract sees four things: the hash of each index, the length of the array of links, the capacity, and how many
-/// cells and links the memory holds.
+/// A contract sees four things: the hash of each index (`filed`), the length of the array of links (`slots`), the
+/// capacity, and how many cells and links the memory holds (`memory`).
 #[derive(Drop)]
 pub struct LinkedTable {
     // The first index of each hash.
@@ -103,15 +103,15 @@ impl LinkedTable {
 
     /// Adds an index under a hash. It takes no memory, and costs the same however many indexes share the hash.
     ///
-    /// The caller passes an index that has a link in the array already, or `len`: then the table has exactly the
-    /// indexes below it, and the array grows by one link.
+    /// `ix` must have a link in the array already (`ix < slots`), or else `ix`, `slots` and the number of indexes must
+    /// be equal: then the array gets one link more.
     pub fn insert(&mut self, hash: MapHash, ix: ItemIndex)
         requires room { finite.len self.old.filed < self.old.capacity }
         requires in_turn { self.old.slots ≤ ix → ix ≡ finite.len self.old.filed }
         requires not_sentinel { ix ≢ sentinel }
         requires new { finite.get self.old.filed ix ≡ None }
         ensures added { self.new.filed ≡ finite.insert self.old.filed ix hash }
-        ensures memory { KeepsMemory self.old self.new }
+        ensures memory { KeepsLinkMemory self.old self.new }
         ensures slots { self.new.slots ≡ max self.old.slots (ix + 1) }
     {
         prove!(self.heads.capacity() - self.heads.room() == self.heads.len());

@@ -14,7 +14,7 @@ use Rattle.iddqd_order.specs.declared.btree_table.entry.Entry.TheVariants.{Occup
 pub use Rattle.iddqd_keys.specs.KeyWalk.{key_at, IsInPlace}
 pub use Rattle.iddqd_keys.specs.OrderedQuery.{is_equal}
 use Rattle.iddqd_keys.specs.Scan.{IsLive, IsHit, HasNoHit, passes_by}
-use Rattle.iddqd_keys.specs.AnyTable.{HasExactly, IsInSyncIf, KeepsIf, LooksUpIf}
+use Rattle.iddqd_keys.specs.AnyTable.{HasExactly, TableIsInSync, TableKeeps, TableLooksUp}
 
 -- the list after the index that a look-up found is removed; unchanged if it found none
 abbrev pub Takes : List ℕ → Option ℕ → List ℕ → Type 0
@@ -47,12 +47,12 @@ module _ {T K : Type 0} (key_of : T → K) where
   module _ (compare : K → K → Ordering) where
     -- the list is in place, and no two items share a key
     abbrev pub IsInSync : Store T → List ℕ → Type 0
-    IsInSync s order = IsInSyncIf key_of (eq_by_cmp compare) (IsInPlace key_of compare s order) s
+    IsInSync s order = TableIsInSync key_of (eq_by_cmp compare) (IsInPlace key_of compare s order) s
 
     -- what a call that changes no key of a live index preserves
     abbrev pub Keeps : Store T → List ℕ → Store T → List ℕ → Type 0
     Keeps old old_order new new_order =
-        KeepsIf key_of (eq_by_cmp compare)
+        TableKeeps key_of (eq_by_cmp compare)
         (IsInPlace key_of compare old old_order) old (IsInPlace key_of compare new new_order) new
 
     -- what a look-up by a query may return in any state: an index that hits, or none; if the list is in place, none
@@ -64,7 +64,7 @@ module _ {T K : Type 0} (key_of : T → K) where
     -- what a look-up by a query returns: what `Finds` allows; and if the table is in sync, what a scan returns
     abbrev pub LooksUp : Store T → List ℕ → (K → Ordering) → Option ℕ → Type 0
     LooksUp s order comparing result =
-        LooksUpIf (Finds s order comparing result) (IsInSync s order) s (passes_by key_of (is_equal comparing)) result
+        TableLooksUp (Finds s order comparing result) (IsInSync s order) s (passes_by key_of (is_equal comparing)) result
 
     -- the index is live, and no live index has an item with a lesser key
     abbrev pub HasLeastKey : Store T → ℕ → Type 0

@@ -12,8 +12,8 @@ ghost use Rattle.std.specs.Prelude.{◌≡◌, ◌≤◌};
 ghost use Rattle.std.specs.Range.Bound.{bound_map};
 ghost use Rattle.iddqd_order.specs.{capacity, entry_table, indexes_ahead, order_of, without};
 ghost use Rattle.iddqd_keys.specs.Scan.{IsLive, IsKeyAt};
+ghost use Rattle.iddqd_keys.specs.OrderedQuery.{is_within};
 ghost use Rattle.iddqd_by_order.specs.Ordered.{AreLive, IsEntryOf, Holds, LooksUp, Takes};
-ghost use Rattle.iddqd_keys.specs.OrderedQuery.{is_between};
 ghost use Rattle.iddqd_by_order.specs.OrderedWalk.{WalksWithin};
 
 use crate::borrowed_key_query::BorrowedKeyQuery;
@@ -126,7 +126,7 @@ where
     E::Key: Ord,
     Q: OrdQuery<E::Key>,
     requires { Holds items.now.store (order_of table.now) }
-    ensures { let within = is_between (bound_map Q.compare lower) (bound_map Q.compare upper) in
+    ensures { let within = is_within Q.compare lower upper in
         WalksWithin E.key_of E.Key.cmp within items.now.store (order_of table.now) (indexes_ahead result) }
 {
     let mut asking = Asking::new(

@@ -12,7 +12,7 @@ use Rattle.iddqd.specs.ItemSet.{SizedStore, room as set_room}
 use Rattle.iddqd.specs.Sizes.{doubled}
 use Rattle.iddqd.proofs.StoreLemmas.{IsValid-inserted, IsValid-removed}
 use Rattle.iddqd_hash.specs.HashTable.{Table, entries, capacity as hashed_capacity, memory as hashed_cells, room as hashed_room}
-use Rattle.iddqd_hash.specs.MapHashTable.{filed, filed_from, turned, indexes_of}
+use Rattle.iddqd_hash.specs.MapHashTable.{filed, filed_from, swapped, indexes_of}
 use Rattle.iddqd_hash.specs.Sizes as hash_sizes
 use Rattle.iddqd_hash.specs.Sizes.{most_cells}
 use Rattle.iddqd_order.specs.MapBTreeTable.{Order, order_of, capacity as ordered_capacity, room as order_room, capacity_for}
@@ -47,7 +47,7 @@ no_pairs [] none = refl
 no_pairs (e ∷ es) none =
     let same = tied_itself nat_cmp_total e.1 in
     let stored : finite.get (filed_from (e ∷ es)) e.1 ≡ Some e.0 =
-    finite.get-from_entries nat_cmp_total (map turned (e ∷ es)) e.1 ∙ rw same refl in
+    finite.get-from_entries nat_cmp_total (map swapped (e ∷ es)) e.1 ∙ rw same refl in
     let never : Some e.0 ≡ None = sym stored ∙ ap (λ (m : FinMap nat_cmp ℕ). finite.get m e.1) none ∙ finite.get-empty nat_cmp e.1 in
     absurd (cc)
 

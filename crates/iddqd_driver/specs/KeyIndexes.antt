@@ -5,7 +5,7 @@ use Rattle.std.specs.List.{Contains}
 use Rattle.std.specs.Option.{option_map}
 use Rattle.iddqd.specs.Store.{Store}
 use Rattle.iddqd_keys.specs.Scan.{AnswersScan, passes_by}
-use Rattle.iddqd_keys.specs.AnyTable.{HasExactly, IsInSyncIf, KeepsIf, LooksUpIf, ChangesAt}
+use Rattle.iddqd_keys.specs.AnyTable.{HasExactly, TableIsInSync, TableKeeps, TableLooksUp, ChangesAt}
 use Rattle.iddqd_by_hash.specs.Hashed as hashed
 use Rattle.iddqd_by_order.specs.Ordered as ordered
 use Rattle.iddqd_driver.specs.Keys.{Keys, first_hashing, equal_second}
@@ -45,18 +45,18 @@ module _ {T S K1 K2 K : Type 0} (key_index : KeyIndex T S K1 K2 K) where
 
   -- the table is in place, and no two live items share a key
   abbrev pub IsInSync : State T S → Type 0
-  IsInSync s = IsInSyncIf key_index.key_of key_index.equal (key_index.IsInPlace s) s.store
+  IsInSync s = TableIsInSync key_index.key_of key_index.equal (key_index.IsInPlace s) s.store
 
   -- what a call that changes no key of a live index preserves
   abbrev pub KeepsKeyIndex : State T S → State T S → Type 0
   KeepsKeyIndex old new =
-      KeepsIf key_index.key_of key_index.equal
+      TableKeeps key_index.key_of key_index.equal
       (key_index.IsInPlace old) old.store
       (key_index.IsInPlace new) new.store
 
   -- a look-up of a key: what it may return, and that it returns what a scan would if the key index is in sync
   abbrev pub LooksUp : State T S → K → Option ℕ → Type 0
-  LooksUp s key result = LooksUpIf (key_index.Finds s key result) (IsInSync s) s.store (has key) result
+  LooksUp s key result = TableLooksUp (key_index.Finds s key result) (IsInSync s) s.store (has key) result
 
   -- the index is live, and its item has another key than this item
   abbrev pub ChangesKeyAt : State T S → ℕ → T → Type 0

@@ -1,6 +1,5 @@
--- Words that hash tables and ordered tables of a store's indexes share. What differs between them is a parameter of the
--- definitions in `..If`, which are no implications: what a look-up may answer (`finds`), and when the table is in place
--- (`in_place`).
+-- Words that hash tables and ordered tables of a store's indexes share. What differs between them is passed to the
+-- definitions as a parameter: what a look-up may answer (`finds`), and when the table is in place (`in_place`).
 use Rattle.std.specs.Prelude.{◌↔◌, ℕ, Bool, not, Option}
 use Rattle.iddqd.specs.Store.{Store}
 use Rattle.iddqd_keys.specs.Scan.{IsLive, IsHit, AnswersScan, AreApart}
@@ -11,7 +10,7 @@ module _ {T : Type 0} where
   HasExactly s has = (ix : ℕ) → has ix ↔ IsLive s ix
 
   -- What a look-up by a test answers: `found` holds in any state; if the table is in sync, the answer is a scan's.
-  pub record LooksUpIf (finds : Type 0) (is_in_sync : Type 0) (s : Store T) (test : T → Bool) (result : Option ℕ)
+  pub record TableLooksUp (finds : Type 0) (is_in_sync : Type 0) (s : Store T) (test : T → Bool) (result : Option ℕ)
       : Type 0 where
     pub found : finds
     pub as_scan : is_in_sync → AnswersScan s test result
@@ -26,12 +25,12 @@ module _ {T K : Type 0} (key_of : T → K) (equal : K → K → Bool) where
   ChangesAt s ix item = IsHit s (λ was. not (equal (key_of item) (key_of was))) ix
 
   -- a table is in place over a store, whose keys are pairwise distinct
-  pub record IsInSyncIf (in_place : Type 0) (s : Store T) : Type 0 where
+  pub record TableIsInSync (in_place : Type 0) (s : Store T) : Type 0 where
     pub placed : in_place
     pub apart : HasDistinctKeys s
 
   -- What a call preserves if it changes no key of a live index: a table in place stays so, even if two items share a
   -- key, and a table in sync stays in sync.
-  pub record KeepsIf (was_in_place : Type 0) (old : Store T) (is_in_place : Type 0) (new : Store T) : Type 0 where
+  pub record TableKeeps (was_in_place : Type 0) (old : Store T) (is_in_place : Type 0) (new : Store T) : Type 0 where
     pub placed : was_in_place → is_in_place
-    pub in_sync : IsInSyncIf was_in_place old → IsInSyncIf is_in_place new
+    pub in_sync : TableIsInSync was_in_place old → TableIsInSync is_in_place new

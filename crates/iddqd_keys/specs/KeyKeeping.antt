@@ -1,4 +1,4 @@
--- What a closure that is given a `&mut` to a stored item has to keep, and what it leaves.
+-- What a closure that is given a `&mut` to a stored item has to keep, and what the store is after its call.
 use Rattle.std.specs.Prelude.{◌≡◌, ℕ, Some}
 use Rattle.std.specs.Borrow.{MutBor}
 use Rattle.std.specs.Fn.{Once, FnOnceReturnsAtMut}

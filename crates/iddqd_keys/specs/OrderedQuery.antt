@@ -3,6 +3,7 @@ use Rattle.std.specs.Prelude.{◌≡◌, ◌&&◌, Bool, true, not}
 use Rattle.std.proofs.Common.{◌∙◌, ap, refl, sym}
 use Rattle.std.specs.Cmp.{IsTotalOrder}
 use Rattle.std.specs.Ordering.{ordering_reverse, is_eq, is_lt, is_gt}
+use Rattle.std.specs.Range.Bound.{bound_map}
 use Rattle.std.specs.declared.cmp.Ordering.{Ordering}
 use Rattle.std.specs.declared.cmp.Ordering.TheVariants.{Less, Equal, Greater}
 use Rattle.std.specs.declared.ops.Bound.{Bound}
@@ -34,20 +35,22 @@ module _ {K : Type 0} (compare : K → K → Ordering) where
 
   module _ (total : IsTotalOrder compare) (answer : K → Ordering) (query : IsQuery answer) (k a : K)
       (here : answer k ≡ Equal) where
-    before : compare k a ≡ Less → (r : Ordering) → answer a ≡ r → answer a ≡ Less
-    before less Less is = is
-    before less Equal is = let same = query.one_key k a here is in cc
-    before less Greater is = let greater = query.greater_before k a less is in cc
+    -- if the query is Equal at the key k, and k is before a, then it is Less at a
+    key_before : compare k a ≡ Less → (r : Ordering) → answer a ≡ r → answer a ≡ Less
+    key_before less Less is = is
+    key_before less Equal is = let same = query.one_key k a here is in cc
+    key_before less Greater is = let greater = query.greater_before k a less is in cc
 
-    behind : compare a k ≡ Less → (r : Ordering) → answer a ≡ r → answer a ≡ Greater
-    behind less Less is = let later = query.less_after a k less is in cc
-    behind less Equal is = let same = query.one_key a k is here in cc
-    behind less Greater is = is
+    -- if the query is Equal at the key k, and k is behind a, then it is Greater at a
+    key_behind : compare a k ≡ Less → (r : Ordering) → answer a ≡ r → answer a ≡ Greater
+    key_behind less Less is = let later = query.less_after a k less is in cc
+    key_behind less Equal is = let same = query.one_key a k is here in cc
+    key_behind less Greater is = is
 
     by_order : (r : Ordering) → compare k a ≡ r → answer a ≡ compare k a
-    by_order Less is = before is (answer a) refl ∙ sym is
+    by_order Less is = key_before is (answer a) refl ∙ sym is
     by_order Equal is = sym (query.equal_keys k a is) ∙ here ∙ sym is
-    by_order Greater is = behind (total.antisymm a k ∙ ap ordering_reverse is) (answer a) refl ∙ sym is
+    by_order Greater is = key_behind (total.antisymm a k ∙ ap ordering_reverse is) (answer a) refl ∙ sym is
 
     -- a query that is Equal at a key compares as that key does
     pub compares_as_key : answer a ≡ compare k a
@@ -81,3 +84,7 @@ module _ {K : Type 0} where
   -- whether it satisfies both
   abbrev pub is_between : Bound (K → Ordering) → Bound (K → Ordering) → K → Bool
   is_between lower upper key = is_from lower key && is_up_to upper key
+
+-- whether the key satisfies both bounds, which are given as queries; `compare` is what a query answers at a key
+abbrev pub is_within : {Q K : Type 0} → (Q → K → Ordering) → Bound Q → Bound Q → K → Bool
+is_within compare lower upper = is_between (bound_map compare lower) (bound_map compare upper)

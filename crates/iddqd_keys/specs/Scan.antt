@@ -15,13 +15,13 @@ module _ {T : Type 0} where
   abbrev pub HasNoHit : Store T → (T → Bool) → Type 0
   HasNoHit s test = (ix : ℕ) → IsHit s test ix → ⊥
 
-  -- The answer of a scan if at most one index is a hit: that index, or `None` if there is none. With two hits no answer
-  -- is allowed.
+  -- The answer of a scan: the one index that is a hit, or `None` if there is none. With two hits this holds of no
+  -- result, not even of `None`.
   abbrev pub AnswersScan : Store T → (T → Bool) → Option ℕ → Type 0
   AnswersScan s test None = HasNoHit s test
   AnswersScan s test (Some ix) = (j : ℕ) → IsHit s test j ↔ (j ≡ ix)
 
-  -- live indexes whose items are alike are one index
+  -- if the items at two live indexes are alike, the two indexes are the same
   abbrev pub AreApart : (T → T → Bool) → Store T → Type 0
   AreApart alike s = (i j : ℕ) (x y : T) → get s i ≡ Some x → get s j ≡ Some y → alike x y ≡ true → i ≡ j
 

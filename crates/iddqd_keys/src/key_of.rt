@@ -1,4 +1,4 @@
-//! Which of an item's keys a table goes by, and the query that is a key itself.
+//! Which of an item's keys a table goes by, and a key as a query that implements `Equivalent` and `Comparable`.
 ghost use Rattle.std.specs.Prelude.{◌≡◌};
 ghost use Rattle.iddqd_keys.specs.Scan.{IsLive, IsKeyAt};
 
@@ -20,10 +20,12 @@ pub trait KeyOf<T> {
         ensures { result.now ≡ key_of item.now };
 }
 
-/// A query that is a key itself, for tables beside a store.
+/// A query that is a key itself. It implements [`Equivalent`] and [`Comparable`], the traits of the queries that the
+/// calls on tables beside a store take. (A plain `&K` implements only [`crate::hash_query::HashQuery`] and
+/// [`crate::order_query::OrdQuery`].)
 ///
-/// `iddqd::map_hash::Same` matches borrowed keys: it implements `Equivalent<&'b K>`. A generic caller would have to
-/// name `'b` in its bounds, and the prover finds no proof then.
+/// `iddqd::map_hash::Same` won't do: those calls ask for an `Equivalent<K>`, and it implements `Equivalent<&'b K>`. If
+/// they asked for that, each generic caller would have to name `'b` in its bounds, and the prover finds no proof then.
 #[derive(Clone, Copy, Debug, PartialEq, Eq)]
 pub struct KeyQuery<'a, K>(pub &'a K);
 

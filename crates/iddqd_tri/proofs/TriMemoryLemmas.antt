@@ -82,7 +82,7 @@ module _ (old new : Table ℕ) where
         → TableGrows (finite.len (filed old) + n) (table_memory old) (table_memory new)
     TableGrows-reserved made few = record {
       had_room = λ fits. ap table_memory (made.had_room (omega arith)).1;
-      capacity_stays = omega (arith, ap finite.len same, made.room_stays);
+      capacity_at_least = omega (arith, ap finite.len same, made.room_stays);
       cells_stay = made.memory_stays;
       few = few;
     }
@@ -92,7 +92,7 @@ module _ (old new : Table ℕ) where
         → TableShrinks (max n (finite.len (filed old))) (table_memory old) result (table_memory new)
     TableShrinks-shrunk gave = record {
       never_more = gave.never_more;
-      capacity_stays = omega (arith, ap finite.len same, gave.room_stays);
+      capacity_at_least = omega (arith, ap finite.len same, gave.room_stays);
       shrunk = gave.shrunk;
     }
 
@@ -100,7 +100,7 @@ module _ (old new : Table ℕ) where
 pub TableGrows-same : (wanted : ℕ) (m : TableMemory) → TableGrows wanted m m
 TableGrows-same wanted m = record {
   had_room = λ _. refl;
-  capacity_stays = omega arith;
+  capacity_at_least = omega arith;
   cells_stay = omega arith;
   few = omega arith;
 }
@@ -264,7 +264,7 @@ module _
         {A E : Type 0} (old new : TableMemory) (r : Result A E) (error : E)
         → TableShrinks items_kept old r new
         → TableShrinks {A = A} items_kept old (Err error) new
-    refused_else old new r error shrinks = record { never_more = shrinks.never_more; capacity_stays = shrinks.capacity_stays; shrunk = tt }
+    refused_else old new r error shrinks = record { never_more = shrinks.never_more; capacity_at_least = shrinks.capacity_at_least; shrunk = tt }
 
     has_more :
         SomeHasMore least after

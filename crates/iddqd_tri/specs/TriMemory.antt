@@ -63,7 +63,7 @@ no_memory =
 -- and takes no more than these indexes need.
 pub record TableGrows (wanted : ℕ) (old new : TableMemory) : Type 0 where
   pub had_room : wanted ≤ old.capacity → new ≡ old
-  pub capacity_stays : old.capacity ≤ new.capacity
+  pub capacity_at_least : old.capacity ≤ new.capacity
   pub cells_stay : old.cells ≤ new.cells
   pub few : new.cells ≤ max old.cells (most_cells wanted)
 
@@ -91,7 +91,7 @@ SomeTableHasMore wanted tables =
 pub record TableShrinks {A E : Type 0} (wanted : ℕ) (old : TableMemory) (result : Result A E) (new : TableMemory)
     : Type 0 where
   pub never_more : new.cells ≤ old.cells
-  pub capacity_stays : min old.capacity wanted ≤ new.capacity
+  pub capacity_at_least : min old.capacity wanted ≤ new.capacity
   pub shrunk : OnOk result (new.cells ≤ most_cells wanted)
 
 -- What is given back beyond what `slots` slots and `wanted` indexes need. A refusal means that some part still has

@@ -11,7 +11,7 @@ use super::{TableValidationError, ValidateCompact, ValidateRefusal};
 use crate::item_index::ItemIndex;
 use std::alloc::{AllocError, Global};
 
-/// Whether a hash table may have these indexes, in any order: as many as expected and distinct, and in `Compact` the
+/// Whether a hash table may have these indexes, in any order: as many as expected and distinct, and for `Compact` the
 /// numbers from 0 on.
 ///
 /// It sorts a copy.

@@ -26,13 +26,13 @@ pub struct Iter<'a, T> {
 impl<'a, T> Model for Iter<'a, T> {
     ghost use Rattle.std.specs.Prelude.{ℕ, List, map};
     ghost use Rattle.iddqd.specs.LiveItems.{pairs_from};
-    ghost use Rattle.iddqd.specs.Slots.{item_of, IsWalk};
+    ghost use Rattle.iddqd.specs.Slots.{item_of, IsSlotWalk};
 
     ghost Value = { List (ℕ × T) };
 
     ghost view = { λ it. pairs_from it.first (map item_of it.slots.now) };
 
-    ghost invariant = { λ it. IsWalk it.slots.now it.first it.left };
+    ghost invariant = { λ it. IsSlotWalk it.slots.now it.first it.left };
 }
 
 impl<'a, T> Iterator for Iter<'a, T> {

@@ -6,7 +6,7 @@ use super::ItemSet;
 use crate::internal::{ValidateCompact, ValidateRefusal, ValidationError, validate_slots};
 
 impl<T> ItemSet<T> {
-    /// Whether the slots are sound, as they are in every set; in `Compact`, whether none is vacant.
+    /// Whether the slots are sound, as they are in every set; for `Compact`, whether none is vacant.
     ///
     /// It costs at most two steps for each slot. It takes memory only for the text of a refusal.
     pub fn validate(

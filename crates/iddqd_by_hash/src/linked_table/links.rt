@@ -1,8 +1,8 @@
-//! Links between the indexes that share a hash: for each slot the hash of its index, and the next and the previous
-//! index.
+//! Links between the indexes that share a hash. Element i of the array has the hash of index i, and the next and the
+//! previous index.
 //!
-//! If a slot's index isn't in the table, the link has that index itself as the previous one. So no flag is needed, and
-//! a link has 16 bytes.
+//! If index i isn't in the table, element i has i itself as the previous index. So no flag is needed, and a link has
+//! 16 bytes.
 ghost use Rattle.std.specs.Prelude.{◌≡◌, ◌≢◌, ◌↔◌, ◌≤◌, ◌<◌, ◌+◌, ◌==◌, ℕ, max, if◌then◌else◌, vec_len, vec_capacity, length, Some, None, IsSome, IsTrue};
 ghost use Rattle.std.specs.FinMap as finite;
 ghost use Rattle.iddqd.specs.Store.{sentinel};
@@ -25,7 +25,7 @@ pub fn place_of(ix: ItemIndex) -> usize
     ix.as_u32() as usize
 }
 
-/// Whether the index of a link is in the table.
+/// Whether the table has the index `ix`, which has a link in the array.
 pub fn is_present(links: &[Link], ix: ItemIndex) -> bool
     requires { ix < length links.now }
     ensures { IsTrue result ↔ IsSome (finite.get (filed_by links.now) ix) }
@@ -33,12 +33,12 @@ pub fn is_present(links: &[Link], ix: ItemIndex) -> bool
     links[place_of(ix)].prev != ix
 }
 
-/// Writes the link of an index that isn't in the table, which is in it afterwards. It takes no memory.
+/// Puts an index that isn't in the table into it, by writing its link. It takes no memory.
 pub fn put(links: &mut Vec<Link>, ix: ItemIndex, link: Link)
     requires in_turn { ix ≤ vec_len links.old }
     requires roomy { ix < vec_capacity links.old }
     requires absent { finite.get (filed_by links.old.items) ix ≡ None }
-    requires present { link.prev ≢ ix }
+    requires marks_present { link.prev ≢ ix }
     ensures filed { filed_by links.new.items ≡ finite.insert (filed_by links.old.items) ix link.hash }
     ensures next { (j : ℕ) → next_of links.new.items j ≡ (if j == ix then link.next else next_of links.old.items j) }
     ensures prev { (j : ℕ) → prev_of links.new.items j ≡ (if j == ix then link.prev else prev_of links.old.items j) }

@@ -3,7 +3,7 @@ ghost use Rattle.std.specs.Prelude.{◌≡◌, ◌<◌, ◌≤◌, ◌+◌, IsSo
 ghost use Rattle.std.specs.FinMap as finite;
 ghost use Rattle.iddqd_hash.specs.{filed};
 ghost use Rattle.iddqd_hash.specs.HashTable.{capacity, memory};
-ghost use Rattle.iddqd_by_hash.specs.LinkedTable.{AreHeadsOf, KeepsMemory};
+ghost use Rattle.iddqd_by_hash.specs.LinkedTable.{AreHeadsOf, KeepsLinkMemory};
 ghost use Rattle.iddqd_by_hash.specs.Links.{filed_by, heads_after};
 
 use super::LinkedTable;
@@ -18,7 +18,7 @@ impl LinkedTable {
     pub fn remove(&mut self, ix: ItemIndex)
         requires { IsSome (finite.get self.old.filed ix) }
         ensures removed { self.new.filed ≡ finite.remove self.old.filed ix }
-        ensures memory { KeepsMemory self.old self.new }
+        ensures memory { KeepsLinkMemory self.old self.new }
         ensures slots { self.new.slots ≡ self.old.slots }
         ensures one_less { finite.len self.new.filed + 1 ≡ finite.len self.old.filed }
         ensures inside { ix < self.new.slots }

@@ -4,7 +4,7 @@ ghost use Rattle.std.specs.FinMap as finite;
 ghost use Rattle.iddqd.specs.Compaction.{CanRemap, remapped};
 ghost use Rattle.iddqd.specs.Store.{sentinel};
 ghost use Rattle.iddqd_hash.specs.MapHashTable.{Renames};
-ghost use Rattle.iddqd_by_hash.specs.LinkedTable.{KeepsMemory};
+ghost use Rattle.iddqd_by_hash.specs.LinkedTable.{KeepsLinkMemory};
 ghost use Rattle.iddqd_by_hash.specs.Links.{filed_by, next_of, prev_of, renamed, AreNeighbours, RenamesLinks};
 
 use super::LinkedTable;
@@ -13,11 +13,11 @@ use iddqd::index_remap::IndexRemap;
 use iddqd::item_index::ItemIndex;
 
 impl LinkedTable {
-    /// Gives each index its new name, under the hash that it has. The new names are 0, 1, and so on, and the array of
-    /// links ends behind them.
+    /// Gives each index its new name; its hash stays. The remap must have the new names 0, 1, and so on, one for each
+    /// index, and the array of links is cut off behind them.
     ///
-    /// It takes no memory, and a step for each link and for each cell of the hash table, or no step if the remap is
-    /// `Identity`.
+    /// It takes no memory. It takes a step for each link and one for each cell of the hash table, or none if the remap
+    /// is `Identity`.
     pub fn remap_indexes(&mut self, remap: &IndexRemap)
         requires can_remap { (ix : ℕ) → IsSome (finite.get self.old.filed ix) → CanRemap remap.now ix }
         requires distinct { (i j : ℕ) → IsSome (finite.get self.old.filed i) → IsSome (finite.get self.old.filed j)
@@ -26,7 +26,7 @@ impl LinkedTable {
         requires dense { (ix : ℕ) → IsSome (finite.get self.old.filed ix)
             → remapped remap.now ix < finite.len self.old.filed }
         ensures renamed { Renames (remapped remap.now) self.old.filed self.new.filed }
-        ensures memory { KeepsMemory self.old self.new }
+        ensures memory { KeepsLinkMemory self.old self.new }
         ensures slots { self.new.slots ≡ finite.len self.new.filed }
     {
         self.heads.remap_indexes(remap);

@@ -25,15 +25,15 @@ impl LinkedTable {
 
     /// Makes room for `additional` more indexes. If there is room it takes no memory.
     ///
-    /// If the array of links grows, its capacity at least doubles. On an `AllocError` the indexes stay; the capacity
-    /// may have grown.
+    /// If it takes memory for links, the capacity of their array at least doubles. On an `AllocError` the indexes stay;
+    /// the capacity may have grown.
     pub fn try_reserve(&mut self, additional: usize) -> Result<(), AllocError>
         ensures contents { self.new.filed ≡ self.old.filed }
         ensures slots { self.new.slots ≡ self.old.slots }
         ensures reserved { OnOk result (finite.len self.old.filed + additional ≤ self.new.capacity) }
         ensures had_room { finite.len self.old.filed + additional ≤ self.old.capacity
             → IsOk result × (self.new ≡ self.old) }
-        ensures capacity_stays { self.old.capacity ≤ self.new.capacity }
+        ensures capacity_at_least { self.old.capacity ≤ self.new.capacity }
         ensures few { self.new.memory ≤ self.old.memory + most_linked (finite.len self.old.filed + additional) }
     {
         let needed = self.len.checked_add(additional).ok_or(AllocError)?;
@@ -57,7 +57,7 @@ impl LinkedTable {
         ensures contents { self.new.filed ≡ self.old.filed }
         ensures slots { self.new.slots ≡ self.old.slots }
         ensures never_more { self.new.memory ≤ self.old.memory }
-        ensures capacity_stays { min self.old.capacity (max least (finite.len self.old.filed)) ≤ self.new.capacity }
+        ensures capacity_at_least { min self.old.capacity (max least (finite.len self.old.filed)) ≤ self.new.capacity }
         ensures shrunk { OnOk result (self.new.memory
             ≤ kept_linked (max least self.old.slots) (max least (finite.len self.old.filed))) }
         ensures refused { OnErr result (max least (finite.len self.old.filed) < self.new.memory) }

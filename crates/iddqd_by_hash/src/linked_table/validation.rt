@@ -14,7 +14,8 @@ use iddqd::item_index::ItemIndex;
 use std::alloc::{AllocError, Global};
 
 impl LinkedTable {
-    /// Checks that the table has `expected_len` indexes and, in `Compact`, that they are 0, 1, and so on.
+    /// Checks that the table has `expected_len` indexes and, if `compactness` is `Compact`, that they are 0, 1, and so
+    /// on.
     ///
     /// It sorts a copy of the indexes, for which memory may run out.
     pub fn validate(

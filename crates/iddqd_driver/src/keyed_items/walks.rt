@@ -2,11 +2,10 @@
 ghost use Rattle.std.specs.Prelude.{◌≡◌, ⊤, [], Some, IfSome, IsOk, IfOk, length};
 ghost use Rattle.std.specs.Iterator.{YieldsFirstRef, YieldsLastRef, item_count, at_most, UpTo};
 ghost use Rattle.std.specs.Iterator.SizeHint.{IsWithinCount};
-ghost use Rattle.std.specs.Range.Bound.{bound_map};
 ghost use Rattle.iddqd.specs.{live_count, live_pairs};
 ghost use Rattle.iddqd.specs.LiveItems.{IsWalkOf};
 ghost use Rattle.iddqd_order.specs.{indexes_left};
-ghost use Rattle.iddqd_keys.specs.OrderedQuery.{is_between};
+ghost use Rattle.iddqd_keys.specs.OrderedQuery.{is_within};
 ghost use Rattle.iddqd_driver.specs.State.{IsPaired};
 ghost use Rattle.iddqd_driver.specs.KeyIndexes.{second_key_index, IsInSync};
 ghost use Rattle.iddqd_driver.specs.Walks.{items_at, RangesWithin};
@@ -69,7 +68,7 @@ impl<T: KeyedItem, S: BuildHasher> KeyedItems<T, S> {
         lower: Bound<Q>,
         upper: Bound<Q>,
     ) -> Range<'_, T>
-        ensures { let within = is_between (bound_map Q.compare lower) (bound_map Q.compare upper) in
+        ensures { let within = is_within Q.compare lower upper in
             RangesWithin ⟦<Self as Keyed>⟧.keys within self.now.state result }
     {
         let (order, items) = (&self.order, &self.items);

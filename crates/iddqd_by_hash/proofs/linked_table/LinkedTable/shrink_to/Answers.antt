@@ -2,7 +2,7 @@ use Rattle.std.proofs.Common.{◌∙◌, ap, arith}
 use Rattle.iddqd_by_hash.specs.LinkedTable.{LinkedState}
 use Rattle.iddqd_by_hash.specs.Links.{filed_by}
 use Rattle.iddqd_by_hash.proofs.LinksLemmas.{length-filed_by}
-use Rattle.iddqd_by_hash.proofs.LinkedSizeLemmas.{IsLinkedTable-kept, capacity_stays, len-heads, none_kept}
+use Rattle.iddqd_by_hash.proofs.LinkedSizeLemmas.{IsLinkedTable-kept, capacity_at_least, len-heads, none_kept}
 use Rattle.iddqd_by_hash.proofs.linked_table.LinkedTable.shrink_to.Goals as goal
 
 pub invariant_of-self : goal.invariant_of-self
@@ -14,12 +14,12 @@ pub returns-in_err-shrink_to-clause-contents : goal.returns-in_err-shrink_to-cla
 returns-in_err-shrink_to-clause-contents c =
     ap filed_by c.shrink_to.ensures.items ∙ ap (λ (t : LinkedState). t.filed) c.self.view_is
 
-pub returns-in_err-shrink_to-clause-capacity_stays : goal.returns-in_err-shrink_to-clause-capacity_stays
-returns-in_err-shrink_to-clause-capacity_stays c =
+pub returns-in_err-shrink_to-clause-capacity_at_least : goal.returns-in_err-shrink_to-clause-capacity_at_least
+returns-in_err-shrink_to-clause-capacity_at_least c =
     let within = length-filed_by c.self.inside.links.items in
     let heads = len-heads c.self.invariant.linked in
     rw (← c.self.view_is)
-    (capacity_stays _ _ _ _ c.max-wanted.result _ _
+    (capacity_at_least _ _ _ _ c.max-wanted.result _ _
     (omega (arith, within, c.len.ensures, c.max-wanted.ensures))
     (omega (arith, c.max-wanted.ensures))
     (omega (arith, c.self.invariant.counted, heads, c.shrink_to-2.ensures.capacity, c.max.ensures))
@@ -43,12 +43,12 @@ pub returns-then-wanted-capacity-clause-contents : goal.returns-then-wanted-capa
 returns-then-wanted-capacity-clause-contents c =
     ap filed_by c.shrink_to.ensures.items ∙ ap (λ (t : LinkedState). t.filed) c.self.view_is
 
-pub returns-then-wanted-capacity-clause-capacity_stays : goal.returns-then-wanted-capacity-clause-capacity_stays
-returns-then-wanted-capacity-clause-capacity_stays c =
+pub returns-then-wanted-capacity-clause-capacity_at_least : goal.returns-then-wanted-capacity-clause-capacity_at_least
+returns-then-wanted-capacity-clause-capacity_at_least c =
     let within = length-filed_by c.self.inside.links.items in
     let heads = len-heads c.self.invariant.linked in
     rw (← c.self.view_is)
-    (capacity_stays _ _ _ _ c.max-wanted.result _ _
+    (capacity_at_least _ _ _ _ c.max-wanted.result _ _
     (omega (arith, within, c.len.ensures, c.max-wanted.ensures))
     (omega (arith, c.max-wanted.ensures))
     (omega (arith, c.self.invariant.counted, heads, c.shrink_to-2.ensures.capacity, c.max.ensures))
@@ -68,12 +68,12 @@ invariant_of-self-2 c =
 pub returns-clause-contents : goal.returns-clause-contents
 returns-clause-contents c = ap filed_by c.shrink_to.ensures.items ∙ ap (λ (t : LinkedState). t.filed) c.self.view_is
 
-pub returns-clause-capacity_stays : goal.returns-clause-capacity_stays
-returns-clause-capacity_stays c =
+pub returns-clause-capacity_at_least : goal.returns-clause-capacity_at_least
+returns-clause-capacity_at_least c =
     let within = length-filed_by c.self.inside.links.items in
     let heads = len-heads c.self.invariant.linked in
     rw (← c.self.view_is)
-    (capacity_stays _ _ _ _ c.max-wanted.result _ _
+    (capacity_at_least _ _ _ _ c.max-wanted.result _ _
     (omega (arith, within, c.len.ensures, c.max-wanted.ensures))
     (omega (arith, c.max-wanted.ensures))
     (omega (arith, c.self.invariant.counted, heads, c.shrink_to-2.ensures.capacity, c.max.ensures))
