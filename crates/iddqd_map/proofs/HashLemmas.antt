@@ -7,7 +7,7 @@ use Rattle.std.specs.FinMap.{FinMap}
 use Rattle.std.proofs.lemmas.List.{length-map}
 use Rattle.iddqd.specs.Store.{Store, get}
 use Rattle.iddqd_hash.specs.HashTable.{Table, entries, room, capacity}
-use Rattle.iddqd_hash.specs.MapHashTable.{filed, turned}
+use Rattle.iddqd_hash.specs.MapHashTable.{filed, swapped}
 use Rattle.iddqd_hash.proofs.MemberLemmas.{get-insert_at}
 use Rattle.iddqd_keys.specs.Scan.{AnswersScan}
 use Rattle.iddqd_by_hash.specs.Hashed.{Hashing, IsLawful, Takes}
@@ -38,8 +38,8 @@ at_most_listed (e ∷ es) =
 pub filed_at_most : (t : Table ℕ) → finite.len (filed t) ≤ length (entries t)
 unfolding filed
 filed_at_most t =
-    let fewer = at_most_listed (map turned (entries t)) in
-    let long = length-map (entries t) turned in
+    let fewer = at_most_listed (map swapped (entries t)) in
+    let long = length-map (entries t) swapped in
     omega (arith, fewer, long)
 
 -- where nothing is filed no pair stands in a cell
@@ -53,8 +53,8 @@ none_listed (e ∷ es) is =
 pub empty_none : (t : Table ℕ) → filed t ≡ finite.empty → length (entries t) ≡ 0
 unfolding filed
 empty_none t is =
-    let none = none_listed (map turned (entries t)) is in
-    let long = length-map (entries t) turned in
+    let none = none_listed (map swapped (entries t)) is in
+    let long = length-map (entries t) swapped in
     omega (arith, none, long)
 
 -- room that was made for more indexes, beside those that there are

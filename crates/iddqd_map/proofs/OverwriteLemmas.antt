@@ -367,7 +367,7 @@ module _ {T : Type 0} (alike : T → T → Bool) (most : ℕ → ℕ) where
   MakesRoom-same old new same = rw same (record {
     had_room = λ _. refl;
     slots_stay = omega arith;
-    capacity_stays = omega arith;
+    capacity_at_least = omega arith;
     few_slots = omega arith;
     few_cells = omega arith;
   })

@@ -21,7 +21,7 @@ same_memory {a} {b} slots capacity cells =
     ap (λ n. record { slots = b.slots; capacity = n; cells = a.cells }) capacity in
     one ∙ two ∙ ap (λ n. record { slots = b.slots; capacity = b.capacity; cells = n }) cells
 
--- `ask p x b q` says that x, asked in the state p, may be answered b and leave the state q
+-- `ask p x b q`: called on x in the state p, the closure may answer b and be in the state q afterwards
 module _ {F T : Type 0} (ask : F → T → Bool → F → Type 0) where
   -- there is no less room in the same memory
   pub RetainsTo-room :

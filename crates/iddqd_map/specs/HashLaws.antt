@@ -30,18 +30,6 @@ shares_laws key_of equal laws = record {
   congr = λ x y z. laws.congr (key_of x) (key_of y) (key_of z);
 }
 
--- if one index is reported, it is the only one whose item is alike
-pub reported_one :
-    {T : Type 0} (s : Store T) (test : T → Bool) (at : ℕ)
-    → AnswersScan s test (Some at)
-    → (ix : ℕ)
-    → (ix ≡ at) ↔ IsHit s test ix
-reported_one s test at scan ix = ((scan ix).1, (scan ix).0)
-
--- at most one index is reported
-pub few_one : (at : ℕ) → (l : List ℕ) × (length l ≤ 1) × ((ix : ℕ) → ix ≡ at → Contains l ix)
-few_one at = (at ∷ [], omega arith, λ ix is. subst (Contains (at ∷ [])) (sym is) (contains_head at []))
-
 module _ {T K : Type 0} (key_of : T → K) (hashing : Hashing K) (s : Store T) (m : FinMap nat_cmp ℕ) where
   -- an item that keeps its key
   pub Indexes-modified :

@@ -4,8 +4,8 @@ use Rattle.std.proofs.Common.{refl}
 use Rattle.std.specs.List.{Contains}
 use Rattle.iddqd.specs.Store.{Store}
 use Rattle.iddqd_keys.specs.Scan.{IsHit}
-use Rattle.iddqd_map.specs.HashLaws.{reported_one, few_one}
 use Rattle.iddqd_map.specs.OneKey.{IsReported}
+use Rattle.iddqd_map.specs.OneKeyLaws.{reported_one, few_one}
 use Rattle.iddqd_map.specs.PairConflict.{ReportBoth, IsReportedBy, IsEither, first_of, second_of, both_of}
 use Rattle.iddqd_map.specs.PairLaws.{reported_by_one, reported_both, reported_some, few_by_one, few_both}
 use Rattle.iddqd_map.specs.Several.{either_key}

@@ -14,6 +14,7 @@ pub mod Memory
 pub mod Modify
 pub mod NoConflict
 pub mod OneKey
+pub mod OneKeyLaws
 pub mod Overwrite
 pub mod PairConflict
 pub mod PairLaws

@@ -10,7 +10,7 @@ module _ {T : Type 0} (most : ℕ → ℕ) where
   pub record MakesRoom (old : MapState T) (new : MapMemory) : Type 0 where
     pub had_room : 1 ≤ room old → new ≡ old.memory
     pub slots_stay : old.memory.slots ≤ new.slots
-    pub capacity_stays : old.memory.capacity ≤ new.capacity
+    pub capacity_at_least : old.memory.capacity ≤ new.capacity
     pub few_slots : new.slots ≤ max old.memory.slots (min old.store.limit (max 4 (2 * old.memory.slots)))
     pub few_cells : new.cells ≤ old.memory.cells + most (live_count old.store + 1)
 
@@ -23,7 +23,7 @@ module _ {T : Type 0} (most : ℕ → ℕ) where
     pub reserved : OnOk result (insertable old additional ≤ room new)
     pub had_room : insertable old additional ≤ room old → IsOk result × (new ≡ old)
     pub slots_stay : old.memory.slots ≤ new.memory.slots
-    pub capacity_stays : old.memory.capacity ≤ new.memory.capacity
+    pub capacity_at_least : old.memory.capacity ≤ new.memory.capacity
     pub few_slots : new.memory.slots ≤ max old.memory.slots
         (min old.store.limit (max (live_count old.store + additional) (2 * old.memory.slots)))
     pub few_cells : new.memory.cells ≤ old.memory.cells + most (live_count old.store + insertable old additional)
@@ -38,7 +38,7 @@ module _ {T : Type 0} (kept : ℕ → ℕ → ℕ) where
     pub slots_never_more : new.memory.slots ≤ old.memory.slots
     pub cells_never_more : new.memory.cells ≤ old.memory.cells
     pub slots_stay : min old.memory.slots (max least (slot_count old.store)) ≤ new.memory.slots
-    pub capacity_stays : min old.memory.capacity (max least (live_count old.store)) ≤ new.memory.capacity
+    pub capacity_at_least : min old.memory.capacity (max least (live_count old.store)) ≤ new.memory.capacity
     pub slots_shrunk : OnOk result (new.memory.slots ≤ max least (slot_count old.store))
     pub cells_shrunk :
         OnOk result (new.memory.cells ≤ kept (max least (slot_count old.store)) (max least (live_count old.store)))

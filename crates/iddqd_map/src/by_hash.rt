@@ -60,7 +60,8 @@ where
     ghost use Rattle.iddqd_hash.specs.Sizes.{most_cells};
     ghost use Rattle.iddqd_hash.specs.MapHashTable.{filed};
     ghost use Rattle.iddqd_map.specs.Map.{shares};
-    ghost use Rattle.iddqd_map.specs.HashLaws.{shares_laws, Indexes-kept, Indexes-key_kept, Indexes-keys_shared, reported_one, few_one};
+    ghost use Rattle.iddqd_map.specs.HashLaws.{shares_laws, Indexes-kept, Indexes-key_kept, Indexes-keys_shared};
+    ghost use Rattle.iddqd_map.specs.OneKeyLaws.{reported_one, few_one};
 
     type Conflict = ItemIndex;
 

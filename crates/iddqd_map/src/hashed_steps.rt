@@ -49,7 +49,7 @@ pub fn reserve<T>(
     ensures reserved { OnOk result (live_count items.now.store + additional ≤ capacity table.new) }
     ensures had_room { live_count items.now.store + additional ≤ capacity table.old
         → IsOk result × (table.new ≡ table.old) }
-    ensures capacity_stays { capacity table.old ≤ capacity table.new }
+    ensures capacity_at_least { capacity table.old ≤ capacity table.new }
     ensures few { memory table.new ≤ memory table.old + most_cells (live_count items.now.store + additional) }
 {
     table.try_reserve(additional)
@@ -66,7 +66,7 @@ pub fn shrink_to<T>(
     requires { Holds items.now.store (filed table.old) }
     ensures contents { filed table.new ≡ filed table.old }
     ensures never_more { memory table.new ≤ memory table.old }
-    ensures capacity_stays { min (capacity table.old) (max least (live_count items.now.store)) ≤ capacity table.new }
+    ensures capacity_at_least { min (capacity table.old) (max least (live_count items.now.store)) ≤ capacity table.new }
     ensures shrunk { OnOk result (memory table.new ≤ most_cells (max least (live_count items.now.store))) }
     ensures refused { OnErr result (max least (live_count items.now.store) < memory table.new) }
     ensures succeeds { max least (live_count items.now.store) ≡ 0 → IsOk result }
@@ -80,7 +80,7 @@ pub fn make_room<T>(table: &mut MapHashTable, items: &ItemSet<T>) -> Result<(), 
     ensures contents { filed table.new ≡ filed table.old }
     ensures ready { OnOk result (1 ≤ room table.new) }
     ensures had_room { live_count items.now.store < capacity table.old → IsOk result × (table.new ≡ table.old) }
-    ensures capacity_stays { capacity table.old ≤ capacity table.new }
+    ensures capacity_at_least { capacity table.old ≤ capacity table.new }
     ensures few { memory table.new ≤ memory table.old + most_cells (live_count items.now.store + 1) }
 {
     table.try_reserve(1)
@@ -156,7 +156,7 @@ pub fn validate<T>(
     validate_table("keys", table, items.len(), compactness)
 }
 
-/// Whether a table has as many indexes as there are items; in `Compact`, whether they are the numbers from 0 on. An
+/// Whether a table has as many indexes as there are items; for `Compact`, whether they are the numbers from 0 on. An
 /// error has the table's name.
 pub fn validate_table(
     name: &'static str,

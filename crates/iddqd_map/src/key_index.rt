@@ -9,9 +9,8 @@
 //! memory.
 ghost use Rattle.std.specs.Prelude.{◌≡◌, ◌≢◌, ◌≤◌, ◌+◌, ◌<◌, true, false, min, max, length, IsOk, IfOk, OnOk, OnErr};
 ghost use Rattle.iddqd.specs.{next_index, removed, rebound, sentinel, live_count, slot_count, IsValid, Allows, Validates};
-ghost use Rattle.std.specs.Range.Bound.{bound_map};
-ghost use Rattle.iddqd_keys.specs.OrderedQuery.{is_between};
 ghost use Rattle.iddqd_keys.specs.KeyWalk.{IsFirstHit};
+ghost use Rattle.iddqd_keys.specs.OrderedQuery.{is_within};
 ghost use Rattle.iddqd_keys.specs.Scan.{AnswersScan, IsLive, HasNoHit, passes_by};
 ghost use Rattle.iddqd_map.specs.KeyIndex.{IndexesNone, IsNextOf, IsPlannedForOne, IndexesOneMore, IsRemapOfSome, IndexesCompacted, IndexesAllOf, IsNextReported, FindsSpot, PlansMove, TakesFound};
 
@@ -155,7 +154,7 @@ pub trait Sizes<T, S>: KeyIndex<T, S> {
         ensures reserved { OnOk result (live_count items.now.store + additional ≤ Self.capacity self.new) }
         ensures had_room { live_count items.now.store + additional ≤ Self.capacity self.old
             → IsOk result × (self.new ≡ self.old) }
-        ensures capacity_stays { Self.capacity self.old ≤ Self.capacity self.new }
+        ensures capacity_at_least { Self.capacity self.old ≤ Self.capacity self.new }
         ensures few { Self.cells self.new ≤ Self.cells self.old + Self.most (live_count items.now.store + additional) };
 
     /// Gives back the memory beyond what `least` indexes need, or the slots and indexes that there are if these are
@@ -166,7 +165,7 @@ pub trait Sizes<T, S>: KeyIndex<T, S> {
         requires indexed { Self.indexes self.old state.now items.now.store }
         ensures contents { Self.same self.old self.new }
         ensures never_more { Self.cells self.new ≤ Self.cells self.old }
-        ensures capacity_stays { min (Self.capacity self.old) (max least (live_count items.now.store))
+        ensures capacity_at_least { min (Self.capacity self.old) (max least (live_count items.now.store))
             ≤ Self.capacity self.new }
         ensures shrunk { OnOk result (Self.cells self.new
             ≤ Self.kept (max least (slot_count items.now.store)) (max least (live_count items.now.store))) }
@@ -246,7 +245,7 @@ pub trait Inserts<T, S>: KeyIndex<T, S> {
         ensures contents { Self.same self.old self.new }
         ensures ready { OnOk result (has_room_for self.new plan.now) }
         ensures had_room { live_count items.now.store < Self.capacity self.old → IsOk result × (self.new ≡ self.old) }
-        ensures capacity_stays { Self.capacity self.old ≤ Self.capacity self.new }
+        ensures capacity_at_least { Self.capacity self.old ≤ Self.capacity self.new }
         ensures few { Self.cells self.new ≤ Self.cells self.old + Self.most (live_count items.now.store + 1) };
 
     /// Inserts an index as planned. It takes no memory.
@@ -519,6 +518,6 @@ pub trait OrderedAt<P, T, S>: KeyIndex<T, S> {
         upper: Bound<Q>,
     ) -> Option<ItemIndex>
         requires indexed { Self.KeyIndex.indexes self.now state.now items.now.store }
-        ensures { let within = is_between (bound_map Q.compare lower) (bound_map Q.compare upper) in
+        ensures { let within = is_within Q.compare lower upper in
             IsFirstHit key_at Self.Key.cmp items.now.store (passes_by key_at within) result };
 }

@@ -12,7 +12,7 @@ ghost use Rattle.iddqd_hash.specs.MapHashTable.{indexes_of, Renames};
 ghost use Rattle.iddqd_keys.specs.Scan.{IsLive};
 ghost use Rattle.iddqd_by_hash.specs.Hashed.{Holds};
 ghost use Rattle.iddqd_by_hash.specs.HashedMove.{moved};
-ghost use Rattle.iddqd_by_hash.specs.LinkedTable.{KeepsMemory, most_linked, kept_linked};
+ghost use Rattle.iddqd_by_hash.specs.LinkedTable.{KeepsLinkMemory, most_linked, kept_linked};
 ghost use Rattle.iddqd_map.specs.ByHashMulti.{HasSameIndexes};
 ghost use Rattle.iddqd_map.specs.Validation.{NamesTable};
 
@@ -35,7 +35,7 @@ pub fn reserve<T>(
     ensures reserved { OnOk result (live_count items.now.store + additional ≤ table.new.capacity) }
     ensures had_room { live_count items.now.store + additional ≤ table.old.capacity
         → IsOk result × (table.new ≡ table.old) }
-    ensures capacity_stays { table.old.capacity ≤ table.new.capacity }
+    ensures capacity_at_least { table.old.capacity ≤ table.new.capacity }
     ensures few { table.new.memory ≤ table.old.memory + most_linked (live_count items.now.store + additional) }
 {
     table.try_reserve(additional)
@@ -53,7 +53,7 @@ pub fn shrink_to<T>(
     requires linked { table.old.slots ≡ slot_count items.now.store }
     ensures contents { HasSameIndexes table.old table.new }
     ensures never_more { table.new.memory ≤ table.old.memory }
-    ensures capacity_stays { min table.old.capacity (max least (live_count items.now.store)) ≤ table.new.capacity }
+    ensures capacity_at_least { min table.old.capacity (max least (live_count items.now.store)) ≤ table.new.capacity }
     ensures shrunk { OnOk result (table.new.memory
         ≤ kept_linked (max least (slot_count items.now.store)) (max least (live_count items.now.store))) }
     ensures refused { OnErr result (max least (live_count items.now.store) < table.new.memory) }
@@ -68,7 +68,7 @@ pub fn remap<T>(table: &mut LinkedTable, remap: &IndexRemap)
     requires { (s : Store T) × Holds s table.old.filed × IsValid s × IsRemapOf s remap.now }
     ensures renamed { (s : Store T) → Holds s table.old.filed → IsValid s → IsRemapOf s remap.now →
         Renames (rank s) table.old.filed table.new.filed }
-    ensures memory { KeepsMemory table.old table.new }
+    ensures memory { KeepsLinkMemory table.old table.new }
     ensures slots { table.new.slots ≡ finite.len table.new.filed }
 {
     table.remap_indexes(remap);
@@ -79,7 +79,7 @@ pub fn commit_move<T>(table: &mut LinkedTable, items: &ItemSet<T>, plan: &Move, 
     requires live { IsLive items.now.store ix }
     requires filed { IsSome (finite.get table.old.filed ix) }
     ensures moved { table.new.filed ≡ moved table.old.filed ix plan.now }
-    ensures memory { KeepsMemory table.old table.new }
+    ensures memory { KeepsLinkMemory table.old table.new }
     ensures slots { table.new.slots ≡ table.old.slots }
 {
     if let Move::To(hash) = plan {
@@ -105,7 +105,7 @@ pub fn validate<T>(
     validate_table("keys", table, items.len(), compactness)
 }
 
-// Whether a table has as many indexes as there are items; in `Compact`, whether they are those from 0 on. An error has
+// Whether a table has as many indexes as there are items; for `Compact`, whether they are those from 0 on. An error has
 // the table's name.
 fn validate_table(
     name: &'static str,

@@ -11,7 +11,7 @@ use Rattle.iddqd.specs.LiveItems.{live_pairs}
 use Rattle.iddqd.proofs.LiveItemLemmas.{IsWalkOf-live_pairs, items_of_pairs}
 use Rattle.iddqd.proofs.StoreLemmas.{contains_head, contains_tail, contains_cases, contains_none}
 use Rattle.iddqd_ord_map.specs.KeyOrder.{IsKeyWalk, AreInKeyOrder}
-use Rattle.iddqd_ord_map.specs.Equality.{put_in_order, in_order, items_in_order}
+use Rattle.iddqd_ord_map.specs.Equality.{put_in_order, sorted, items_in_order}
 
 -- an element stands at some place
 place_of : {X : Type 0} (xs : List X) (x : X) → Contains xs x → (k : ℕ) × (slice_get xs k ≡ Some x)
@@ -48,16 +48,16 @@ module _ {X : Type 0} (before : X → X → Bool) where
         ]
       ] here
 
-  order_in : (xs : List X) (z : X) → Contains xs z → Contains (in_order before xs) z
+  order_in : (xs : List X) (z : X) → Contains xs z → Contains (sorted before xs) z
   order_in [] z here = here
-  order_in (x ∷ xs) z here = put_in x (in_order before xs) z (elim (contains_cases x z xs here) [
-    | inl same ↦ subst (Contains (x ∷ in_order before xs)) same (contains_head x (in_order before xs))
-    | inr there ↦ contains_tail x z (in_order before xs) (order_in xs z there)
+  order_in (x ∷ xs) z here = put_in x (sorted before xs) z (elim (contains_cases x z xs here) [
+    | inl same ↦ subst (Contains (x ∷ sorted before xs)) same (contains_head x (sorted before xs))
+    | inr there ↦ contains_tail x z (sorted before xs) (order_in xs z there)
   ])
 
-  order_out : (xs : List X) (z : X) → Contains (in_order before xs) z → Contains xs z
+  order_out : (xs : List X) (z : X) → Contains (sorted before xs) z → Contains xs z
   order_out [] z here = here
-  order_out (x ∷ xs) z here = elim (contains_cases x z (in_order before xs) (put_out x (in_order before xs) z here)) [
+  order_out (x ∷ xs) z here = elim (contains_cases x z (sorted before xs) (put_out x (sorted before xs) z here)) [
     | inl same ↦ subst (Contains (x ∷ xs)) same (contains_head x xs)
     | inr there ↦ contains_tail x z xs (order_out xs z there)
   ]
@@ -75,9 +75,9 @@ module _ {X Y : Type 0} (part : X → Y) (before : Y → Y → Bool) where
         | false ↦ ap (λ l. part y ∷ l) (map-put x ys)
       ]
 
-  map-order : (xs : List X) → map part (in_order by_part xs) ≡ in_order before (map part xs)
+  map-order : (xs : List X) → map part (sorted by_part xs) ≡ sorted before (map part xs)
   map-order [] = refl
-  map-order (x ∷ xs) = map-put x (in_order by_part xs) ∙ ap (put_in_order before (part x)) (map-order xs)
+  map-order (x ∷ xs) = map-put x (sorted by_part xs) ∙ ap (put_in_order before (part x)) (map-order xs)
 
 -- ---- lists of pairs whose keys rise
 
@@ -158,9 +158,9 @@ module _ {T K : Type 0} (key_of : T → K) (compare : K → K → Ordering) (tot
         )
       ] refl
 
-  order_rises : (xs : List (ℕ × T)) → Differ xs → Rises (in_order lesser xs)
+  order_rises : (xs : List (ℕ × T)) → Differ xs → Rises (sorted lesser xs)
   order_rises [] differ = tt
-  order_rises (x ∷ xs) differ = put_rises x (in_order lesser xs) (order_rises xs differ.1) (λ y here. differ.0 y (order_out lesser xs y here))
+  order_rises (x ∷ xs) differ = put_rises x (sorted lesser xs) (order_rises xs differ.1) (λ y here. differ.0 y (order_out lesser xs y here))
 
   -- pairs of such a list that have one key are one
   one_pair : (ps : List (ℕ × T)) → Rises ps → (a b : ℕ × T) → Contains ps a → Contains ps b → by_key a b ≡ Equal → a ≡ b
@@ -193,11 +193,11 @@ module _ {T K : Type 0} (key_of : T → K) (compare : K → K → Ordering) (tot
       differ_from pairs walk ps (λ q here. live q (contains_tail p q ps here)) (λ i j a b before at_i at_j. rising (suc i) (suc j) a b (omega arith) at_i at_j),
     )
 
-    pairs_in_order : (pairs : List (ℕ × T)) → IsKeyWalk key_of compare s pairs → pairs ≡ in_order lesser (live_pairs s)
+    pairs_in_order : (pairs : List (ℕ × T)) → IsKeyWalk key_of compare s pairs → pairs ≡ sorted lesser (live_pairs s)
     pairs_in_order pairs walk =
         let all = IsWalkOf-live_pairs s in
         let differ = differ_from pairs walk (live_pairs s) (λ p here. (all.live p.0 p.1).0 here) all.rising in
-        one_list pairs (in_order lesser (live_pairs s)) (rises_from pairs walk.rising) (order_rises (live_pairs s) differ) (λ p. (
+        one_list pairs (sorted lesser (live_pairs s)) (rises_from pairs walk.rising) (order_rises (live_pairs s) differ) (λ p. (
           λ here. order_in lesser (live_pairs s) p ((all.live p.0 p.1).1 ((walk.live p.0 p.1).0 here).0),
           λ here. (walk.live p.0 p.1).1 ((all.live p.0 p.1).0 (order_out lesser (live_pairs s) p here), refl),
         ))
@@ -206,4 +206,4 @@ module _ {T K : Type 0} (key_of : T → K) (compare : K → K → Ordering) (tot
     items_of_walk items (pairs, walk, is) =
         is ∙ ap (map (λ (p : ℕ × T). p.1)) (pairs_in_order pairs walk)
         ∙ map-order (λ (p : ℕ × T). p.1) (λ x y. is_lt (compare (key_of x) (key_of y))) (live_pairs s)
-        ∙ ap (in_order (λ x y. is_lt (compare (key_of x) (key_of y)))) (items_of_pairs 0 s.items)
+        ∙ ap (sorted (λ x y. is_lt (compare (key_of x) (key_of y)))) (items_of_pairs 0 s.items)

@@ -25,7 +25,7 @@ use Rattle.iddqd_keys.specs.Removals.{removed_all}
 use Rattle.iddqd_map.specs.Retain.{kept_of, removed_of}
 use Rattle.iddqd_map.proofs.RetainLemmas.{Contains-live}
 use Rattle.iddqd_ord_map.specs.KeyOrder.{IsKeyWalk}
-use Rattle.iddqd_ord_map.specs.Pairs.{pair_at, pairs_at}
+use Rattle.iddqd_keys.specs.KeyWalk.{pair_at, pairs_at}
 use Rattle.iddqd_ord_map.specs.Retain.{RetainsAlongTo}
 use Rattle.iddqd_ord_map.proofs.WalkLemmas.{SortsWithin-all, IsWalkWithin-sorted, pairs_at-first, pairs_at-last}
 

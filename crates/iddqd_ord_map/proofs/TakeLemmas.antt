@@ -13,7 +13,7 @@ use Rattle.iddqd.specs.LiveItems.{item_at, KeepsOtherItems}
 use Rattle.iddqd.specs.Store.{Store}
 use Rattle.iddqd.proofs.StoreLemmas.{contains_head, contains_tail, contains_none}
 use Rattle.iddqd_by_order.specs.Ordered.{Holds}
-use Rattle.iddqd_ord_map.specs.Pairs.{items_at, AreThere}
+use Rattle.iddqd_ord_map.specs.Pairs.{items_of_slots, AreThere}
 
 insert_end : (xs : List ℕ) (x : ℕ) → insert xs (length xs) x ≡ xs ++ x ∷ []
 insert_end [] x = refl
@@ -21,21 +21,21 @@ insert_end (y ∷ ys) x = ap (λ l. y ∷ l) (insert_end ys x)
 
 module _ {T : Type 0} where
   -- slots that have the same at each of these indexes
-  same_items : (old new : List (Option T)) (xs : List ℕ) → ((j : ℕ) → Contains xs j → item_at new j ≡ item_at old j) → items_at new xs ≡ items_at old xs
+  same_items : (old new : List (Option T)) (xs : List ℕ) → ((j : ℕ) → Contains xs j → item_at new j ≡ item_at old j) → items_of_slots new xs ≡ items_of_slots old xs
   same_items old new [] same = refl
   same_items old new (x ∷ xs) same =
       let rest = same_items old new xs (λ j here. same j (contains_tail x j xs here)) in
-      ap (λ o. cons_option o (items_at new xs)) (same x (contains_head x xs)) ∙ ap (λ l. cons_option (item_at old x) l) rest
+      ap (λ o. cons_option o (items_of_slots new xs)) (same x (contains_head x xs)) ∙ ap (λ l. cons_option (item_at old x) l) rest
 
   pub AreThere-none : (slots : List (Option T)) (left : List ℕ) → left ≡ [] → AreThere slots left
   unfolding IsDistinct
   AreThere-none slots left is = subst (AreThere slots) (sym is) (record { each = λ ix here. absurd (contains_none ix here); once = tt })
 
-  pub length-items_at : (slots : List (Option T)) (xs : List ℕ) → ((ix : ℕ) → Contains xs ix → IsSome (item_at slots ix)) → length (items_at slots xs) ≡ length xs
-  length-items_at slots [] each = refl
-  length-items_at slots (x ∷ xs) each =
-      let rest = length-items_at slots xs (λ j here. each j (contains_tail x j xs here)) in
-      elim (item_at slots x) as (λ o. IsSome o → length (cons_option o (items_at slots xs)) ≡ length (x ∷ xs)) [
+  pub length-items_of_slots : (slots : List (Option T)) (xs : List ℕ) → ((ix : ℕ) → Contains xs ix → IsSome (item_at slots ix)) → length (items_of_slots slots xs) ≡ length xs
+  length-items_of_slots slots [] each = refl
+  length-items_of_slots slots (x ∷ xs) each =
+      let rest = length-items_of_slots slots xs (λ j here. each j (contains_tail x j xs here)) in
+      elim (item_at slots x) as (λ o. IsSome o → length (cons_option o (items_of_slots slots xs)) ≡ length (x ∷ xs)) [
         | Some item ↦ λ _. omega (arith, rest)
         | None ↦ λ live. absurd (cc)
       ] (each x (contains_head x xs))
@@ -43,7 +43,7 @@ module _ {T : Type 0} where
   -- the item at an index was taken: what is left, and the items there
   pub record Took (old new : List (Option T)) (left : List ℕ) : Type 0 where
     pub there : AreThere new left
-    pub same : items_at new left ≡ items_at old left
+    pub same : items_of_slots new left ≡ items_of_slots old left
 
   module _ (old new : List (Option T)) (ix : ℕ) (left : List ℕ) (others : KeepsOtherItems ix old new) where
     Took-first : AreThere old (ix ∷ left) → Took old new left
@@ -71,19 +71,19 @@ module _ {T : Type 0} where
           once = IsDistinct-IsPermutation nat_eq nat_eq_equiv.symm (left ++ ix ∷ []) (ix ∷ left) (IsPermutation-sym (ix ∷ left) (left ++ ix ∷ []) moved) was.once;
         })
 
-    pub items_at-front : (all : List ℕ) (item : T) → all ≡ ix ∷ left → AreThere old all → item_at old ix ≡ Some item → items_at old all ≡ item ∷ items_at new left
-    items_at-front all item is o live =
-        ap (items_at old) is ∙ ap (λ o. cons_option o (items_at old left)) live ∙ ap (λ l. item ∷ l) (sym (Took-front all is o).same)
+    pub items_of_slots-front : (all : List ℕ) (item : T) → all ≡ ix ∷ left → AreThere old all → item_at old ix ≡ Some item → items_of_slots old all ≡ item ∷ items_of_slots new left
+    items_of_slots-front all item is o live =
+        ap (items_of_slots old) is ∙ ap (λ o. cons_option o (items_of_slots old left)) live ∙ ap (λ l. item ∷ l) (sym (Took-front all is o).same)
 
-    pub items_at-back : (all : List ℕ) (item : T) → all ≡ left ++ ix ∷ [] → AreThere old all → item_at old ix ≡ Some item → items_at old all ≡ items_at new left ++ item ∷ []
-    items_at-back all item is o live =
-        let one : items_at old (ix ∷ []) ≡ item ∷ [] = ap (λ o. cons_option o []) live in
-        ap (items_at old) is ∙ filter_map-append (item_at old) left (ix ∷ []) ∙ ap (λ l. items_at old left ++ l) one
+    pub items_of_slots-back : (all : List ℕ) (item : T) → all ≡ left ++ ix ∷ [] → AreThere old all → item_at old ix ≡ Some item → items_of_slots old all ≡ items_of_slots new left ++ item ∷ []
+    items_of_slots-back all item is o live =
+        let one : items_of_slots old (ix ∷ []) ≡ item ∷ [] = ap (λ o. cons_option o []) live in
+        ap (items_of_slots old) is ∙ filter_map-append (item_at old) left (ix ∷ []) ∙ ap (λ l. items_of_slots old left ++ l) one
         ∙ ap (λ l. l ++ item ∷ []) (sym (Took-back all is o).same)
 
   -- so fewer are left
-  pub items_at-fewer : (all : List T) (left : List T) (item : T) → all ≡ left ++ item ∷ [] → length left < length all
-  items_at-fewer all left item is = omega (arith, ap length is, length_push left item)
+  pub items_of_slots-fewer : (all : List T) (left : List T) (item : T) → all ≡ left ++ item ∷ [] → length left < length all
+  items_of_slots-fewer all left item is = omega (arith, ap length is, length_push left item)
 
   pub there_front : (old : List (Option T)) (all left : List ℕ) (ix : ℕ) → all ≡ ix ∷ left → AreThere old all → IsSome (item_at old ix)
   there_front old all left ix is o = o.each ix (subst (λ xs. Contains xs ix) (sym is) (contains_head ix left))

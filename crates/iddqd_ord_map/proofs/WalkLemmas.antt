@@ -19,7 +19,8 @@ use Rattle.iddqd_by_order.specs.Ordered.{AreLive, key_at}
 use Rattle.iddqd_by_order.specs.OrderedWalk.{SortsWithin}
 use Rattle.iddqd_ord_map.specs.OrderedIndexing.{Sorts}
 use Rattle.iddqd_ord_map.specs.KeyOrder.{IsWalkWithin}
-use Rattle.iddqd_ord_map.specs.Pairs.{pair_at, pairs_at, items_at}
+use Rattle.iddqd_keys.specs.KeyWalk.{pair_at, pairs_at}
+use Rattle.iddqd_ord_map.specs.Pairs.{items_of_slots}
 
 module _ {T : Type 0} (s : Store T) where
   -- what a walk that had these indexes left keeps once it gives the first one, or the last one
@@ -128,11 +129,11 @@ keys_differ Equal t less tied = let same = tied refl in cc
 keys_differ Greater t less tied = cc
 
 -- the items of pairs are those at their indexes
-pub items_of_pairs : {T : Type 0} (s : Store T) (xs : List ℕ) → map (λ pair. pair.1) (pairs_at s xs) ≡ items_at s.items xs
+pub items_of_pairs : {T : Type 0} (s : Store T) (xs : List ℕ) → map (λ pair. pair.1) (pairs_at s xs) ≡ items_of_slots s.items xs
 items_of_pairs s [] = refl
 items_of_pairs s (x ∷ xs) =
     let rest = items_of_pairs s xs in
-    elim (get s x) as (λ o. map (λ pair. pair.1) (cons_option (option_map (λ item. (x, item)) o) (pairs_at s xs)) ≡ cons_option o (items_at s.items xs)) [
+    elim (get s x) as (λ o. map (λ pair. pair.1) (cons_option (option_map (λ item. (x, item)) o) (pairs_at s xs)) ≡ cons_option o (items_of_slots s.items xs)) [
       | Some item ↦ ap (λ l. item ∷ l) rest
       | None ↦ rest
     ]

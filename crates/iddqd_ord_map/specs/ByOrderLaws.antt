@@ -19,18 +19,6 @@ use Rattle.iddqd_ord_map.specs.ByOrder.{IsGapFor}
 use Rattle.iddqd_ord_map.specs.OrderedIndexing.{Sorts, has_key}
 use Rattle.iddqd_ord_map.specs.SortedScanLaws.{shares_equivalence, unchanged, has_its_key, IsSortedScan-alike}
 
--- the index that a scan returns is the only one that hits
-pub reported_one :
-    {T : Type 0} (s : Store T) (test : T → Bool) (at : ℕ)
-    → AnswersScan s test (Some at)
-    → (ix : ℕ)
-    → (ix ≡ at) ↔ IsHit s test ix
-reported_one s test at scan ix = ((scan ix).1, (scan ix).0)
-
--- at most one index is reported
-pub one_reported : (at : ℕ) → (l : List ℕ) × (length l ≤ 1) × ((ix : ℕ) → ix ≡ at → Contains l ix)
-one_reported at = (at ∷ [], le_refl 1, λ ix is. subst (Contains (at ∷ [])) (sym is) (contains_head at []))
-
 module _ {T K : Type 0} (key_of : T → K) (compare : K → K → Ordering) where
   pub Sorts-same_tree :
       (s : Store T) (t u : Order)

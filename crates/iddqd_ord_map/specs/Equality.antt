@@ -12,10 +12,10 @@ module _ {X : Type 0} (stands_before : X → X → Bool) where
   put_in_order x (y ∷ ys) = if stands_before x y then x ∷ y ∷ ys else y ∷ put_in_order x ys
 
   -- the list, sorted
-  abbrev pub in_order : List X → List X
-  in_order [] = []
-  in_order (x ∷ xs) = put_in_order x (in_order xs)
+  abbrev pub sorted : List X → List X
+  sorted [] = []
+  sorted (x ∷ xs) = put_in_order x (sorted xs)
 
 -- the items in the order of their keys
 abbrev pub items_in_order : {T K : Type 0} → (T → K) → (K → K → Ordering) → Store T → List T
-items_in_order key_of compare s = in_order (λ x y. is_lt (compare (key_of x) (key_of y))) (live_items s)
+items_in_order key_of compare s = sorted (λ x y. is_lt (compare (key_of x) (key_of y))) (live_items s)

@@ -7,15 +7,14 @@
 //! 1. The list has exactly the live indexes, each once.
 //! 2. It is sorted by the keys of their items, and no two items have equal keys.
 ghost use Rattle.std.specs.Prelude.{◌≡◌};
-ghost use Rattle.std.specs.Range.Bound.{bound_map};
 ghost use Rattle.iddqd_order.specs.{indexes_ahead, indexes_left};
 ghost use Rattle.iddqd_order.specs.MapBTreeTable.{order_of};
 ghost use Rattle.iddqd_ord_map.specs.ByOrder.{FindsGreatest, FindsLeast, LooksPlaceUp};
 ghost use Rattle.iddqd_ord_map.specs.OrderedIndexing.{Sorts};
 ghost use Rattle.iddqd_by_order.specs.Ordered.{is_equal, IsSortedScan};
-ghost use Rattle.iddqd_keys.specs.OrderedQuery.{is_between};
 ghost use Rattle.iddqd_by_order.specs.OrderedWalk.{SortsWithin};
 ghost use Rattle.iddqd_keys.specs.Scan.{AnswersScan, IsLive, IsKeyAt, passes_by};
+ghost use Rattle.iddqd_keys.specs.OrderedQuery.{is_within};
 
 use crate::ordered_move::{Move, plan_move};
 use crate::ordered_query::{find_by, first_between, first_by, iter_by, last_by, range_by, take_by};
@@ -112,7 +111,7 @@ impl<E> ByOrder<E> {
         E::Key: Ord,
         Q: OrdQuery<E::Key>,
         requires { ⟦<ByOrder<E> as KeyIndex<T, S>>⟧.indexes self.now state.now items.now.store }
-        ensures { let within = is_between (bound_map Q.compare lower) (bound_map Q.compare upper) in
+        ensures { let within = is_within Q.compare lower upper in
             SortsWithin E.key_of E.Key.cmp within items.now.store (indexes_ahead result) }
     {
         range_by::<T, E, Q>(&self.table, items, lower, upper)
@@ -148,7 +147,8 @@ where
     ghost use Rattle.iddqd_order.specs.MapBTreeTable.{HasSameTree};
     ghost use Rattle.iddqd_map.specs.Map.{shares};
     ghost use Rattle.iddqd_ord_map.specs.OrderedSteps.{reserved_for, most_cells};
-    ghost use Rattle.iddqd_ord_map.specs.ByOrderLaws.{Sorts-same_tree, Sorts-modified, Sorts-alike, reported_one, one_reported};
+    ghost use Rattle.iddqd_map.specs.OneKeyLaws.{reported_one, few_one};
+    ghost use Rattle.iddqd_ord_map.specs.ByOrderLaws.{Sorts-same_tree, Sorts-modified, Sorts-alike};
     ghost use Rattle.iddqd_ord_map.specs.SortedScanLaws.{shares_equivalence};
 
     type Conflict = ItemIndex;
@@ -205,7 +205,7 @@ where
 
     ghost reported_some = { λ s item at scan. (at, refl) };
 
-    ghost few_reported = { λ at. one_reported at };
+    ghost few_reported = { few_one };
 
     fn no_hashes() {}
 }

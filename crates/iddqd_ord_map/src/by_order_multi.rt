@@ -8,16 +8,15 @@
 //! 1. The list has exactly the live indexes, each once.
 //! 2. It is sorted by the keys of their items, and by index if these are equal.
 ghost use Rattle.std.specs.Prelude.{◌≡◌, ◌↔◌, false};
-ghost use Rattle.std.specs.Range.Bound.{bound_map};
 ghost use Rattle.iddqd.specs.{next_index, IsValid};
 ghost use Rattle.iddqd_order.specs.{indexes_ahead, indexes_left};
 ghost use Rattle.iddqd_order.specs.MapBTreeTable.{order_of};
 ghost use Rattle.iddqd_ord_map.specs.ByOrder.{FindsGreatest, FindsLeast};
 ghost use Rattle.iddqd_ord_map.specs.ByOrderMulti.{Counts, IsGreatestHit, IsLeastHit, IsOwnGapFor};
 ghost use Rattle.iddqd_by_order.specs.Ordered.{is_equal, IsSortedScan};
-ghost use Rattle.iddqd_keys.specs.OrderedQuery.{is_between};
 ghost use Rattle.iddqd_by_order.specs.OrderedWalk.{SortsWithin};
 ghost use Rattle.iddqd_keys.specs.Scan.{HasNoHit, IsLive, IsKeyAt, passes_by};
+ghost use Rattle.iddqd_keys.specs.OrderedQuery.{is_within};
 
 use crate::ordered_move::Move;
 use crate::ordered_query::{
@@ -82,7 +81,7 @@ impl<E> ByOrderMulti<E> {
         E::Key: Ord,
         Q: OrdQuery<E::Key>,
         requires { ⟦<ByOrderMulti<E> as KeyIndex<T, S>>⟧.indexes self.now state.now items.now.store }
-        ensures { let within = is_between (bound_map Q.compare lower) (bound_map Q.compare upper) in
+        ensures { let within = is_within Q.compare lower upper in
             SortsWithin E.key_of E.Key.cmp within items.now.store (indexes_ahead result) }
     {
         range_by::<T, E, Q>(&self.table, items, lower, upper)

@@ -3,11 +3,10 @@
 //! If the table is sorted by the keys as they are now, and no two items share a key, a look-up returns what a scan
 //! would. A range allows equal keys: items with equal keys are in it by index.
 ghost use Rattle.std.specs.Prelude.{◌≡◌};
-ghost use Rattle.std.specs.Range.Bound.{bound_map};
 ghost use Rattle.iddqd_order.specs.{capacity, indexes_ahead, indexes_left, order_of};
 ghost use Rattle.iddqd_keys.specs.Scan.{AnswersScan, passes_by};
+ghost use Rattle.iddqd_keys.specs.OrderedQuery.{is_within};
 ghost use Rattle.iddqd_by_order.specs.Ordered.{Takes, IsSortedScan, is_equal};
-ghost use Rattle.iddqd_keys.specs.OrderedQuery.{is_between};
 ghost use Rattle.iddqd_by_order.specs.OrderedWalk.{IsFirstHit, SortsWithin};
 ghost use Rattle.iddqd_ord_map.specs.ByOrder.{FindsGreatest, FindsLeast};
 ghost use Rattle.iddqd_ord_map.specs.ByOrderMulti.{Counts};
@@ -69,7 +68,7 @@ where
     E::Key: Ord,
     Q: OrdQuery<E::Key>,
     requires { IsSortedScan E.key_of E.Key.cmp items.now.store (order_of table.now) }
-    ensures { let within = is_between (bound_map Q.compare lower) (bound_map Q.compare upper) in
+    ensures { let within = is_within Q.compare lower upper in
         SortsWithin E.key_of E.Key.cmp within items.now.store (indexes_ahead result) }
 {
     ordered::range::<T, E, Q>(table, items, lower, upper)
@@ -151,7 +150,7 @@ where
     E::Key: Ord,
     Q: OrdQuery<E::Key>,
     requires { IsSortedScan E.key_of E.Key.cmp items.now.store (order_of table.now) }
-    ensures { let within = is_between (bound_map Q.compare lower) (bound_map Q.compare upper) in
+    ensures { let within = is_within Q.compare lower upper in
         IsFirstHit E.key_of E.Key.cmp items.now.store (passes_by E.key_of within) result }
 {
     range_by::<T, E, Q>(table, items, lower, upper).next()

@@ -58,7 +58,7 @@ pub fn reserve<T>(
     ensures reserved { OnOk result (live_count items.now.store + additional ≤ reserved_for table.new) }
     ensures had_room { live_count items.now.store + additional ≤ reserved_for table.old
         → IsOk result × (table.new ≡ table.old) }
-    ensures capacity_stays { reserved_for table.old ≤ reserved_for table.new }
+    ensures capacity_at_least { reserved_for table.old ≤ reserved_for table.new }
     ensures few { reserved_for table.new
         ≤ reserved_for table.old + most_cells (live_count items.now.store + additional) }
 {
@@ -75,7 +75,7 @@ pub fn shrink_to<T>(table: &mut MapBTreeTable, items: &ItemSet<T>, least: usize)
     requires { Holds items.now.store (order_of table.old) }
     ensures contents { HasSameTree table.old table.new }
     ensures never_more { reserved_for table.new ≤ reserved_for table.old }
-    ensures capacity_stays { min (reserved_for table.old) (max least (live_count items.now.store))
+    ensures capacity_at_least { min (reserved_for table.old) (max least (live_count items.now.store))
         ≤ reserved_for table.new }
     ensures shrunk { reserved_for table.new ≤ most_cells (max least (live_count items.now.store)) }
 {

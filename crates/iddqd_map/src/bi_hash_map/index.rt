@@ -1,7 +1,8 @@
 //! The key index of a map whose items have two keys: a table by each of them.
 //!
-//! It forwards each call to a pair of tables. A caller's proof sees two keys, and neither the pair nor the tables: each
-//! of these would cost proof time in every function that calls the map.
+//! A look-up by one key goes to the table by that key, and a call that can't fail to both. The others go to a pair, which
+//! puts the tables' answers together. A caller's proof sees two keys, and neither the pair nor the tables: each of these
+//! would cost proof time in every function that calls the map.
 use super::clash::BiClash;
 use super::item::{BiHashItem, First, Second};
 use crate::by_hash::ByHash;
@@ -20,11 +21,11 @@ use iddqd_keys::hash_query::HashQuery;
 use std::alloc::{AllocError, Global};
 use std::hash::BuildHasher;
 
-type Tables<T> = Pair<
-    ByHash<First, <T as BiHashItem>::Key1>,
-    ByHash<Second, <T as BiHashItem>::Key2>,
-    BiClash,
->;
+type FirstTable<T> = ByHash<First, <T as BiHashItem>::Key1>;
+
+type SecondTable<T> = ByHash<Second, <T as BiHashItem>::Key2>;
+
+type Tables<T> = Pair<FirstTable<T>, SecondTable<T>, BiClash>;
 
 /// A table by each of the two keys.
 #[derive(Drop)]
@@ -82,7 +83,7 @@ impl<T: BiHashItem, S: BuildHasher> KeyIndex<T, S> for BiIndex<T> {
     ghost reports = { λ at. IsOfTwo at.key1 at.key2 };
 
     fn no_hashes() -> (Option<MapHash>, Option<MapHash>) {
-        <Tables<T> as KeyIndex<T, S>>::no_hashes()
+        (None, None)
     }
 
     ghost kept_none = { refl };
@@ -129,7 +130,9 @@ impl<T: BiHashItem, S: BuildHasher> KeyIndex<T, S> for BiIndex<T> {
 
 impl<T: BiHashItem, S: BuildHasher> Sizes<T, S> for BiIndex<T> {
     fn capacity(&self) -> usize {
-        <Tables<T> as Sizes<T, S>>::capacity(&self.tables)
+        let first = <FirstTable<T> as Sizes<T, S>>::capacity(&self.tables.first);
+        let second = <SecondTable<T> as Sizes<T, S>>::capacity(&self.tables.second);
+        first.min(second)
     }
 
     fn new(alloc: Global) -> BiIndex<T> {
@@ -176,7 +179,9 @@ impl<T: BiHashItem, S: BuildHasher> Inserts<T, S> for BiIndex<T> {
     ghost is_ready_after = { λ x. ⟦<Tables<T> as Inserts<T, S>>⟧.is_ready_after x.tables };
 
     fn known(state: &S, item: &T) -> (MapHash, MapHash) {
-        <Tables<T> as Inserts<T, S>>::known(state, item)
+        let first = <FirstTable<T> as Inserts<T, S>>::known(state, item);
+        let second = <SecondTable<T> as Inserts<T, S>>::known(state, item);
+        (first, second)
     }
 
     fn look_up(
@@ -197,7 +202,10 @@ impl<T: BiHashItem, S: BuildHasher> Inserts<T, S> for BiIndex<T> {
         ix: ItemIndex,
         item: &T,
     ) -> ((), ()) {
-        self.tables.plan(items, state, spot, ix, item)
+        let (first, second) = spot;
+        let first = self.tables.first.plan(items, state, first, ix, item);
+        let second = self.tables.second.plan(items, state, second, ix, item);
+        (first, second)
     }
 
     fn make_room(
@@ -210,7 +218,8 @@ impl<T: BiHashItem, S: BuildHasher> Inserts<T, S> for BiIndex<T> {
     }
 
     fn insert(&mut self, known: (MapHash, MapHash), plan: &((), ()), ix: ItemIndex) {
-        <Tables<T> as Inserts<T, S>>::insert(&mut self.tables, known, plan, ix)
+        <FirstTable<T> as Inserts<T, S>>::insert(&mut self.tables.first, known.0, &plan.0, ix);
+        <SecondTable<T> as Inserts<T, S>>::insert(&mut self.tables.second, known.1, &plan.1, ix);
     }
 
     fn next_reported(conflict: &BiClash, before: Option<ItemIndex>) -> Option<ItemIndex> {
@@ -218,7 +227,9 @@ impl<T: BiHashItem, S: BuildHasher> Inserts<T, S> for BiIndex<T> {
     }
 
     fn spot(&self, items: &ItemSet<T>, state: &S, known: (MapHash, MapHash), item: &T) -> ((), ()) {
-        self.tables.spot(items, state, known, item)
+        let first = self.tables.first.spot(items, state, known.0, item);
+        let second = self.tables.second.spot(items, state, known.1, item);
+        (first, second)
     }
 
     fn ready_after(&mut self, items: &ItemSet<T>, state: &S) -> Result<(), AllocError> {
@@ -226,7 +237,8 @@ impl<T: BiHashItem, S: BuildHasher> Inserts<T, S> for BiIndex<T> {
     }
 
     fn give_way(&mut self, items: &ItemSet<T>, state: &S, ix: ItemIndex) {
-        self.tables.give_way(items, state, ix)
+        self.tables.first.give_way(items, state, ix);
+        self.tables.second.give_way(items, state, ix);
     }
 
     ghost same_plans = { λ x y state s item plan same is. is };
@@ -234,15 +246,18 @@ impl<T: BiHashItem, S: BuildHasher> Inserts<T, S> for BiIndex<T> {
 
 impl<T: BiHashItem, S: BuildHasher> Removes<T, S> for BiIndex<T> {
     fn remove(&mut self, items: &ItemSet<T>, state: &S, ix: ItemIndex) {
-        self.tables.remove(items, state, ix)
+        self.tables.first.remove(items, state, ix);
+        self.tables.second.remove(items, state, ix);
     }
 
     fn clear(&mut self) {
-        <Tables<T> as Removes<T, S>>::clear(&mut self.tables)
+        <FirstTable<T> as Removes<T, S>>::clear(&mut self.tables.first);
+        <SecondTable<T> as Removes<T, S>>::clear(&mut self.tables.second);
     }
 
     fn remap(&mut self, remap: &IndexRemap) {
-        <Tables<T> as Removes<T, S>>::remap(&mut self.tables, remap)
+        <FirstTable<T> as Removes<T, S>>::remap(&mut self.tables.first, remap);
+        <SecondTable<T> as Removes<T, S>>::remap(&mut self.tables.second, remap);
     }
 }
 
@@ -283,7 +298,12 @@ impl<T: BiHashItem, S: BuildHasher> Moves<T, S> for BiIndex<T> {
         ix: ItemIndex,
         item: &T,
     ) {
-        self.tables.commit_move(items, state, asked, plan, ix, item)
+        self.tables
+            .first
+            .commit_move(items, state, asked.0, &plan.0, ix, item);
+        self.tables
+            .second
+            .commit_move(items, state, asked.1, &plan.1, ix, item);
     }
 }
 
@@ -295,7 +315,8 @@ impl<T: BiHashItem, S: BuildHasher> Checks<T, S> for BiIndex<T> {
     }
 
     fn is_same(item: &T, other: &T) -> bool {
-        <Tables<T> as Checks<T, S>>::is_same(item, other)
+        <FirstTable<T> as Checks<T, S>>::is_same(item, other)
+            && <SecondTable<T> as Checks<T, S>>::is_same(item, other)
     }
 
     fn validate(
@@ -331,7 +352,7 @@ impl<T: BiHashItem, S: BuildHasher> HashedAt<First, T, S> for BiIndex<T> {
         state: &S,
         query: Q,
     ) -> Option<ItemIndex> {
-        <Tables<T> as HashedAt<Left<Here>, T, S>>::find(&self.tables, items, state, query)
+        self.tables.first.find(items, state, query)
     }
 }
 
@@ -342,7 +363,9 @@ impl<T: BiHashItem, S: BuildHasher> TakesAt<First, T, S> for BiIndex<T> {
         state: &S,
         query: Q,
     ) -> Option<ItemIndex> {
-        <Tables<T> as TakesAt<Left<Here>, T, S>>::take(&mut self.tables, items, state, query)
+        let found = self.tables.first.take(items, state, query)?;
+        self.tables.second.remove(items, state, found);
+        Some(found)
     }
 }
 
@@ -353,12 +376,8 @@ impl<T: BiHashItem, S: BuildHasher> FindsWithHashAt<First, T, S> for BiIndex<T> 
         state: &S,
         query: Q,
     ) -> (Option<ItemIndex>, (Option<MapHash>, Option<MapHash>)) {
-        <Tables<T> as FindsWithHashAt<Left<Here>, T, S>>::find_with_hash(
-            &self.tables,
-            items,
-            state,
-            query,
-        )
+        let (found, asked) = self.tables.first.find_with_hash(items, state, query);
+        (found, (asked, None))
     }
 }
 
@@ -373,7 +392,7 @@ impl<T: BiHashItem, S: BuildHasher> HashedAt<Second, T, S> for BiIndex<T> {
         state: &S,
         query: Q,
     ) -> Option<ItemIndex> {
-        <Tables<T> as HashedAt<Right<Here>, T, S>>::find(&self.tables, items, state, query)
+        self.tables.second.find(items, state, query)
     }
 }
 
@@ -384,7 +403,9 @@ impl<T: BiHashItem, S: BuildHasher> TakesAt<Second, T, S> for BiIndex<T> {
         state: &S,
         query: Q,
     ) -> Option<ItemIndex> {
-        <Tables<T> as TakesAt<Right<Here>, T, S>>::take(&mut self.tables, items, state, query)
+        let found = self.tables.second.take(items, state, query)?;
+        self.tables.first.remove(items, state, found);
+        Some(found)
     }
 }
 
@@ -395,11 +416,7 @@ impl<T: BiHashItem, S: BuildHasher> FindsWithHashAt<Second, T, S> for BiIndex<T>
         state: &S,
         query: Q,
     ) -> (Option<ItemIndex>, (Option<MapHash>, Option<MapHash>)) {
-        <Tables<T> as FindsWithHashAt<Right<Here>, T, S>>::find_with_hash(
-            &self.tables,
-            items,
-            state,
-            query,
-        )
+        let (found, asked) = self.tables.second.find_with_hash(items, state, query);
+        (found, (None, asked))
     }
 }

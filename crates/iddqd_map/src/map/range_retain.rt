@@ -4,11 +4,10 @@
 //! removed, so no list of indexes is kept and no memory is taken.
 ghost use Rattle.std.specs.Prelude.{◌≡◌, ◌≤◌, ◌+◌, true, false, Some};
 ghost use Rattle.std.specs.Fn.{TakesAt, CalledAt};
-ghost use Rattle.std.specs.Range.Bound.{bound_map};
 ghost use Rattle.iddqd.specs.{get, live_count, removed};
 ghost use Rattle.iddqd.specs.LiveItems.{live_items};
 ghost use Rattle.iddqd_hash.specs.Asks.{CanAsk};
-ghost use Rattle.iddqd_keys.specs.OrderedQuery.{is_between, is_equal};
+ghost use Rattle.iddqd_keys.specs.OrderedQuery.{is_equal, is_within};
 ghost use Rattle.iddqd_keys.specs.Scan.{IsLive, passes_by};
 ghost use Rattle.iddqd_map.specs.KeyIndex.{IsIndexed};
 ghost use Rattle.iddqd_map.specs.Map.{room};
@@ -42,10 +41,10 @@ impl<T, X: KeyIndex<T, S>, S> Map<T, X, S> {
         X: NextAt<P, T, S> + Removes<T, S>,
         Q: OrdQuery<X::Key>,
         requires { MayAsk (TakesAt F.FnMut) (CalledAt F.FnMut) f (live_items self.old.store) }
-        ensures asked { let within = is_between (bound_map Q.compare lower) (bound_map Q.compare upper) in
+        ensures asked { let within = is_within Q.compare lower upper in
             (last : F) × RetainsWithin X.key_at X.Key.cmp within (CalledAt F.FnMut) f self.old.store self.new.store
             last }
-        ensures others { let within = is_between (bound_map Q.compare lower) (bound_map Q.compare upper) in
+        ensures others { let within = is_within Q.compare lower upper in
             KeepsMisses self.old.store (passes_by X.key_at within) self.new.store }
         ensures memory { self.new.memory ≡ self.old.memory }
         ensures room { room self.old ≤ room self.new }
@@ -100,9 +99,9 @@ where
     requires indexed { IsIndexed (X.indexes indexes.old) state.now items.old.store }
     requires can_ask { CanAsk (TakesAt F.FnMut) (CalledAt F.FnMut) f.old (live_items items.old.store) }
     ensures indexed { IsIndexed (X.indexes indexes.new) state.now items.new.store }
-    ensures asked { let within = is_between (bound_map Q.compare lower) (bound_map Q.compare upper) in
+    ensures asked { let within = is_within Q.compare lower upper in
         RetainsWithin X.key_at X.Key.cmp within (CalledAt F.FnMut) f.old items.old.store items.new.store f.new }
-    ensures others { let within = is_between (bound_map Q.compare lower) (bound_map Q.compare upper) in
+    ensures others { let within = is_within Q.compare lower upper in
         KeepsMisses items.old.store (passes_by X.key_at within) items.new.store }
     ensures fewer { live_count items.new.store ≤ live_count items.old.store }
     ensures limit { items.new.store.limit ≡ items.old.store.limit }

@@ -2,12 +2,10 @@
 //!
 //! Each item is found by one search of that order, and removed once from each key index. No memory is taken.
 ghost use Rattle.std.specs.Prelude.{◌≡◌, ◌≤◌, ◌+◌, Bool};
-ghost use Rattle.std.specs.Range.Bound.{bound_map};
 ghost use Rattle.iddqd.specs.{live_count};
 ghost use Rattle.iddqd.specs.LiveItems.{live_items};
 ghost use Rattle.iddqd_hash.specs.Asks.{CanAsk};
-ghost use Rattle.iddqd_keys.specs.OrderedQuery.{is_equal};
-ghost use Rattle.iddqd_keys.specs.OrderedQuery.{is_between};
+ghost use Rattle.iddqd_keys.specs.OrderedQuery.{is_equal, is_within};
 ghost use Rattle.iddqd_keys.specs.Scan.{passes_by};
 ghost use Rattle.iddqd_map.specs.KeyIndex.{IsIndexed};
 ghost use Rattle.iddqd_map.specs.Map.{room};
@@ -35,9 +33,9 @@ impl<T, X: KeyIndex<T, S>, S> Map<T, X, S> {
         X: OrderedAt<P, T, S> + Removes<T, S>,
         Q: OrdQuery<X::Key>,
         requires { MayGive F.FnMut f (live_items self.old.store) }
-        ensures left { let within = is_between (bound_map Q.compare lower) (bound_map Q.compare upper) in
+        ensures left { let within = is_within Q.compare lower upper in
             LeavesOthers self.old.store (passes_by X.key_at within) self.new.store }
-        ensures handed { let within = is_between (bound_map Q.compare lower) (bound_map Q.compare upper) in
+        ensures handed { let within = is_within Q.compare lower upper in
             (last : F) × RemovesAlong X.key_at X.Key.cmp within (GivesItem F.FnMut) f self.old.store self.new.store
             last }
         ensures memory { self.new.memory ≡ self.old.memory }
@@ -92,9 +90,9 @@ where
     requires can_give { CanAsk (TakesItem F.FnMut) (λ p x (b : Bool) q. GivesItem F.FnMut p x q) f.old
         (live_items items.old.store) }
     ensures indexed { IsIndexed (X.indexes indexes.new) state.now items.new.store }
-    ensures left { let within = is_between (bound_map Q.compare lower) (bound_map Q.compare upper) in
+    ensures left { let within = is_within Q.compare lower upper in
         LeavesOthers items.old.store (passes_by X.key_at within) items.new.store }
-    ensures handed { let within = is_between (bound_map Q.compare lower) (bound_map Q.compare upper) in
+    ensures handed { let within = is_within Q.compare lower upper in
         RemovesAlong X.key_at X.Key.cmp within (GivesItem F.FnMut) f.old items.old.store items.new.store f.new }
     ensures fewer { live_count items.new.store ≤ live_count items.old.store }
     ensures limit { items.new.store.limit ≡ items.old.store.limit }

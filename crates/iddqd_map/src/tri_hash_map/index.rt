@@ -1,7 +1,8 @@
 //! The key index of a map whose items have three keys: a table by each of them.
 //!
-//! It forwards each call to two nested pairs of tables. A caller's proof sees three keys, and neither the pairs nor the
-//! tables: each of these would cost proof time in every function that calls the map.
+//! A look-up by one key goes to the table by that key, and a call that can't fail to each of the three. The others go to
+//! two nested pairs, which put the tables' answers together. A caller's proof sees three keys, and neither the pairs nor
+//! the tables: each of these would cost proof time in every function that calls the map.
 use super::clash::TriClash;
 use super::item::{First, Second, Third, TriHashItem};
 use crate::by_hash::ByHash;
@@ -20,11 +21,13 @@ use iddqd_keys::hash_query::HashQuery;
 use std::alloc::{AllocError, Global};
 use std::hash::BuildHasher;
 
-type Tables<T> = Pair<
-    ByHash<First, <T as TriHashItem>::Key1>,
-    Pair<ByHash<Second, <T as TriHashItem>::Key2>, ByHash<Third, <T as TriHashItem>::Key3>>,
-    TriClash,
->;
+type FirstTable<T> = ByHash<First, <T as TriHashItem>::Key1>;
+
+type SecondTable<T> = ByHash<Second, <T as TriHashItem>::Key2>;
+
+type ThirdTable<T> = ByHash<Third, <T as TriHashItem>::Key3>;
+
+type Tables<T> = Pair<FirstTable<T>, Pair<SecondTable<T>, ThirdTable<T>>, TriClash>;
 
 /// A table by each of the three keys.
 #[derive(Drop)]
@@ -86,7 +89,7 @@ impl<T: TriHashItem, S: BuildHasher> KeyIndex<T, S> for TriIndex<T> {
     ghost reports = { λ at. IsOfThree at.key1 at.key2 at.key3 };
 
     fn no_hashes() -> (Option<MapHash>, (Option<MapHash>, Option<MapHash>)) {
-        <Tables<T> as KeyIndex<T, S>>::no_hashes()
+        (None, (None, None))
     }
 
     ghost kept_none = { refl };
@@ -153,7 +156,10 @@ impl<T: TriHashItem, S: BuildHasher> KeyIndex<T, S> for TriIndex<T> {
 
 impl<T: TriHashItem, S: BuildHasher> Sizes<T, S> for TriIndex<T> {
     fn capacity(&self) -> usize {
-        <Tables<T> as Sizes<T, S>>::capacity(&self.tables)
+        let first = <FirstTable<T> as Sizes<T, S>>::capacity(&self.tables.first);
+        let second = <SecondTable<T> as Sizes<T, S>>::capacity(&self.tables.second.first);
+        let third = <ThirdTable<T> as Sizes<T, S>>::capacity(&self.tables.second.second);
+        first.min(second.min(third))
     }
 
     fn new(alloc: Global) -> TriIndex<T> {
@@ -200,7 +206,10 @@ impl<T: TriHashItem, S: BuildHasher> Inserts<T, S> for TriIndex<T> {
     ghost is_ready_after = { λ x. ⟦<Tables<T> as Inserts<T, S>>⟧.is_ready_after x.tables };
 
     fn known(state: &S, item: &T) -> (MapHash, (MapHash, MapHash)) {
-        <Tables<T> as Inserts<T, S>>::known(state, item)
+        let first = <FirstTable<T> as Inserts<T, S>>::known(state, item);
+        let second = <SecondTable<T> as Inserts<T, S>>::known(state, item);
+        let third = <ThirdTable<T> as Inserts<T, S>>::known(state, item);
+        (first, (second, third))
     }
 
     fn look_up(
@@ -221,7 +230,19 @@ impl<T: TriHashItem, S: BuildHasher> Inserts<T, S> for TriIndex<T> {
         ix: ItemIndex,
         item: &T,
     ) -> ((), ((), ())) {
-        self.tables.plan(items, state, spot, ix, item)
+        let (first, (second, third)) = spot;
+        let first = self.tables.first.plan(items, state, first, ix, item);
+        let second = self
+            .tables
+            .second
+            .first
+            .plan(items, state, second, ix, item);
+        let third = self
+            .tables
+            .second
+            .second
+            .plan(items, state, third, ix, item);
+        (first, (second, third))
     }
 
     fn make_room(
@@ -239,7 +260,19 @@ impl<T: TriHashItem, S: BuildHasher> Inserts<T, S> for TriIndex<T> {
         plan: &((), ((), ())),
         ix: ItemIndex,
     ) {
-        <Tables<T> as Inserts<T, S>>::insert(&mut self.tables, known, plan, ix)
+        <FirstTable<T> as Inserts<T, S>>::insert(&mut self.tables.first, known.0, &plan.0, ix);
+        <SecondTable<T> as Inserts<T, S>>::insert(
+            &mut self.tables.second.first,
+            known.1.0,
+            &plan.1.0,
+            ix,
+        );
+        <ThirdTable<T> as Inserts<T, S>>::insert(
+            &mut self.tables.second.second,
+            known.1.1,
+            &plan.1.1,
+            ix,
+        );
     }
 
     fn next_reported(conflict: &TriClash, before: Option<ItemIndex>) -> Option<ItemIndex> {
@@ -253,7 +286,14 @@ impl<T: TriHashItem, S: BuildHasher> Inserts<T, S> for TriIndex<T> {
         known: (MapHash, (MapHash, MapHash)),
         item: &T,
     ) -> ((), ((), ())) {
-        self.tables.spot(items, state, known, item)
+        let first = self.tables.first.spot(items, state, known.0, item);
+        let second = self.tables.second.first.spot(items, state, known.1.0, item);
+        let third = self
+            .tables
+            .second
+            .second
+            .spot(items, state, known.1.1, item);
+        (first, (second, third))
     }
 
     fn ready_after(&mut self, items: &ItemSet<T>, state: &S) -> Result<(), AllocError> {
@@ -261,7 +301,9 @@ impl<T: TriHashItem, S: BuildHasher> Inserts<T, S> for TriIndex<T> {
     }
 
     fn give_way(&mut self, items: &ItemSet<T>, state: &S, ix: ItemIndex) {
-        self.tables.give_way(items, state, ix)
+        self.tables.first.give_way(items, state, ix);
+        self.tables.second.first.give_way(items, state, ix);
+        self.tables.second.second.give_way(items, state, ix);
     }
 
     ghost same_plans = { λ x y state s item plan same is. is };
@@ -269,15 +311,21 @@ impl<T: TriHashItem, S: BuildHasher> Inserts<T, S> for TriIndex<T> {
 
 impl<T: TriHashItem, S: BuildHasher> Removes<T, S> for TriIndex<T> {
     fn remove(&mut self, items: &ItemSet<T>, state: &S, ix: ItemIndex) {
-        self.tables.remove(items, state, ix)
+        self.tables.first.remove(items, state, ix);
+        self.tables.second.first.remove(items, state, ix);
+        self.tables.second.second.remove(items, state, ix);
     }
 
     fn clear(&mut self) {
-        <Tables<T> as Removes<T, S>>::clear(&mut self.tables)
+        <FirstTable<T> as Removes<T, S>>::clear(&mut self.tables.first);
+        <SecondTable<T> as Removes<T, S>>::clear(&mut self.tables.second.first);
+        <ThirdTable<T> as Removes<T, S>>::clear(&mut self.tables.second.second);
     }
 
     fn remap(&mut self, remap: &IndexRemap) {
-        <Tables<T> as Removes<T, S>>::remap(&mut self.tables, remap)
+        <FirstTable<T> as Removes<T, S>>::remap(&mut self.tables.first, remap);
+        <SecondTable<T> as Removes<T, S>>::remap(&mut self.tables.second.first, remap);
+        <ThirdTable<T> as Removes<T, S>>::remap(&mut self.tables.second.second, remap);
     }
 }
 
@@ -318,7 +366,17 @@ impl<T: TriHashItem, S: BuildHasher> Moves<T, S> for TriIndex<T> {
         ix: ItemIndex,
         item: &T,
     ) {
-        self.tables.commit_move(items, state, asked, plan, ix, item)
+        self.tables
+            .first
+            .commit_move(items, state, asked.0, &plan.0, ix, item);
+        self.tables
+            .second
+            .first
+            .commit_move(items, state, asked.1.0, &plan.1.0, ix, item);
+        self.tables
+            .second
+            .second
+            .commit_move(items, state, asked.1.1, &plan.1.1, ix, item);
     }
 }
 
@@ -330,7 +388,9 @@ impl<T: TriHashItem, S: BuildHasher> Checks<T, S> for TriIndex<T> {
     }
 
     fn is_same(item: &T, other: &T) -> bool {
-        <Tables<T> as Checks<T, S>>::is_same(item, other)
+        <FirstTable<T> as Checks<T, S>>::is_same(item, other)
+            && <SecondTable<T> as Checks<T, S>>::is_same(item, other)
+            && <ThirdTable<T> as Checks<T, S>>::is_same(item, other)
     }
 
     fn validate(
@@ -368,7 +428,7 @@ impl<T: TriHashItem, S: BuildHasher> HashedAt<First, T, S> for TriIndex<T> {
         state: &S,
         query: Q,
     ) -> Option<ItemIndex> {
-        <Tables<T> as HashedAt<Left<Here>, T, S>>::find(&self.tables, items, state, query)
+        self.tables.first.find(items, state, query)
     }
 }
 
@@ -379,7 +439,10 @@ impl<T: TriHashItem, S: BuildHasher> TakesAt<First, T, S> for TriIndex<T> {
         state: &S,
         query: Q,
     ) -> Option<ItemIndex> {
-        <Tables<T> as TakesAt<Left<Here>, T, S>>::take(&mut self.tables, items, state, query)
+        let found = self.tables.first.take(items, state, query)?;
+        self.tables.second.first.remove(items, state, found);
+        self.tables.second.second.remove(items, state, found);
+        Some(found)
     }
 }
 
@@ -393,12 +456,8 @@ impl<T: TriHashItem, S: BuildHasher> FindsWithHashAt<First, T, S> for TriIndex<T
         Option<ItemIndex>,
         (Option<MapHash>, (Option<MapHash>, Option<MapHash>)),
     ) {
-        <Tables<T> as FindsWithHashAt<Left<Here>, T, S>>::find_with_hash(
-            &self.tables,
-            items,
-            state,
-            query,
-        )
+        let (found, asked) = self.tables.first.find_with_hash(items, state, query);
+        (found, (asked, (None, None)))
     }
 }
 
@@ -413,7 +472,7 @@ impl<T: TriHashItem, S: BuildHasher> HashedAt<Second, T, S> for TriIndex<T> {
         state: &S,
         query: Q,
     ) -> Option<ItemIndex> {
-        <Tables<T> as HashedAt<Right<Left<Here>>, T, S>>::find(&self.tables, items, state, query)
+        self.tables.second.first.find(items, state, query)
     }
 }
 
@@ -424,7 +483,10 @@ impl<T: TriHashItem, S: BuildHasher> TakesAt<Second, T, S> for TriIndex<T> {
         state: &S,
         query: Q,
     ) -> Option<ItemIndex> {
-        <Tables<T> as TakesAt<Right<Left<Here>>, T, S>>::take(&mut self.tables, items, state, query)
+        let found = self.tables.second.first.take(items, state, query)?;
+        self.tables.first.remove(items, state, found);
+        self.tables.second.second.remove(items, state, found);
+        Some(found)
     }
 }
 
@@ -438,12 +500,8 @@ impl<T: TriHashItem, S: BuildHasher> FindsWithHashAt<Second, T, S> for TriIndex<
         Option<ItemIndex>,
         (Option<MapHash>, (Option<MapHash>, Option<MapHash>)),
     ) {
-        <Tables<T> as FindsWithHashAt<Right<Left<Here>>, T, S>>::find_with_hash(
-            &self.tables,
-            items,
-            state,
-            query,
-        )
+        let (found, asked) = self.tables.second.first.find_with_hash(items, state, query);
+        (found, (None, (asked, None)))
     }
 }
 
@@ -458,7 +516,7 @@ impl<T: TriHashItem, S: BuildHasher> HashedAt<Third, T, S> for TriIndex<T> {
         state: &S,
         query: Q,
     ) -> Option<ItemIndex> {
-        <Tables<T> as HashedAt<Right<Right<Here>>, T, S>>::find(&self.tables, items, state, query)
+        self.tables.second.second.find(items, state, query)
     }
 }
 
@@ -469,12 +527,10 @@ impl<T: TriHashItem, S: BuildHasher> TakesAt<Third, T, S> for TriIndex<T> {
         state: &S,
         query: Q,
     ) -> Option<ItemIndex> {
-        <Tables<T> as TakesAt<Right<Right<Here>>, T, S>>::take(
-            &mut self.tables,
-            items,
-            state,
-            query,
-        )
+        let found = self.tables.second.second.take(items, state, query)?;
+        self.tables.first.remove(items, state, found);
+        self.tables.second.first.remove(items, state, found);
+        Some(found)
     }
 }
 
@@ -488,11 +544,11 @@ impl<T: TriHashItem, S: BuildHasher> FindsWithHashAt<Third, T, S> for TriIndex<T
         Option<ItemIndex>,
         (Option<MapHash>, (Option<MapHash>, Option<MapHash>)),
     ) {
-        <Tables<T> as FindsWithHashAt<Right<Right<Here>>, T, S>>::find_with_hash(
-            &self.tables,
-            items,
-            state,
-            query,
-        )
+        let (found, asked) = self
+            .tables
+            .second
+            .second
+            .find_with_hash(items, state, query);
+        (found, (None, (None, asked)))
     }
 }

@@ -7,7 +7,7 @@ use super::{IdOrdItem, IdOrdMap};
 use iddqd::internal::{ValidateCompact, ValidateRefusal, ValidationError};
 
 impl<T: IdOrdItem> IdOrdMap<T> {
-    /// Whether store and table are sound, as they are in every map; in `Compact`, whether no slot is vacant.
+    /// Whether store and table are sound, as they are in every map; for `Compact`, whether no slot is vacant.
     ///
     /// It sorts a copy of the indexes, for which memory may run out.
     pub fn validate(

@@ -25,11 +25,11 @@ pub struct IntoValues<T> {
 impl<T> Model for IntoValues<T> {
     ghost use Rattle.std.specs.Prelude.{List};
     ghost use Rattle.iddqd_order.specs.IntoIter.{indexes_to_come};
-    ghost use Rattle.iddqd_ord_map.specs.Pairs.{items_at, AreThere};
+    ghost use Rattle.iddqd_ord_map.specs.Pairs.{items_of_slots, AreThere};
 
     ghost Value = { List T };
 
-    ghost view = { λ it. items_at it.items (indexes_to_come it.indexes) };
+    ghost view = { λ it. items_of_slots it.items (indexes_to_come it.indexes) };
 
     ghost invariant = { λ it. AreThere it.items (indexes_to_come it.indexes) };
 }

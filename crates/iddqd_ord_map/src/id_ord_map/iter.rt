@@ -29,7 +29,7 @@ impl<'a, T> Model for Iter<'a, T> {
     ghost use Rattle.std.specs.Prelude.{ℕ, List};
     ghost use Rattle.iddqd_order.specs.Iter.{indexes_left};
     ghost use Rattle.iddqd_by_order.specs.Ordered.{AreLive};
-    ghost use Rattle.iddqd_ord_map.specs.Pairs.{pairs_at};
+    ghost use Rattle.iddqd_keys.specs.KeyWalk.{pairs_at};
 
     ghost Value = { List (ℕ × T) };
 

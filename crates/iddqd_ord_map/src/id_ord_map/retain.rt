@@ -13,7 +13,7 @@ ghost use Rattle.iddqd_order.specs.MapBTreeTable.{order_of, capacity};
 ghost use Rattle.iddqd_by_order.specs.Ordered.{Holds};
 ghost use Rattle.iddqd_ord_map.specs.OrderedIndexing.{Sorts};
 ghost use Rattle.iddqd_ord_map.specs.KeyOrder.{IsKeyWalk};
-ghost use Rattle.iddqd_ord_map.specs.Pairs.{pairs_at};
+ghost use Rattle.iddqd_keys.specs.KeyWalk.{pairs_at};
 ghost use Rattle.iddqd_ord_map.specs.Retain.{RetainsAlong, RetainsAlongTo};
 
 use super::iter::item_at;

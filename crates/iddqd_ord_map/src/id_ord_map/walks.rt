@@ -1,9 +1,8 @@
 //! Iterators over a map in the order of the keys, and the items at its ends. They take no memory.
 ghost use Rattle.std.specs.Prelude.{◌≡◌, length, option_copied};
-ghost use Rattle.std.specs.Range.Bound.{bound_map};
 ghost use Rattle.std.specs.declared.cmp.Ordering.TheVariants.{Less, Greater};
 ghost use Rattle.iddqd.specs.{live_count};
-ghost use Rattle.iddqd_keys.specs.OrderedQuery.{is_between};
+ghost use Rattle.iddqd_keys.specs.OrderedQuery.{is_within};
 ghost use Rattle.iddqd_ord_map.specs.ByOrder.{FindsGreatest, FindsLeast};
 ghost use Rattle.iddqd_ord_map.specs.KeyOrder.{AreInKeyOrder, FindsEnd, IsKeyWalk, IsWalkWithin, PopsEnd};
 
@@ -52,7 +51,7 @@ impl<T: IdOrdItem> IdOrdMap<T> {
     ///
     /// Each query is compared with at most 4 + 2d keys, where the number of items has d binary digits.
     pub fn range<Q: OrdQuery<T::Key>>(&self, lower: Bound<Q>, upper: Bound<Q>) -> Range<'_, T>
-        ensures { let within = is_between (bound_map Q.compare lower) (bound_map Q.compare upper) in
+        ensures { let within = is_within Q.compare lower upper in
             IsWalkWithin T.key_of T.Key.cmp within self.now.store result }
     {
         let (items, table) = self.parts();

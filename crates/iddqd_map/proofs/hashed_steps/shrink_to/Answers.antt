@@ -6,8 +6,8 @@ use Rattle.iddqd_hash.specs.Sizes.{most_cells}
 use Rattle.iddqd_by_hash.proofs.HashedCountLemmas.{len-held}
 use Rattle.iddqd_map.proofs.hashed_steps.shrink_to.Goals as goal
 
-pub returns-clause-capacity_stays : goal.returns-clause-capacity_stays
-returns-clause-capacity_stays g c =
+pub returns-clause-capacity_at_least : goal.returns-clause-capacity_at_least
+returns-clause-capacity_at_least g c =
     let m = filed c.args.table.now in
     let counted = len-held c.args.items.now.store m c.requires in
     subst (λ n. min (capacity c.args.table.now) (max c.args.least n) ≤ capacity c.shrink_to.new.self) counted c.shrink_to.ensures.capacity

@@ -4,11 +4,11 @@ use Rattle.iddqd_by_hash.specs.LinkedTable.{kept_linked}
 use Rattle.iddqd_by_hash.proofs.HashedCountLemmas.{len-held}
 use Rattle.iddqd_map.proofs.linked_steps.shrink_to.Goals as goal
 
-pub returns-clause-capacity_stays : goal.returns-clause-capacity_stays
-returns-clause-capacity_stays g c =
+pub returns-clause-capacity_at_least : goal.returns-clause-capacity_at_least
+returns-clause-capacity_at_least g c =
     let counted = len-held c.args.items.now.store c.args.table.now.filed c.requires.held in
     subst (λ n. min c.args.table.now.capacity (max c.args.least n) ≤ c.shrink_to.new.self.capacity) counted
-    c.shrink_to.ensures.capacity_stays
+    c.shrink_to.ensures.capacity_at_least
 
 pub returns-clause-shrunk : goal.returns-clause-shrunk
 returns-clause-shrunk g c =

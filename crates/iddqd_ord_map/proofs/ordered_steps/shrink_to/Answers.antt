@@ -6,8 +6,8 @@ use Rattle.iddqd_by_order.proofs.OrderedCountLemmas.{length-held}
 use Rattle.iddqd_ord_map.proofs.SizeLemmas.{enough, shrunk-enough, shrunk-few}
 use Rattle.iddqd_ord_map.proofs.ordered_steps.shrink_to.Goals as goal
 
-pub returns-then-indexes-saturating_sub-clause-capacity_stays : goal.returns-then-indexes-saturating_sub-clause-capacity_stays
-returns-then-indexes-saturating_sub-clause-capacity_stays g c =
+pub returns-then-indexes-saturating_sub-clause-capacity_at_least : goal.returns-then-indexes-saturating_sub-clause-capacity_at_least
+returns-then-indexes-saturating_sub-clause-capacity_at_least g c =
     let old = c.args.table.now in
     let len = live_count c.args.items.now.store in
     let held = length-held c.args.items.now.store (order_of old) c.requires in

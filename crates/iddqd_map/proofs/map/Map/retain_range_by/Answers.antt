@@ -23,3 +23,6 @@ returns-clause-room g c =
 pub returns-clause-count : goal.returns-clause-count
 returns-clause-count g c =
     rw (← c.self.view_is) (omega (arith, c.retain_within.ensures.fewer, c.len.ensures, c.len-before.ensures))
+
+pub returns-clause-others : goal.returns-clause-others
+returns-clause-others g c = rw (← c.self.view_is) c.retain_within.ensures.others

@@ -4,9 +4,10 @@ use Rattle.iddqd_order.specs.IntoIter.{indexes_to_come}
 use Rattle.iddqd_order.specs.MapBTreeTable.{order_of}
 use Rattle.iddqd_by_order.proofs.OrderedCountLemmas.{length-held}
 use Rattle.iddqd_map.specs.Map.{MapState}
-use Rattle.iddqd_ord_map.specs.Pairs.{pairs_at, AreThere}
+use Rattle.iddqd_keys.specs.KeyWalk.{pairs_at}
+use Rattle.iddqd_ord_map.specs.Pairs.{AreThere}
 use Rattle.iddqd_ord_map.proofs.WalkLemmas.{SortsWithin-all, IsWalkWithin-sorted, items_of_pairs}
-use Rattle.iddqd_ord_map.proofs.TakeLemmas.{AreThere-listed, length-items_at}
+use Rattle.iddqd_ord_map.proofs.TakeLemmas.{AreThere-listed, length-items_of_slots}
 use Rattle.iddqd_ord_map.proofs.id_ord_map.IdOrdMap.into_values.Goals as goal
 
 pub invariant_of-result : goal.invariant_of-result
@@ -28,5 +29,5 @@ returns-clause-len g c =
     let there : AreThere c.into_consuming.result (indexes_to_come c.into_iter.result) =
     rw (c.into_consuming.ensures, c.into_iter.ensures.to_come) (AreThere-listed c.into_parts-items.result.0.store (order_of c.into_parts-items.result.1.table) c.into_parts-items.ensures.indexed.held) in
     let order = order_of c.into_parts-items.result.1.table in
-    length-items_at c.into_consuming.result (indexes_to_come c.into_iter.result) there.each ∙ ap length c.into_iter.ensures.to_come
+    length-items_of_slots c.into_consuming.result (indexes_to_come c.into_iter.result) there.each ∙ ap length c.into_iter.ensures.to_come
     ∙ length-held c.into_parts-items.result.0.store order c.into_parts-items.ensures.indexed.held ∙ ap (λ (m : MapState _). live_count m.store) (c.into_parts-items.ensures.map ∙ c.self.view_is)

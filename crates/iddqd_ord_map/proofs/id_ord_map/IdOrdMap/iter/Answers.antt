@@ -5,7 +5,7 @@ use Rattle.iddqd_order.specs.MapBTreeTable.{order_of}
 use Rattle.iddqd_by_order.specs.OrderedWalk.{SortsWithin}
 use Rattle.iddqd_by_order.proofs.OrderedCountLemmas.{length-held}
 use Rattle.iddqd_ord_map.specs.KeyOrder.{IsWalkWithin}
-use Rattle.iddqd_ord_map.specs.Pairs.{pairs_at}
+use Rattle.iddqd_keys.specs.KeyWalk.{pairs_at}
 use Rattle.iddqd_ord_map.proofs.WalkLemmas.{SortsWithin-all, AreLive-within, IsWalkWithin-sorted, length-pairs_at}
 use Rattle.iddqd_ord_map.proofs.id_ord_map.IdOrdMap.iter.Goals as goal
 use Rattle.iddqd_ord_map.proofs.id_ord_map.IdOrdMap.iter.Goals.{After-iter}

@@ -1,7 +1,7 @@
 use Rattle.std.proofs.Common.{◌∙◌, rules, sym}
 use Rattle.iddqd_order.specs.IntoIter.{indexes_to_come}
-use Rattle.iddqd_ord_map.specs.Pairs.{items_at}
-use Rattle.iddqd_ord_map.proofs.TakeLemmas.{AreThere-none, Took-back, items_at-back, there_back, items_at-fewer}
+use Rattle.iddqd_ord_map.specs.Pairs.{items_of_slots}
+use Rattle.iddqd_ord_map.proofs.TakeLemmas.{AreThere-none, Took-back, items_of_slots-back, there_back, items_of_slots-fewer}
 use Rattle.iddqd_ord_map.proofs.id_ord_map.into_values.IntoValuesDoubleEndedIterator.next_back.Goals as goal
 
 pub invariant_of-self : goal.invariant_of-self
@@ -19,11 +19,11 @@ invariant_of-self-2 g c =
 pub returns-clause-steps : goal.returns-clause-steps
 returns-clause-steps g c =
     sym c.self.view_is
-    ∙ items_at-back c.self.inside.items c.take_at.new.items c.in_ok-ix.ix (indexes_to_come c.next_back.new.self) c.take_at.ensures.others (indexes_to_come c.self.inside.indexes) c.take_at.result c.in_ok-ix.ensures.steps c.self.invariant c.take_at.ensures.item
+    ∙ items_of_slots-back c.self.inside.items c.take_at.new.items c.in_ok-ix.ix (indexes_to_come c.next_back.new.self) c.take_at.ensures.others (indexes_to_come c.self.inside.indexes) c.take_at.result c.in_ok-ix.ensures.steps c.self.invariant c.take_at.ensures.item
 
 pub returns-clause-goes : goal.returns-clause-goes
 returns-clause-goes g c =
-    let left = items_at c.take_at.new.items (indexes_to_come c.next_back.new.self) in
-    let fewer = items_at-fewer c.args.self.now left c.take_at.result
-    (sym c.self.view_is ∙ items_at-back c.self.inside.items c.take_at.new.items c.in_ok-ix.ix (indexes_to_come c.next_back.new.self) c.take_at.ensures.others (indexes_to_come c.self.inside.indexes) c.take_at.result c.in_ok-ix.ensures.steps c.self.invariant c.take_at.ensures.item) in
+    let left = items_of_slots c.take_at.new.items (indexes_to_come c.next_back.new.self) in
+    let fewer = items_of_slots-fewer c.args.self.now left c.take_at.result
+    (sym c.self.view_is ∙ items_of_slots-back c.self.inside.items c.take_at.new.items c.in_ok-ix.ix (indexes_to_come c.next_back.new.self) c.take_at.ensures.others (indexes_to_come c.self.inside.indexes) c.take_at.result c.in_ok-ix.ensures.steps c.self.invariant c.take_at.ensures.item) in
     search rules
