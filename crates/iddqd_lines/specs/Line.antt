@@ -72,6 +72,11 @@ number_of word =
     then Some (digits_value 10 word)
     else None
 
+-- the number that the first word is, and the words after it
+abbrev pub number_and_rest : List (List ℕ) → Option (ℕ × List (List ℕ))
+number_and_rest [] = None
+number_and_rest (word ∷ words) = option_map (λ n. (n, words)) (number_of word)
+
 -- the numbers that the words are, if each is one
 abbrev pub numbers_of : List (List ℕ) → Option (List ℕ)
 numbers_of [] = Some []

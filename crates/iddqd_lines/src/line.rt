@@ -1,7 +1,8 @@
 //! Lines, read as requests.
 ghost use Rattle.std.specs.Prelude.{◌≡◌, ◌∷◌, []};
 ghost use Rattle.std.specs.List.{slice_split};
-ghost use Rattle.iddqd_lines.specs.Line.{is_space, words_in, number_of, command_for, command_of};
+ghost use Rattle.std.specs.Option.{option_map};
+ghost use Rattle.iddqd_lines.specs.Line.{is_space, words_in, number_and_rest, command_for, command_of};
 ghost use Rattle.iddqd_lines.specs.Line.{record_of, record_commands, index_commands, named, request_of, overwritten_index};
 
 use crate::record::Record;
@@ -51,11 +52,11 @@ fn command_in(line: &[u8]) -> Option<Command<Record>>
     let mut numbers = [0; MAX_NUMBERS];
     let mut count = 0;
     'words: while let Some(words) = behind {
-        let (word, others) = split_word(words);
         if count == MAX_NUMBERS {
             return None;
         }
-        numbers[count] = number(word)?;
+        let (number, others) = split_number(words)?;
+        numbers[count] = number;
         count += 1;
         behind = others;
     }
@@ -164,22 +165,29 @@ fn split_word(words: &[u8]) -> (&[u8], Option<&[u8]>)
     }
 }
 
-// The number that a word is.
-fn number(word: &[u8]) -> Option<u32>
-    ensures { result ≡ number_of word.now }
+// The number that the first word is, and what follows the space after it. It reads the word once.
+fn split_number(words: &[u8]) -> Option<(u32, Option<&[u8]>)>
+    ensures { option_map (λ read. (read.0, words_in read.1)) result
+        ≡ number_and_rest (slice_split is_space words.now) }
 {
-    if word.is_empty() {
-        return None;
-    }
     let mut value = 0;
-    for byte in word {
+    let mut len = 0;
+    'word: while len < words.len() && words[len] != SPACE {
+        let byte = words[len];
         if !byte.is_ascii_digit() {
             return None;
         }
-        value = 10 * value + u64::from(*byte - b'0');
+        value = 10 * value + u64::from(byte - b'0');
         if value > u64::from(u32::MAX) {
             return None;
         }
+        len += 1;
     }
-    Some(value as u32)
+    if len == 0 {
+        return None;
+    }
+    if len == words.len() {
+        return Some((value as u32, None));
+    }
+    Some((value as u32, Some(&words[len + 1..])))
 }
