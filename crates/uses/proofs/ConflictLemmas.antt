@@ -11,10 +11,10 @@ or_true true = refl
 or_true false = refl
 
 module _ {T : Type 0} (alike1 alike2 : T → T → Bool) (s : Store T) (item : T) (j : ℕ) where
-  first_hits : IsHit s (alike1 item) j → IsHit s (either_key alike1 alike2 item) j
+  pub first_hits : IsHit s (alike1 item) j → IsHit s (either_key alike1 alike2 item) j
   first_hits (other, live, passes) = (other, live, rw passes refl)
 
-  second_hits : IsHit s (alike2 item) j → IsHit s (either_key alike1 alike2 item) j
+  pub second_hits : IsHit s (alike2 item) j → IsHit s (either_key alike1 alike2 item) j
   second_hits (other, live, passes) = (other, live, rw passes (or_true (alike1 item other)))
 
 module _ {T C D : Type 0} (alike1 alike2 : T → T → Bool) (s : Store T) (item : T) where

@@ -1,5 +1,8 @@
 -- What calls that remove all items which pass a test leave, or some of them, in the words of a caller.
-use Rattle.std.proofs.Common.{◌≡◌, ◌↔◌, ℕ, Bool, true, false, Some, None, refl}
+use Rattle.std.proofs.Common.{◌≡◌, ◌∙◌, ◌↔◌, inl, inr, ℕ, Bool, true, false, List, [], ◌∷◌, Contains, filter, Option, Some, None, refl, sym, ap, subst, arith, Ordering}
+use Rattle.std.proofs.lemmas.Bool.{cond_both}
+use Rattle.std.proofs.lemmas.List.Elements.{All-contains, All-contains_itself, All-filter, Contains-append_cases, Contains-append_left, Contains-append_right, Contains-push, Contains-push_cases, filter_passes}
+use Rattle.iddqd_maps.specs.KeyOrder.{IsKeyWalk}
 use Rattle.iddqd_maps.specs.Store.{Store, get}
 use Rattle.iddqd_maps.specs.Scan.{passes_by}
 use Rattle.iddqd_maps.specs.RangeRetain.{KeepsMisses}
@@ -48,3 +51,71 @@ module _ {T : Type 0} (old new : Store T) where
             ] refl;
         no_new = vacant_stays old new (passes_by key_of within) others;
       }
+
+-- a filtered list has exactly those that pass
+contained : {X : Type 0} (test : X → Bool) (xs : List X) (x : X) → Contains (filter test xs) x → Contains xs x × (test x ≡ true)
+contained test xs x here = (
+  All-contains (Contains xs) (filter test xs) x (All-filter test (Contains xs) xs (All-contains_itself xs)) here,
+  All-contains (λ y. test y ≡ true) (filter test xs) x (filter_passes test xs) here,
+)
+
+kept : {X : Type 0} (test : X → Bool) (xs : List X) (x : X) → Contains xs x → test x ≡ true → Contains (filter test xs) x
+kept test [] x here passes = here
+kept test (y ∷ xs) x here passes =
+    elim (Contains-append_cases (y ∷ []) xs x here) [
+      | inl first ↦ elim (Contains-push_cases [] y x first) [
+        | inl none ↦ absurd (let within = none.1 in omega arith)
+        | inr same ↦
+            let passes_too : test y ≡ true = ap test same ∙ passes in
+            let head = Contains-append_left (y ∷ []) (filter test xs) y (Contains-push [] y) in
+            rw passes_too (subst (Contains (y ∷ filter test xs)) same head)
+      ]
+      | inr behind ↦
+          let later = kept test xs x behind passes in
+          cond_both (test y) (y ∷ filter test xs) (filter test xs) (λ l. Contains l x)
+          (λ _. Contains-append_right (y ∷ []) (filter test xs) x later)
+          (λ _. later)
+    ]
+
+-- of the items along a walk in order those stay that pass a test
+module _ {T K : Type 0} (key_of : T → K) (compare : K → K → Ordering) (old new : Store T) (test : T → Bool)
+    (walk : List (ℕ × T))
+    (before : IsKeyWalk key_of compare old walk)
+    (after : IsKeyWalk key_of compare new (filter (λ p. test p.1) walk))
+  where
+    pub walked : (ix : ℕ) (item : T) → (get new ix ≡ Some item) ↔ ((get old ix ≡ Some item) × (test item ≡ true))
+    walked ix item = (
+      λ live.
+          let (there, passes) = contained (λ (p : ℕ × T). test p.1) walk (ix, item) ((after.live ix item).1 (live, refl)) in
+          (((before.live ix item).0 there).0, passes),
+      λ (live, passes).
+          let there = kept (λ (p : ℕ × T). test p.1) walk (ix, item) ((before.live ix item).1 (live, refl)) passes in
+          ((after.live ix item).0 there).0,
+    )
+
+    pub Drops-walked :
+        (IsDropped : T → Type 0)
+        → ((item : T) → (test item ≡ false) ↔ IsDropped item)
+        → Drops IsDropped old new
+    Drops-walked IsDropped says = record {
+      gone = λ ix item live dropped.
+          elim (get new ix) as (λ o. get new ix ≡ o → o ≡ None) [
+            | None ↦ λ _. refl
+            | Some other ↦ λ is.
+                let (was, passes) = (walked ix other).0 is in
+                let one : Some other ≡ Some item = sym was ∙ live in
+                let same : other ≡ item = cc in
+                let fails : test other ≡ false = ap test same ∙ (says item).1 dropped in
+                absurd (cc)
+          ] refl;
+      others_stay = λ ix item live stays.
+          elim (test item) as (λ b. test item ≡ b → get new ix ≡ Some item) [
+            | true ↦ λ passes. (walked ix item).1 (live, passes)
+            | false ↦ λ fails. absurd (stays ((says item).0 fails))
+          ] refl;
+      no_new = λ ix vacant.
+          elim (get new ix) as (λ o. get new ix ≡ o → o ≡ None) [
+            | None ↦ λ _. refl
+            | Some other ↦ λ is. let was = ((walked ix other).0 is).0 in absurd (cc)
+          ] refl;
+    }

@@ -5,3 +5,6 @@ pub mod ConflictLemmas
 pub mod LedgerLemmas
 pub mod DiaryLemmas
 pub mod ExchangeLemmas
+pub mod WordLemmas
+pub mod BadgeLemmas
+pub mod StockLemmas

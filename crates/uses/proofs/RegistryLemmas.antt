@@ -5,7 +5,7 @@ use Rattle.std.specs.Str.{bytes_eq}
 use Rattle.std.specs.String.{string_bytes}
 use Rattle.std.specs.Cmp.Lexicographic.{bytes_decides}
 use Rattle.std.proofs.lemmas.List.{length_push}
-use Rattle.iddqd_maps.specs.Store.{Store, get, next_index, filled, inserted}
+use Rattle.iddqd_maps.specs.Store.{IsFull, Store, get, next_index, filled, inserted, slot_limit}
 use Rattle.iddqd_maps.specs.Scan.{IsHit, AnswersScan}
 use Rattle.iddqd_maps.proofs.ScanLemmas.{scan_hits}
 use Rattle.uses.specs.declared.registry.Entry.{Entry}
@@ -86,8 +86,17 @@ module _ (s : Store Entry) (dense : IsDense s) (entry : Entry) where
         let names = ap length names_of-inserted in
         let slots = ap length pushed in
         omega (arith, names, slots, dense.all_named, length_push (names_of s.items) (name_of entry), length_push s.items (Some entry));
+    unlimited = dense.unlimited;
   }
 
   -- its number is that of the names before it
   pub next-number : next_index s ≡ length (names_of s.items)
   next-number = rw dense.none_free (sym dense.all_named)
+
+-- it is full exactly if there are as many names as indexes
+module _ (s : Store Entry) (dense : IsDense s) where
+  pub full_counted : IsFull s → length (names_of s.items) ≡ slot_limit
+  full_counted full = dense.all_named ∙ full.1 ∙ dense.unlimited
+
+  pub counted_full : length (names_of s.items) ≡ slot_limit → IsFull s
+  counted_full counted = (dense.none_free, sym dense.all_named ∙ counted ∙ sym dense.unlimited)

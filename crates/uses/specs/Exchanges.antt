@@ -13,6 +13,10 @@ use Rattle.iddqd_maps.specs.declared.refusal.OverwriteRefusal.TheVariants.{Full 
 use Rattle.iddqd_maps.specs.declared.refusal.ReplaceRefusal.{ReplaceRefusal}
 use Rattle.iddqd_maps.specs.declared.refusal.ReplaceRefusal.TheVariants.{Missing, Duplicate as Taken, Memory as Refused}
 
+-- an item passes the test
+abbrev pub HasHit : {T : Type 0} → Store T → (T → Bool) → Type 0
+HasHit s test = (ix : ℕ) × IsHit s test ix
+
 -- an item at another index than this one passes the test
 abbrev pub HitsOther : {T : Type 0} → Store T → (T → Bool) → ℕ → Type 0
 HitsOther s test ix = (j : ℕ) × (j ≢ ix) × IsHit s test j
@@ -48,7 +52,7 @@ module _ {T : Type 0} (alike : T → T → Bool) where
 
   -- Why an item that was to be added comes back: one of these, or another one shares a key with it.
   abbrev pub IsWhyNotAdded : {C : Type 0} → T → MapState T → InsertRefusal T C → Type 0
-  IsWhyNotAdded item old (Duplicate back at) = (back ≡ item) × ((ix : ℕ) × IsHit old.store (alike item) ix)
+  IsWhyNotAdded item old (Duplicate back at) = (back ≡ item) × HasHit old.store (alike item)
   IsWhyNotAdded item old (Full back) = (back ≡ item) × HasNoHit old.store (alike item) × IsFull old.store
   IsWhyNotAdded item old (Memory back) = (back ≡ item) × HasNoHit old.store (alike item) × (room old ≡ 0)
 

@@ -12,3 +12,5 @@ pub mod Lockers
 pub mod Seats
 pub mod Scores
 pub mod Stock
+pub mod Words
+pub mod Badges

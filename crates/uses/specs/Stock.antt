@@ -1,14 +1,22 @@
 -- Parts by their kinds, and why a stock refuses one.
-use Rattle.std.specs.Prelude.{◌==◌, Bool}
+use Rattle.std.specs.Prelude.{◌==◌, ◌-◌, ℕ, Bool}
 use Rattle.iddqd_maps.specs.Scan.{IsHit}
 use Rattle.iddqd_maps.specs.Store.{IsFull, Store}
 use Rattle.uses.specs.declared.stock.Part.{Part}
 use Rattle.uses.specs.declared.stock.Refused.{Refused}
 use Rattle.uses.specs.declared.stock.Refused.TheVariants.{Full, There}
 
+-- the part is of this kind
+abbrev pub has_kind : ℕ → Part → Bool
+has_kind kind part = kind == part.kind
+
 -- the parts are of one kind
 abbrev pub same_kind : Part → Part → Bool
-same_kind x y = x.kind == y.kind
+same_kind x y = has_kind x.kind y
+
+-- as many parts of the kind, but one
+abbrev pub with_one_less : Part → Part
+with_one_less part = record part { count = part.count - 1 }
 
 -- the part of this kind is at the index that is reported, or there are as many kinds as the limit allows
 abbrev pub IsWhyRefused : Part → Store Part → Refused → Type 0

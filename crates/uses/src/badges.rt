@@ -1,9 +1,11 @@
 //! Two unique keys, each found by its hash.
-ghost use Rattle.std.specs.Prelude.{◌≡◌, ℕ, MatchOption};
-ghost use Rattle.std.specs.Str.{bytes_eq};
+ghost use Rattle.std.specs.Prelude.{◌≡◌, ℕ, Some, MatchOption, IfOk, IfErr, OnOk, OnErr};
 ghost use Rattle.std.specs.String.{string_bytes};
 ghost use Rattle.iddqd_maps.specs.Map.{IsOnly};
-ghost use Rattle.iddqd_maps.specs.Scan.{HasNoHit};
+ghost use Rattle.iddqd_maps.specs.Scan.{AnswersScan, HasNoHit};
+ghost use Rattle.iddqd_maps.specs.Store.{inserted};
+ghost use Rattle.uses.specs.Badges.{has_number, is_held_by, share_key, taken_keys, IsWhyNotHandedOut, IsWhyNotRenumbered};
+ghost use Rattle.uses.specs.Exchanges.{Exchanges, HitsOther};
 ghost use Rattle.uses.specs.declared.badges.Badge.{Badge};
 
 use iddqd_maps::bi_hash_map::{BiClash, BiHashItem, BiHashMap};
@@ -35,35 +37,69 @@ impl BiHashItem for Badge {
     }
 }
 
+/// Why a badge wasn't handed out.
+#[derive(Clone, Copy, Debug, PartialEq, Eq)]
+pub enum HandOutError {
+    /// A badge has the number.
+    NumberTaken,
+    /// The holder has a badge.
+    HolderTaken,
+    /// A badge has the number, and the holder has that one or another.
+    BothTaken,
+    /// There are as many badges as the limit allows.
+    Full,
+    /// There was no room for another badge, and memory ran out.
+    Memory,
+}
+
+/// Why somebody's badge keeps its number.
+#[derive(Clone, Copy, Debug, PartialEq, Eq)]
+pub enum RenumberError {
+    /// Another badge has the new number.
+    Taken,
+    /// There was no memory for a copy of the name.
+    Memory,
+}
+
 /// Hands a badge out, or says which of its keys are taken.
-pub fn hand_out(badges: &mut BiHashMap<Badge>, number: u32, holder: String) -> &'static str {
+pub fn hand_out(
+    badges: &mut BiHashMap<Badge>,
+    number: u32,
+    holder: String,
+) -> Result<(), HandOutError>
+    ensures new_number { OnOk result (HasNoHit badges.old.store (has_number number)) }
+    ensures new_holder { OnOk result (HasNoHit badges.old.store (is_held_by (string_bytes holder))) }
+    ensures handed_out { OnOk result
+        (badges.new.store ≡ inserted badges.old.store (record { number = number; holder = holder })) }
+    ensures refused { IfErr result (IsWhyNotHandedOut number (string_bytes holder) badges.old) }
+    ensures unchanged { OnErr result (badges.new.store ≡ badges.old.store) }
+{
     let refusal = match badges.insert_unique(Badge { number, holder }) {
-        Ok(_) => return "handed out",
+        Ok(_) => return Ok(()),
         Err(refusal) => refusal,
     };
     // By reference, since the check covers no pattern that moves parts of `at` and the item out at once.
     match &refusal {
-        InsertRefusal::Duplicate { at, .. } => taken(at),
-        InsertRefusal::Full(_) => "there are too many badges",
-        InsertRefusal::Memory(_) => "no memory",
+        InsertRefusal::Duplicate { at, .. } => Err(taken(at)),
+        InsertRefusal::Full(_) => Err(HandOutError::Full),
+        InsertRefusal::Memory(_) => Err(HandOutError::Memory),
     }
 }
 
 // Which keys are taken, of which one is.
-fn taken(at: &BiClash) -> &'static str {
-    if at.key1.is_none() {
-        "the holder has one"
-    } else if at.key2.is_none() {
-        "the number is taken"
-    } else {
-        "both are taken"
+fn taken(at: &BiClash) -> HandOutError
+    ensures { result ≡ taken_keys at.now.key1 at.now.key2 }
+{
+    match (at.key1, at.key2) {
+        (Some(_), Some(_)) => HandOutError::BothTaken,
+        (Some(_), None) => HandOutError::NumberTaken,
+        (None, _) => HandOutError::HolderTaken,
     }
 }
 
 /// The number of the badge that somebody holds; none exactly where the person holds none.
 pub fn number(badges: &BiHashMap<Badge>, holder: &str) -> Option<u32>
-    ensures { let held = λ (badge : Badge). bytes_eq holder.now (string_bytes badge.holder) in
-        MatchOption result (HasNoHit badges.now.store held)
+    ensures { let held = is_held_by holder.now in MatchOption result (HasNoHit badges.now.store held)
         (λ number. (ix : ℕ) × (badge : Badge) × IsOnly badges.now.store held ix badge × (badge.number ≡ number)) }
 {
     match badges.get2(holder) {
@@ -72,48 +108,60 @@ pub fn number(badges: &BiHashMap<Badge>, holder: &str) -> Option<u32>
     }
 }
 
-/// Gives a badge another holder, and tells who had it, if there is such a badge.
+/// Gives the badge of a number another holder, and returns who had it; none exactly where there is no such badge. The
+/// name comes back exactly where its bearer has another badge. It takes no memory.
 pub fn hand_on(
     badges: &mut BiHashMap<Badge>,
     number: u32,
     holder: String,
-) -> Result<Option<String>, &'static str> {
+) -> Result<Option<String>, String>
+    ensures handed_on { IfOk result (λ found. MatchOption found
+        (HasNoHit badges.old.store (has_number number) × (badges.new ≡ badges.old))
+        (λ before. (was : Badge) × (was.holder ≡ before) × Exchanges share_key (has_number number)
+        (record { number = number; holder = holder }) badges.old was badges.new)) }
+    ensures refused { IfErr result (λ back. (back ≡ holder)
+        × ((ix : ℕ) × AnswersScan badges.old.store (has_number number) (Some ix)
+        × HitsOther badges.old.store (is_held_by (string_bytes holder)) ix)) }
+    ensures unchanged { OnErr result (badges.new ≡ badges.old) }
+{
     match badges.change1(&number, |_| Badge { number, holder }) {
         Ok(Some(badge)) => Ok(Some(badge.holder)),
         Ok(None) => Ok(None),
-        Err(refusal) => Err(reason(&refusal)),
+        Err(ReplaceRefusal::Missing(badge)) => Err(badge.holder),
+        Err(ReplaceRefusal::Duplicate { item, .. }) => Err(item.holder),
+        Err(ReplaceRefusal::Memory(badge)) => Err(badge.holder),
     }
 }
 
-/// Gives somebody's badge another number, and tells which it had, if there is such a badge.
+/// Gives somebody's badge another number, and returns which it had; none exactly where the person holds none.
 pub fn renumber(
     alloc: Global,
     badges: &mut BiHashMap<Badge>,
     holder: &str,
     number: u32,
-) -> Result<Result<Option<u32>, &'static str>, AllocError> {
-    let name = String::from_str(alloc, holder)?;
-    Ok(
-        match badges.change2(
-            holder,
-            |_| Badge {
-                number,
-                holder: name,
-            },
-        ) {
-            Ok(Some(badge)) => Ok(Some(badge.number)),
-            Ok(None) => Ok(None),
-            Err(refusal) => Err(reason(&refusal)),
+) -> Result<Option<u32>, RenumberError>
+    ensures renumbered { IfOk result (λ found. MatchOption found
+        (HasNoHit badges.old.store (is_held_by holder.now) × (badges.new ≡ badges.old))
+        (λ before. (was is : Badge) × (was.number ≡ before)
+        × (is.number ≡ number) × (string_bytes is.holder ≡ holder.now)
+        × Exchanges share_key (is_held_by holder.now) is badges.old was badges.new)) }
+    ensures refused { IfErr result (IsWhyNotRenumbered holder.now number badges.old.store) }
+    ensures unchanged { OnErr result (badges.new ≡ badges.old) }
+{
+    let Ok(name) = String::from_str(alloc, holder) else {
+        return Err(RenumberError::Memory);
+    };
+    let renumbered = badges.change2(
+        holder,
+        |_| Badge {
+            number,
+            holder: name,
         },
-    )
-}
-
-// Why a badge stays as it was.
-fn reason(refusal: &ReplaceRefusal<Badge, BiClash>) -> &'static str {
-    match refusal {
-        ReplaceRefusal::Missing(_) => "there is no such badge",
-        ReplaceRefusal::Duplicate { at, .. } => taken(at),
-        ReplaceRefusal::Memory(_) => "no memory",
+    );
+    match renumbered {
+        Ok(Some(badge)) => Ok(Some(badge.number)),
+        Ok(None) => Ok(None),
+        Err(_) => Err(RenumberError::Taken),
     }
 }
 
@@ -122,9 +170,9 @@ fn script(alloc: Global, badges: &mut BiHashMap<Badge>) -> Result<String, AllocE
     let second = hand_out(badges, 7, String::from_str(alloc, "bo")?);
     let third = hand_out(badges, 8, String::from_str(alloc, "ada")?);
     let fourth = hand_on(badges, 7, String::from_str(alloc, "bo")?);
-    let fifth = renumber(alloc, badges, "bo", 9)?;
+    let fifth = renumber(alloc, badges, "bo", 9);
     let held = number(badges, "bo");
-    format!(in alloc; "badges: {first}, {second}, {third}, {fourth:?}, {fifth:?}, {held:?}")
+    format!(in alloc; "badges: {first:?}, {second:?}, {third:?}, {fourth:?}, {fifth:?}, {held:?}")
 }
 
 /// What the calls answer.

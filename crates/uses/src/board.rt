@@ -1,5 +1,5 @@
 //! A board of scores: the calls of a map in order that `scores` and `words` don't make, and what each promises.
-ghost use Rattle.std.specs.Prelude.{◌≡◌, ◌≤◌, ◌↔◌, ℕ, false, true, length, min, Some, None, IfOk, IfErr, MatchOption, OnOk, OnErr};
+ghost use Rattle.std.specs.Prelude.{◌≡◌, ◌⊎◌, ◌≤◌, ◌↔◌, ℕ, false, true, length, min, Some, None, IfOk, IfErr, MatchOption, OnOk, OnErr};
 ghost use Rattle.std.specs.Ordering.{nat_cmp, eq_by_cmp};
 ghost use Rattle.std.specs.declared.cmp.Ordering.TheVariants.{Less, Greater};
 ghost use Rattle.iddqd_maps.specs.Compaction.{compacted};
@@ -9,6 +9,7 @@ ghost use Rattle.iddqd_maps.specs.OrdMap.{IsTakenAt};
 ghost use Rattle.iddqd_maps.specs.Scan.{AnswersScan, HasNoHit};
 ghost use Rattle.iddqd_maps.specs.Sizes.{insertable};
 ghost use Rattle.iddqd_maps.specs.Store.{cleared, get, inserted, next_index, rebound, slot_count, slot_limit};
+ghost use Rattle.iddqd_maps.specs.Validation.{Tells, Validates, not_compact_text};
 ghost use Rattle.uses.specs.Exchanges.{Exchanges, IsWhyNot, IsWhyNotAt, IsWhyNotChanged, IsWhyNotTakenOver};
 ghost use Rattle.uses.specs.Scores.{has_hour, same_hour};
 ghost use Rattle.uses.specs.declared.scores.Score.{Score};
@@ -54,11 +55,14 @@ pub fn keep_room(board: &mut Board, scores: usize) -> Result<(), AllocError>
     board.shrink_to(scores)
 }
 
-/// Closes the gaps, gives back the memory past the scores, and returns for how many scores memory is still reserved.
+/// Closes the gaps, gives back the memory past the scores, and returns for how many scores memory is still reserved. If
+/// memory runs out for it, the scores stay as they were, or the gaps are closed already.
 pub fn pack(board: &mut Board) -> Result<usize, AllocError>
     ensures scores { OnOk result (board.new.store ≡ compacted board.old.store) }
     ensures slots { OnOk result (board.new.memory.slots ≤ slot_count board.new.store) }
     ensures capacity { IfOk result (λ count. count ≡ capacity board.new) }
+    ensures refused { OnErr result
+        ((board.new ≡ board.old) ⊎ (board.new.store ≡ compacted board.old.store)) }
 {
     board.compact()?;
     board.shrink_to_fit()?;
@@ -74,9 +78,10 @@ pub fn clear_out(board: &mut Board) -> bool
     board.is_empty()
 }
 
-/// Whether no slot is vacant, or why not.
+/// Whether no slot is vacant, or how many are. It may run out of memory.
 pub fn check(board: &Board) -> Result<(), ValidateRefusal<ValidationError>>
-    ensures { OnOk result (length board.now.store.free ≡ 0) }
+    ensures dense { Validates (length board.now.store.free ≡ 0) result }
+    ensures told { IfErr result (Tells (not_compact_text (length board.now.store.free))) }
 {
     board.validate(ValidateCompact::Compact)
 }

@@ -1,5 +1,5 @@
 //! A depot of parts: the calls of a map with one key that `users` and `stock` don't make, and what each promises.
-ghost use Rattle.std.specs.Prelude.{◌≡◌, ◌≤◌, ◌==◌, ◌↔◌, false, true, min, Some, None, IfOk, IfErr, MatchOption, OnOk, OnErr};
+ghost use Rattle.std.specs.Prelude.{◌≡◌, ◌⊎◌, ◌≤◌, ◌==◌, ◌↔◌, false, true, min, Some, None, IfOk, IfErr, MatchOption, OnOk, OnErr};
 ghost use Rattle.iddqd_maps.specs.Compaction.{compacted};
 ghost use Rattle.iddqd_maps.specs.LiveItems.{live_items, live_pairs};
 ghost use Rattle.iddqd_maps.specs.Map.{IsOnly, RemovesAt, empty_map, room};
@@ -55,10 +55,13 @@ pub fn make_room(depot: &mut Depot, more: usize) -> Result<usize, AllocError>
     Ok(depot.room())
 }
 
-/// Closes the gaps, and gives back all memory that the parts don't need.
+/// Closes the gaps, and gives back all memory that the parts don't need. If memory runs out for it, the parts stay as
+/// they were, or the gaps are closed already.
 pub fn pack(depot: &mut Depot) -> Result<(), AllocError>
     ensures parts { OnOk result (depot.new.store ≡ compacted depot.old.store) }
     ensures memory { OnOk result (room depot.new ≡ 0) }
+    ensures refused { OnErr result
+        ((depot.new ≡ depot.old) ⊎ (depot.new.store ≡ compacted depot.old.store)) }
 {
     depot.compact()?;
     depot.shrink_to_fit()

@@ -1,11 +1,12 @@
 //! A hall of seats: the calls of a map with three keys that `seats` and `leases` don't make, and what each promises.
-ghost use Rattle.std.specs.Prelude.{◌≡◌, ◌≤◌, ◌==◌, ◌↔◌, ℕ, false, true, length, min, filter, Some, None, MatchOption, IfOk, IfErr, OnOk, OnErr};
+ghost use Rattle.std.specs.Prelude.{◌≡◌, ◌⊎◌, ◌≤◌, ◌==◌, ◌↔◌, ℕ, false, true, length, min, filter, Some, None, MatchOption, IfOk, IfErr, OnOk, OnErr};
 ghost use Rattle.iddqd_maps.specs.Compaction.{compacted};
 ghost use Rattle.iddqd_maps.specs.LiveItems.{live_items, live_pairs};
 ghost use Rattle.iddqd_maps.specs.Map.{FindsItem, IsOnly, Removes, RemovesAt, empty_map, room};
 ghost use Rattle.iddqd_maps.specs.Scan.{AnswersScan, HasNoHit};
 ghost use Rattle.iddqd_maps.specs.Sizes.{insertable};
 ghost use Rattle.iddqd_maps.specs.Store.{cleared, get, live_count, rebound, slot_limit};
+ghost use Rattle.iddqd_maps.specs.Validation.{Tells, Validates, not_compact_text};
 ghost use Rattle.iddqd_maps.specs.ThreeKeys.{AreTaken};
 ghost use Rattle.uses.specs.Exchanges.{Exchanges, IsWhyNot, IsWhyNotAt};
 ghost use Rattle.uses.specs.Seats.{has_guest, has_place, has_ticket, same_guest, same_place, same_ticket, share_key};
@@ -70,10 +71,13 @@ pub fn make_room(hall: &mut Hall, more: usize) -> Result<usize, AllocError>
     Ok(hall.room())
 }
 
-/// Closes the gaps, and gives back all memory that the seats don't need.
+/// Closes the gaps, and gives back all memory that the seats don't need. If memory runs out for it, the seats stay as
+/// they were, or the gaps are closed already.
 pub fn pack(hall: &mut Hall) -> Result<(), AllocError>
     ensures seats { OnOk result (hall.new.store ≡ compacted hall.old.store) }
     ensures memory { OnOk result (room hall.new ≡ 0) }
+    ensures refused { OnErr result
+        ((hall.new ≡ hall.old) ⊎ (hall.new.store ≡ compacted hall.old.store)) }
 {
     hall.compact()?;
     hall.shrink_to_fit()
@@ -89,9 +93,10 @@ pub fn clear_out(hall: &mut Hall) -> bool
     hall.is_empty()
 }
 
-/// Whether no slot is vacant, or why not.
+/// Whether no slot is vacant, or how many are. It may run out of memory.
 pub fn check(hall: &Hall) -> Result<(), ValidateRefusal<ValidationError>>
-    ensures { OnOk result (length hall.now.store.free ≡ 0) }
+    ensures dense { Validates (length hall.now.store.free ≡ 0) result }
+    ensures told { IfErr result (Tells (not_compact_text (length hall.now.store.free))) }
 {
     hall.validate(ValidateCompact::Compact)
 }

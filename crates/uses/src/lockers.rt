@@ -1,11 +1,12 @@
 //! Lockers and their holders: the calls of a map with two keys that `badges` doesn't make, and what each promises.
-ghost use Rattle.std.specs.Prelude.{◌≡◌, ◌≤◌, ◌==◌, ◌↔◌, ℕ, false, true, length, min, not, filter, Some, None, MatchOption, IfOk, IfErr, OnOk, OnErr};
+ghost use Rattle.std.specs.Prelude.{◌≡◌, ◌⊎◌, ◌≤◌, ◌==◌, ◌↔◌, ℕ, false, true, length, min, not, filter, Some, None, MatchOption, IfOk, IfErr, OnOk, OnErr};
 ghost use Rattle.iddqd_maps.specs.Compaction.{compacted};
 ghost use Rattle.iddqd_maps.specs.LiveItems.{live_items, live_pairs};
 ghost use Rattle.iddqd_maps.specs.Map.{FindsItem, IsOnly, Removes, RemovesAt, empty_map, room};
 ghost use Rattle.iddqd_maps.specs.Scan.{AnswersScan, HasNoHit};
 ghost use Rattle.iddqd_maps.specs.Sizes.{insertable};
 ghost use Rattle.iddqd_maps.specs.Store.{cleared, get, live_count, rebound, slot_limit};
+ghost use Rattle.iddqd_maps.specs.Validation.{Tells, Validates, not_compact_text};
 ghost use Rattle.iddqd_maps.specs.TwoKeys.{AreTaken};
 ghost use Rattle.uses.specs.Exchanges.{Exchanges, IsWhyNot, IsWhyNotAt, IsWhyNotTakenOver, TakesOver};
 ghost use Rattle.uses.specs.Lockers.{has_holder, has_number, same_holder, same_number, share_key};
@@ -95,10 +96,13 @@ pub fn make_room(lockers: &mut Lockers, more: usize) -> Result<usize, AllocError
     Ok(lockers.room())
 }
 
-/// Closes the gaps, and gives back all memory that the lockers don't need.
+/// Closes the gaps, and gives back all memory that the lockers don't need. If memory runs out for it, the lockers stay
+/// as they were, or the gaps are closed already.
 pub fn pack(lockers: &mut Lockers) -> Result<(), AllocError>
     ensures lockers { OnOk result (lockers.new.store ≡ compacted lockers.old.store) }
     ensures memory { OnOk result (room lockers.new ≡ 0) }
+    ensures refused { OnErr result
+        ((lockers.new ≡ lockers.old) ⊎ (lockers.new.store ≡ compacted lockers.old.store)) }
 {
     lockers.compact()?;
     lockers.shrink_to_fit()
@@ -114,9 +118,10 @@ pub fn clear_out(lockers: &mut Lockers) -> bool
     lockers.is_empty()
 }
 
-/// Whether no slot is vacant, or why not.
+/// Whether no slot is vacant, or how many are. It may run out of memory.
 pub fn check(lockers: &Lockers) -> Result<(), ValidateRefusal<ValidationError>>
-    ensures { OnOk result (length lockers.now.store.free ≡ 0) }
+    ensures dense { Validates (length lockers.now.store.free ≡ 0) result }
+    ensures told { IfErr result (Tells (not_compact_text (length lockers.now.store.free))) }
 {
     lockers.validate(ValidateCompact::Compact)
 }

@@ -52,9 +52,9 @@ impl Model for Registry {
 pub enum RegisterError {
     /// It has this number.
     Taken(ItemIndex),
-    /// There are as many names as there are numbers.
+    /// It is new, and there are as many names as there are numbers.
     Full,
-    /// Memory was refused.
+    /// It is new, and memory ran out.
     Memory,
 }
 
@@ -73,7 +73,7 @@ impl Registry {
         ensures number { IfOk result (λ number. number ≡ length self.old) }
         ensures registered { IfOk result (λ _. self.new ≡ self.old ++ string_bytes name ∷ []) }
         ensures was_new { IsOk result → Contains self.old (string_bytes name) → ⊥ }
-        ensures taken { IfErr result (TellsWhy self.old (string_bytes name)) }
+        ensures refused { IfErr result (TellsWhy self.old (string_bytes name)) }
         ensures unchanged { OnErr result (self.new ≡ self.old) }
     {
         match self.entries.insert_unique(Entry { name }) {

@@ -1,6 +1,7 @@
 //! A map in the order of its keys: its ends, and the items whose keys are between two bounds.
-ghost use Rattle.std.specs.Prelude.{◌≤◌};
+ghost use Rattle.std.specs.Prelude.{◌≡◌, ◌<◌};
 ghost use Rattle.iddqd_maps.specs.Store.{live_count};
+ghost use Rattle.uses.specs.Drops.{Drops};
 
 use iddqd_maps::id_ord_map::{IdOrdItem, IdOrdMap};
 use std::alloc::{AllocError, Global};
@@ -32,9 +33,11 @@ pub fn points(scores: &IdOrdMap<Score>, from: u32, below: u32) -> u32 {
     sum
 }
 
-/// Forgets the scores of the hours before one, and tells how many are left.
+/// Forgets the scores of the hours before one, and returns how many are left. It takes no memory.
 pub fn forget_before(scores: &mut IdOrdMap<Score>, hour: u32) -> usize
-    ensures { result ≤ live_count scores.old.store }
+    ensures dropped { Drops (λ score. score.hour < hour) scores.old.store scores.new.store }
+    ensures count { result ≡ live_count scores.new.store }
+    ensures memory { scores.new.memory ≡ scores.old.memory }
 {
     scores.retain(|score| score.hour >= hour);
     scores.len()

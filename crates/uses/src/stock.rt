@@ -1,8 +1,13 @@
 //! Refusals, by what they mean to a caller: a duplicate is merged, and where room was taken ahead memory isn't refused.
-ghost use Rattle.std.specs.Prelude.{◌≡◌, ◌≤◌, ◌==◌, length, IfOk, IfErr, IfSome, OnOk, OnErr};
-ghost use Rattle.iddqd_maps.specs.Map.{FindsItem, room};
-ghost use Rattle.iddqd_maps.specs.Store.{inserted, next_index};
-ghost use Rattle.uses.specs.Stock.{IsWhyRefused};
+ghost use Rattle.std.specs.Prelude.{◌≡◌, ◌≤◌, ◌==◌, ◌⊎◌, ◌+◌, ◌-◌, ◌^◌, ℕ, Some, length, min, IsOk, IfOk, IfErr, IfSome, OnOk, OnErr};
+ghost use Rattle.std.specs.Bool.{OnTrue, OnFalse};
+ghost use Rattle.iddqd_maps.specs.Map.{FindsItem, IsOnly, room};
+ghost use Rattle.iddqd_maps.specs.Scan.{HasNoHit};
+ghost use Rattle.iddqd_maps.specs.Store.{IsFull, get, inserted, next_index, rebound};
+ghost use Rattle.iddqd_maps.specs.Validation.{Tells, Validates, not_compact_text};
+ghost use Rattle.uses.specs.Exchanges.{Exchanges};
+ghost use Rattle.uses.specs.Stock.{has_kind, same_kind, with_one_less, IsWhyRefused};
+ghost use Rattle.uses.specs.declared.stock.Part.{Part};
 
 use iddqd_maps::id_hash_map::{IdHashItem, IdHashMap};
 use iddqd_maps::item_index::ItemIndex;
@@ -52,19 +57,23 @@ pub fn add(stock: &mut IdHashMap<Part>, part: Part) -> Result<ItemIndex, Refused
     }
 }
 
-/// Adds a part, or as many as it has to those of its kind. The part comes back where there is no place for it.
-pub fn merge(stock: &mut IdHashMap<Part>, part: Part) -> Result<(), Part> {
+/// Adds a part, or as many as it has to those of its kind. The part comes back if none is of its kind, and there are as
+/// many kinds as the limit allows or there is no memory.
+pub fn merge(stock: &mut IdHashMap<Part>, part: Part) -> Result<(), Part>
+    ensures added { HasNoHit stock.old.store (same_kind part) → OnOk result
+        (stock.new.store ≡ inserted stock.old.store part) }
+    ensures merged { (ix : ℕ) (was : Part) → IsOnly stock.old.store (same_kind part) ix was → IsOk result
+        × (stock.new.store ≡ rebound stock.old.store ix
+        (record was { count = min (was.count + part.count) (2 ^ 32 - 1) })) }
+    ensures refused { IfErr result (λ back. (back ≡ part) × HasNoHit stock.old.store (same_kind part)
+        × (IsFull stock.old.store ⊎ (room stock.old ≡ 0))) }
+    ensures unchanged { OnErr result (stock.new.store ≡ stock.old.store) }
+{
     match stock.insert_unique(part) {
         Ok(_) => Ok(()),
-        Err(InsertRefusal::Duplicate { item, .. }) => {
-            let merged = stock.change(
-                &item.kind,
-                |was: &Part| Part {
-                    kind: was.kind,
-                    count: was.count.saturating_add(item.count),
-                },
-            );
-            if merged.is_ok() { Ok(()) } else { Err(part) }
+        Err(InsertRefusal::Duplicate { at, .. }) => {
+            stock.modify_at(at, |was| was.count = was.count.saturating_add(part.count));
+            Ok(())
         }
         Err(InsertRefusal::Full(item)) => Err(item),
         Err(InsertRefusal::Memory(item)) => Err(item),
@@ -79,8 +88,14 @@ pub fn part_of_kind(stock: &IdHashMap<Part>, kind: u32) -> Option<Part>
     stock.get(&kind).copied()
 }
 
-/// Takes one part of a kind: whether there was one. The closure may be called where one is alone.
-pub fn take_one(stock: &mut IdHashMap<Part>, kind: u32) -> bool {
+/// Takes one part of a kind, and returns whether there was one. The closure may be called where one is alone.
+pub fn take_one(stock: &mut IdHashMap<Part>, kind: u32) -> bool
+    ensures taken { OnTrue result ((was : Part) × (1 ≤ was.count)
+        × Exchanges same_kind (has_kind kind) (with_one_less was) stock.old was stock.new) }
+    ensures none { OnFalse result ((ix : ℕ) (part : Part) →
+        get stock.old.store ix ≡ Some part → part.kind ≡ kind → part.count ≡ 0) }
+    ensures unchanged { OnFalse result (stock.new ≡ stock.old) }
+{
     let Some(part) = stock.get(&kind) else {
         return false;
     };
@@ -99,7 +114,8 @@ pub fn take_one(stock: &mut IdHashMap<Part>, kind: u32) -> bool {
 
 /// Whether the parts stand under the indexes from 0 on, or why not.
 pub fn check(stock: &IdHashMap<Part>) -> Result<(), ValidateRefusal<ValidationError>>
-    ensures { OnOk result (length stock.now.store.free ≡ 0) }
+    ensures dense { Validates (length stock.now.store.free ≡ 0) result }
+    ensures told { IfErr result (Tells (not_compact_text (length stock.now.store.free))) }
 {
     stock.validate(ValidateCompact::Compact)
 }

@@ -1,10 +1,13 @@
 //! Items whose key is a text of their own. A text that is lent looks them up, so none is copied for it.
-ghost use Rattle.std.specs.Prelude.{◌≡◌, ◌≤◌, ℕ, MatchOption, filter};
+ghost use Rattle.std.specs.Prelude.{◌≡◌, ◌≤◌, ℕ, MatchOption, IfOk, IfErr, OnOk, OnErr, filter};
+ghost use Rattle.std.specs.String.{string_bytes};
 ghost use Rattle.iddqd_maps.specs.LiveItems.{live_pairs};
-ghost use Rattle.iddqd_maps.specs.Map.{IsOnly};
+ghost use Rattle.iddqd_maps.specs.Map.{IsOnly, Removes};
 ghost use Rattle.iddqd_maps.specs.Scan.{HasNoHit};
-ghost use Rattle.iddqd_maps.specs.Store.{live_count};
-ghost use Rattle.uses.specs.Users.{is_named, has_logged_in, LogsIn};
+ghost use Rattle.iddqd_maps.specs.Store.{inserted, live_count};
+ghost use Rattle.uses.specs.Exchanges.{Exchanges};
+ghost use Rattle.uses.specs.Users.{has_logged_in, is_named, same_name, IsWhyNotRenamed, IsWhyNotSignedUp, LogsIn};
+ghost use Rattle.uses.specs.declared.users.User.{User};
 
 use iddqd_maps::id_hash_map::{IdHashItem, IdHashMap};
 use iddqd_maps::refusal::{InsertRefusal, ReplaceRefusal};
@@ -27,6 +30,26 @@ impl IdHashItem for User {
     }
 }
 
+/// Why somebody wasn't signed up.
+#[derive(Clone, Copy, Debug, PartialEq, Eq)]
+pub enum SignUpError {
+    /// A user has the name.
+    Taken,
+    /// There are as many users as the limit allows.
+    Full,
+    /// There was no room for another user, and memory ran out.
+    Memory,
+}
+
+/// Why a user keeps the name.
+#[derive(Clone, Copy, Debug, PartialEq, Eq)]
+pub enum RenameError {
+    /// There is no such user.
+    Missing,
+    /// Another user has the new name.
+    Taken,
+}
+
 /// How often the user with this name logged in; none exactly where there is no such user.
 pub fn logins(users: &IdHashMap<User>, name: &str) -> Option<u32>
     ensures { let named = is_named name.now in MatchOption result (HasNoHit users.now.store named)
@@ -39,25 +62,37 @@ pub fn logins(users: &IdHashMap<User>, name: &str) -> Option<u32>
 }
 
 /// Adds a user who never logged in, or says why not.
-pub fn sign_up(users: &mut IdHashMap<User>, name: String) -> &'static str {
+pub fn sign_up(users: &mut IdHashMap<User>, name: String) -> Result<(), SignUpError>
+    ensures new_name { OnOk result (HasNoHit users.old.store (is_named (string_bytes name))) }
+    ensures added { OnOk result
+        (users.new.store ≡ inserted users.old.store (record { name = name; logins = 0 })) }
+    ensures refused { IfErr result (IsWhyNotSignedUp (string_bytes name) users.old) }
+    ensures unchanged { OnErr result (users.new.store ≡ users.old.store) }
+{
     match users.insert_unique(User { name, logins: 0 }) {
-        Ok(_) => "signed up",
-        Err(InsertRefusal::Duplicate { .. }) => "the name is taken",
-        Err(InsertRefusal::Full(_)) => "there are too many users",
-        Err(InsertRefusal::Memory(_)) => "no memory",
+        Ok(_) => Ok(()),
+        Err(InsertRefusal::Duplicate { .. }) => Err(SignUpError::Taken),
+        Err(InsertRefusal::Full(_)) => Err(SignUpError::Full),
+        Err(InsertRefusal::Memory(_)) => Err(SignUpError::Memory),
     }
 }
 
-/// Gives a user another name, under which the user is found from then on.
-pub fn rename(users: &mut IdHashMap<User>, from: &str, to: String) -> &'static str {
+/// Gives a user another name, under which the user is found from then on. It takes no memory.
+pub fn rename(users: &mut IdHashMap<User>, from: &str, to: String) -> Result<(), RenameError>
+    ensures renamed { OnOk result ((was : User)
+        × Exchanges same_name (is_named from.now) (record was { name = to }) users.old was users.new) }
+    ensures refused { IfErr result (IsWhyNotRenamed from.now (string_bytes to) users.old.store) }
+    ensures unchanged { OnErr result (users.new ≡ users.old) }
+{
     let Some(logins) = logins(users, from) else {
-        return "there is no such user";
+        return Err(RenameError::Missing);
     };
     match users.replace(from, User { name: to, logins }) {
-        Ok(_) => "renamed",
-        Err(ReplaceRefusal::Missing(_)) => "there is no such user",
-        Err(ReplaceRefusal::Duplicate { .. }) => "the name is taken",
-        Err(ReplaceRefusal::Memory(_)) => "no memory",
+        Ok(_) => Ok(()),
+        Err(ReplaceRefusal::Missing(_)) => Err(RenameError::Missing),
+        Err(ReplaceRefusal::Duplicate { .. }) => Err(RenameError::Taken),
+        // A map whose keys all go by their hashes takes no memory for it.
+        Err(ReplaceRefusal::Memory(_)) => unreachable!(),
     }
 }
 
@@ -73,11 +108,11 @@ pub fn log_in(users: &mut IdHashMap<User>, name: &str) -> Option<u32>
     })
 }
 
-/// Removes the user with this name, if there is one. Then there is none.
-pub fn leave(users: &mut IdHashMap<User>, name: &str)
-    ensures { HasNoHit users.new.store (is_named name.now) }
+/// Removes the user with this name, and hands the user back. All others stay.
+pub fn leave(users: &mut IdHashMap<User>, name: &str) -> Option<User>
+    ensures { Removes users.old (is_named name.now) result users.new }
 {
-    users.remove(name);
+    users.remove(name)
 }
 
 /// Removes the users who never logged in, and returns how many stay.
@@ -101,9 +136,10 @@ fn script(alloc: Global, users: &mut IdHashMap<User>) -> Result<String, AllocErr
     );
     let count = log_in(users, "bo");
     let active = forget_idle(users);
-    leave(users, "bo");
-    let left = users.len();
-    format!(in alloc; "users: {first}, {second}, {third}, {found:?}, {count:?}, {active}, {left}")
+    let left = leave(users, "bo").is_some();
+    format!(in alloc;
+        "users: {first:?}, {second:?}, {third:?}, {found:?}, {count:?}, {active}, {left}"
+    )
 }
 
 /// What the calls answer.

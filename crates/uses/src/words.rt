@@ -1,4 +1,7 @@
 //! Items in the order of a text of theirs, and a copy of some of them.
+ghost use Rattle.std.specs.Prelude.{◌↔◌, ◌≤◌, ℕ, List, IfOk};
+ghost use Rattle.uses.specs.Words.{IsListed};
+
 use iddqd_maps::id_ord_map::{IdOrdClone, IdOrdItem, IdOrdMap};
 use std::alloc::{AllocError, Global};
 
@@ -25,8 +28,11 @@ impl IdOrdClone for Word {
     ghost same_key = { λ x y same. same_text _ _ same.0 };
 }
 
-/// The words that the book has up to a page.
-pub fn up_to(words: &IdOrdMap<Word>, last: u32) -> Result<IdOrdMap<Word>, AllocError> {
+/// A copy of the words that the book has up to a page, each under its index.
+pub fn up_to(words: &IdOrdMap<Word>, last: u32) -> Result<IdOrdMap<Word>, AllocError>
+    ensures { IfOk result (λ some. (ix : ℕ) (text : List ℕ) (page : ℕ) →
+        IsListed some.store ix text page ↔ (IsListed words.now.store ix text page × (page ≤ last))) }
+{
     let mut some = words.clone()?;
     some.retain(|word| word.page <= last);
     Ok(some)

@@ -1,0 +1,60 @@
+-- Badges by their keys, and why one isn't handed out or changed.
+use Rattle.std.specs.Prelude.{◌≡◌, ◌==◌, ℕ, Bool, List, Option, Some, None}
+use Rattle.std.specs.Str.{bytes_eq}
+use Rattle.std.specs.String.{string_bytes}
+use Rattle.iddqd_maps.specs.Map.{MapState, room}
+use Rattle.iddqd_maps.specs.Scan.{AnswersScan, HasNoHit}
+use Rattle.iddqd_maps.specs.Several.{either_key}
+use Rattle.iddqd_maps.specs.Store.{IsFull, Store}
+use Rattle.uses.specs.Exchanges.{HasHit, HitsOther}
+use Rattle.uses.specs.declared.badges.Badge.{Badge}
+use Rattle.uses.specs.declared.badges.HandOutError.{HandOutError}
+use Rattle.uses.specs.declared.badges.HandOutError.TheVariants.{NumberTaken, HolderTaken, BothTaken, Full, Memory}
+use Rattle.uses.specs.declared.badges.RenumberError.{RenumberError}
+use Rattle.uses.specs.declared.badges.RenumberError.TheVariants.{Taken, Memory as NoMemory}
+
+-- the badge has this number
+abbrev pub has_number : ℕ → Badge → Bool
+has_number number badge = number == badge.number
+
+-- this person holds it
+abbrev pub is_held_by : List ℕ → Badge → Bool
+is_held_by holder badge = bytes_eq holder (string_bytes badge.holder)
+
+-- the badges have one number
+abbrev pub same_number : Badge → Badge → Bool
+same_number x y = has_number x.number y
+
+-- or one holder
+abbrev pub same_holder : Badge → Badge → Bool
+same_holder x y = is_held_by (string_bytes x.holder) y
+
+-- they share a key
+abbrev pub share_key : Badge → Badge → Bool
+share_key = either_key same_number same_holder
+
+-- which keys are taken, if a badge with the number or one of the holder is reported
+abbrev pub taken_keys : Option ℕ → Option ℕ → HandOutError
+taken_keys (Some one) (Some other) = BothTaken
+taken_keys (Some one) None = NumberTaken
+taken_keys None other = HolderTaken
+
+-- why a badge with this number wasn't handed out to this person
+abbrev pub IsWhyNotHandedOut : ℕ → List ℕ → MapState Badge → HandOutError → Type 0
+IsWhyNotHandedOut number holder old NumberTaken =
+    HasHit old.store (has_number number) × HasNoHit old.store (is_held_by holder)
+IsWhyNotHandedOut number holder old HolderTaken =
+    HasNoHit old.store (has_number number) × HasHit old.store (is_held_by holder)
+IsWhyNotHandedOut number holder old BothTaken =
+    HasHit old.store (has_number number) × HasHit old.store (is_held_by holder)
+IsWhyNotHandedOut number holder old Full =
+    HasNoHit old.store (has_number number) × HasNoHit old.store (is_held_by holder) × IsFull old.store
+IsWhyNotHandedOut number holder old Memory =
+    HasNoHit old.store (has_number number) × HasNoHit old.store (is_held_by holder) × (IsFull old.store → ⊥)
+    × (room old ≡ 0)
+
+-- why this person's badge didn't get the number
+abbrev pub IsWhyNotRenumbered : List ℕ → ℕ → Store Badge → RenumberError → Type 0
+IsWhyNotRenumbered holder number s Taken =
+    (ix : ℕ) × AnswersScan s (is_held_by holder) (Some ix) × HitsOther s (has_number number) ix
+IsWhyNotRenumbered holder number s NoMemory = Unit {0}
