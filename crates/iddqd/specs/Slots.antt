@@ -33,7 +33,8 @@ module _ {T : Type 0} where
   abbrev pub IsChain : List (ItemSlot T) → ℕ → List ℕ → Type 0
   IsChain slots head [] = head ≡ sentinel
   IsChain slots head (ix ∷ rest) =
-      (next : ℕ) × (ix ≡ head) × (head ≢ sentinel) × (slice_get slots head ≡ Some (Vacant next)) × IsChain slots next rest
+      (next : ℕ) × (ix ≡ head) × (head ≢ sentinel) × (slice_get slots head ≡ Some (Vacant next))
+      × IsChain slots next rest
 
   -- some list with this number of indexes is the chain from head
   abbrev pub HasChain : List (ItemSlot T) → ℕ → ℕ → Type 0

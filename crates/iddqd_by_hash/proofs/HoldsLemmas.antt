@@ -9,7 +9,7 @@ use Rattle.iddqd.specs.Compaction.{IsRemapOf, CanRemap, remapped, compacted, ran
 use Rattle.iddqd.specs.declared.index_remap.IndexRemap.{IndexRemap}
 use Rattle.iddqd.proofs.LiveLemmas.{none_not_live, item_at, live_at, next_vacant, get-removed_at, get-removed_other, get-inserted_at, get-inserted_other, renames, one_name}
 use Rattle.iddqd.proofs.CompactionLemmas.{get-compacted, live-compacted}
-use Rattle.iddqd_hash.specs.MapHashTable.{Renames}
+use Rattle.iddqd_hash.specs.MapHashTable.{HaveOwnNames, Renames}
 use Rattle.iddqd_hash.proofs.MemberLemmas.{get-insert_at, get-insert_other, get-remove_at, get-remove_other, filed_hash, filed_at, Renames-alike}
 use Rattle.iddqd_keys.specs.Scan.{IsLive}
 use Rattle.iddqd_by_hash.specs.Hashed.{Holds}
@@ -73,12 +73,7 @@ module _ {T : Type 0} where
       pub CanRemap-held : (ix : ℕ) → IsSome (finite.get m ix) → CanRemap remap ix
       CanRemap-held ix here = (renames s remap valid is ix ((holds ix).0 here)).0
 
-      pub one_name-held :
-          (i j : ℕ)
-          → IsSome (finite.get m i)
-          → IsSome (finite.get m j)
-          → remapped remap i ≡ remapped remap j
-          → i ≡ j
+      pub one_name-held : HaveOwnNames (remapped remap) m
       one_name-held i j p q same = one_name s remap valid is i j ((holds i).0 p) ((holds j).0 q) same
 
       pub Renames-by_rank : (new : FinMap nat_cmp ℕ) → Renames (remapped remap) m new → Renames (rank s) m new

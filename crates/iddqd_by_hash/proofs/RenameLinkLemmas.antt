@@ -6,7 +6,7 @@ use Rattle.std.specs.FinMap.{FinMap}
 use Rattle.std.proofs.lemmas.Bool.{cases_eq}
 use Rattle.iddqd.specs.Store.{sentinel}
 use Rattle.iddqd.proofs.StoreLemmas.{differs}
-use Rattle.iddqd_hash.specs.MapHashTable.{Renames}
+use Rattle.iddqd_hash.specs.MapHashTable.{HaveOwnNames, Renames}
 use Rattle.iddqd_hash.proofs.MemberLemmas.{filed_hash, filed_at}
 use Rattle.iddqd_by_hash.specs.Links.{IsChained, AreHeads, LeadsBack, AreNeighbours, renamed}
 
@@ -82,7 +82,7 @@ module _
     (filed_named : Renames name filed filed_new)
     (next_named : (ix : ℕ) → IsSome (finite.get filed ix) → nexts (name ix) ≡ renamed name (next ix))
     (prev_named : (ix : ℕ) → IsSome (finite.get filed ix) → prevs (name ix) ≡ renamed name (prev ix))
-    (one_name : (i j : ℕ) → IsSome (finite.get filed i) → IsSome (finite.get filed j) → name i ≡ name j → i ≡ j)
+    (one_name : HaveOwnNames name filed)
     (real : (ix : ℕ) → IsSome (finite.get filed ix) → name ix ≢ sentinel)
   where
     -- the depth that an index had under its old name

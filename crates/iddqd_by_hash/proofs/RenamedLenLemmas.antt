@@ -11,7 +11,7 @@ use Rattle.std.proofs.lemmas.List.Elements.{Contains-get_or}
 use Rattle.std.proofs.lemmas.Map.Keys.{IsDistinct-cons, IsDistinct-head, IsDistinct-tail}
 use Rattle.std.proofs.lemmas.Map.Made.{is_member-Decides, length-le_from_is_member}
 use Rattle.iddqd.proofs.StoreLemmas.{contains_head, contains_tail, differs}
-use Rattle.iddqd_hash.specs.MapHashTable.{indexes_of, Renames}
+use Rattle.iddqd_hash.specs.MapHashTable.{indexes_of, HaveOwnNames, Renames}
 use Rattle.iddqd_hash.proofs.MemberLemmas.{filed_hash, filed_at}
 use Rattle.iddqd_by_hash.proofs.HashedCountLemmas.{listed_filed, sorted_apart}
 
@@ -62,7 +62,7 @@ module _ (name : ℕ → ℕ) where
   pub len-renamed :
       (old new : FinMap nat_cmp ℕ)
       → Renames name old new
-      → ((i j : ℕ) → IsSome (finite.get old i) → IsSome (finite.get old j) → name i ≡ name j → i ≡ j)
+      → HaveOwnNames name old
       → finite.len new ≡ finite.len old
   len-renamed old new named one =
       let was = indexes_of old in

@@ -4,7 +4,7 @@ use Rattle.std.specs.Ordering.{nat_cmp}
 use Rattle.std.specs.FinMap as finite
 use Rattle.std.specs.FinMap.{FinMap}
 use Rattle.iddqd.specs.Store.{sentinel}
-use Rattle.iddqd_hash.specs.MapHashTable.{Renames}
+use Rattle.iddqd_hash.specs.MapHashTable.{HaveOwnNames, Renames}
 use Rattle.iddqd_hash.proofs.MemberLemmas.{filed_hash, filed_at}
 use Rattle.iddqd_by_hash.specs.LinkedTable.{IsLinkedTable}
 use Rattle.iddqd_by_hash.specs.Links.{filed_by, next_of, prev_of, RenamesLinks}
@@ -19,8 +19,7 @@ module _
     (was : IsLinkedTable heads most old len)
     (heads_named : Renames name heads heads_new)
     (named : RenamesLinks name old new)
-    (one_name :
-    (i j : ℕ) → IsSome (finite.get (filed_by old) i) → IsSome (finite.get (filed_by old) j) → name i ≡ name j → i ≡ j)
+    (one_name : HaveOwnNames name (filed_by old))
     (dense : (ix : ℕ) → IsSome (finite.get (filed_by old) ix) → name ix < finite.len (filed_by old))
     (as_long : length new ≡ length old)
     (is_cut : cut ≡ take len new)

@@ -4,6 +4,7 @@ use Rattle.std.specs.FinMap as finite
 use Rattle.std.proofs.lemmas.Bool.{cases_eq}
 use Rattle.iddqd.specs.Store.{sentinel}
 use Rattle.iddqd_hash.proofs.MemberLemmas.{get-insert_at, get-insert_other, get-remove_at, get-remove_other, filed_at}
+use Rattle.iddqd_hash.specs.MapHashTable.{HaveOwnNames}
 use Rattle.iddqd_by_hash.specs.Links.{filed_by, next_of, prev_of, renamed, AreNeighbours, RenamesLinks}
 use Rattle.iddqd_by_hash.specs.declared.linked_table.links.Link.{Link}
 use Rattle.iddqd_by_hash.proofs.InsertLinkLemmas.{one_hash}
@@ -42,8 +43,7 @@ Renaming-none name old = record {
 
 module _
     (name : ℕ → ℕ) (old : List Link)
-    (one_name :
-    (i j : ℕ) → IsSome (finite.get (filed_by old) i) → IsSome (finite.get (filed_by old) j) → name i ≡ name j → i ≡ j)
+    (one_name : HaveOwnNames name (filed_by old))
     (falling : (ix : ℕ) → IsSome (finite.get (filed_by old) ix) → name ix ≤ ix)
   where
     pub Renaming-all :

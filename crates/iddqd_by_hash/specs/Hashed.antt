@@ -1,4 +1,4 @@
--- What a table of indexes under hashes means for one key of a store's items. `hashes` is `filed` of the table: it maps
+-- How a table of indexes under hashes relates to one key of a store's items. `hashes` is `filed` of the table: it maps
 -- each of its indexes to the hash under which it is stored.
 use Rattle.std.specs.Prelude.{◌≡◌, ℕ, Bool, true, List, Option, Some, None, IsSome}
 use Rattle.std.specs.Cmp.{IsPartialEquivalence}

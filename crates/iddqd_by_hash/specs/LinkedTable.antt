@@ -20,6 +20,7 @@ pub record LinkedState : Type 0 where
   -- how many cells and links its memory holds
   pub memory : ℕ
 
+-- the state is coded as the tuple of its fields
 abbrev pub linked_code : Coded LinkedState
 linked_code =
     code_by

@@ -1,8 +1,8 @@
 //! A hash table of a store's indexes, under the hashes of one key of the items.
 //!
-//! The hasher's state belongs to the map, since several tables may share one state. `hash_of` and `query_hash` compute a
-//! hash under that state, and every other call is handed that hash, so a key is hashed once. To insert, call the table's
-//! own `try_reserve` and `insert_prehashed_unchecked`.
+//! The hasher's state belongs to the map, since several tables may share one state. `hash_of` and `query_hash` compute
+//! a hash under that state, and every other call is handed that hash, so a key is hashed once. To insert, call the
+//! table's own `try_reserve` and `insert_prehashed_unchecked`.
 ghost use Rattle.std.specs.Prelude.{◌≡◌, ◌+◌, IsSome};
 ghost use Rattle.std.specs.FinMap as finite;
 ghost use Rattle.iddqd.specs.MapHash.{hash_one};

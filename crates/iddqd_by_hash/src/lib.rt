@@ -1,8 +1,8 @@
 //! Look-ups and removals by one key of a store's items, in a hash table of the store's indexes; how an entry changes
 //! when an item is replaced; groups of items with one key, and the table for them, [`linked_table::LinkedTable`].
 //!
-//! Each call that reads or changes a table is handed the table, and the store if it reads keys. A type parameter
-//! `E: KeyOf<T>` names the key. So a map can have table and store as plain fields.
+//! Each call that reads or changes a table is handed the table, and the store if it reads keys. So a map can have both
+//! as plain fields. A type parameter `E: KeyOf<T>` names the key.
 #![tactic(auto)]
 
 mod borrowed_key_query;

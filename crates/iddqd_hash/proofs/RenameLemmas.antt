@@ -11,7 +11,7 @@ use Rattle.std.proofs.lemmas.List.Elements.{Contains-get_or, Contains-append_rig
 use Rattle.std.proofs.lemmas.List.Sorted.{IsPermutation-sym, Contains-permutation}
 use Rattle.std.proofs.lemmas.Map.Keys.{IsDistinct-head, IsDistinct-tail, IsDistinct-cons}
 use Rattle.iddqd_hash.specs.HashTable.{values, under, Rewrites}
-use Rattle.iddqd_hash.specs.MapHashTable.{filed_from, IsDistinctlyFiled, Renames}
+use Rattle.iddqd_hash.specs.MapHashTable.{filed_from, HaveOwnNames, IsDistinctlyFiled, Renames}
 use Rattle.iddqd_hash.proofs.UnderLemmas.{Contains-read, Contains-under}
 use Rattle.iddqd_hash.proofs.RewriteLemmas.{Rewrites-mapped}
 use Rattle.iddqd_hash.proofs.MapHashTableLemmas.{under_filed, untied, distinct_moved}
@@ -86,8 +86,7 @@ module _ (name : ℕ → ℕ) where
   module _
       (gives : ℕ → ℕ → Type 0) (says : (v w : ℕ) → gives v w → w ≡ name v) (old new : List (ℕ × ℕ))
       (apart : IsDistinctlyFiled old)
-      (one : (i j : ℕ) → IsSome (finite.get (filed_from old) i) → IsSome (finite.get (filed_from old) j) → name i ≡ name
-      j → i ≡ j)
+      (one : HaveOwnNames name (filed_from old))
       (rewrites : Rewrites gives old new)
     where
       all_renamed : IsPermutation (map renamed old) new

@@ -1,10 +1,11 @@
 -- What a contract sees of a table of indexes under hashes.
-use Rattle.std.specs.Prelude.{◌≡◌, ◌==◌, ℕ, Bool, false, List, Option, Some, None, IsTrue, map, filter}
+use Rattle.std.specs.Prelude.{◌≡◌, ◌==◌, ℕ, Bool, false, List, Option, Some, None, IsSome, IsTrue, map, filter}
 use Rattle.std.specs.Ordering.{nat_cmp, eq_by_cmp}
-use Rattle.std.specs.List.{IsDistinct}
+use Rattle.std.specs.List.{Contains, IsDistinct}
 use Rattle.std.specs.FinMap as finite
 use Rattle.std.specs.FinMap.{FinMap}
 use Rattle.std.specs.Fn.{Shared}
+use Rattle.iddqd_hash.specs.Asks.{LooksUp, Misses}
 use Rattle.iddqd_hash.specs.HashTable.{Table, entries, values}
 
 -- a pair of an index and its hash as a pair of the hash and the index, and vice versa
@@ -43,10 +44,33 @@ pub record AsksKey {F Q K : Type 0} (g : Shared F (ℕ × Unit {0}) K) (equivale
   pub gives : g.post lookup (ix, tt) key
   pub is : answer ≡ equivalent query key
 
+-- `g` says which keys `lookup` may return
+module _ {F K : Type 0} (g : Shared F (ℕ × Unit {0}) K) where
+  -- `lookup` may be called on each index under the hash
+  abbrev pub CanLookUp : F → ℕ → Table ℕ → Type 0
+  CanLookUp lookup hash t = (ix : ℕ) → Contains (indexes_under hash (filed t)) ix → g.pre lookup (ix, tt)
+
+  -- what a look-up by a query among the indexes under a hash found
+  abbrev pub LooksUpKey : {Q : Type 0} → (Q → K → Bool) → F → Q → ℕ → Table ℕ → Option ℕ → Type 0
+  LooksUpKey equivalent lookup query hash t result =
+      LooksUp (AsksKey g equivalent lookup query) tt (indexes_under hash (filed t)) result
+
+  -- an ask of a look-up by a key: whether the key that `lookup` returns equals it
+  abbrev pub AsksEqual : (K → K → Bool) → F → K → Unit {0} → ℕ → Bool → Unit {0} → Type 0
+  AsksEqual eq lookup key = AsksKey g (λ k other. eq other k) lookup key
+
+  -- a look-up by a key asked about each index under the hash, and each has another key
+  abbrev pub MissesKey : (K → K → Bool) → F → K → ℕ → Table ℕ → Type 0
+  MissesKey eq lookup key hash t = Misses (AsksEqual eq lookup key) tt (indexes_under hash (filed t))
+
 -- What a search for an index under the hash that passes the test found: an index that does, or that there is none.
 abbrev pub FindsWhere : (ℕ → Bool) → ℕ → FinMap nat_cmp ℕ → Option ℕ → Type 0
 FindsWhere test hash m (Some ix) = (finite.get m ix ≡ Some hash) × IsTrue (test ix)
 FindsWhere test hash m None = (ix : ℕ) → finite.get m ix ≡ Some hash → test ix ≡ false
+
+-- each index has a name of its own: no two have the same
+abbrev pub HaveOwnNames : (ℕ → ℕ) → FinMap nat_cmp ℕ → Type 0
+HaveOwnNames name m = (i j : ℕ) → IsSome (finite.get m i) → IsSome (finite.get m j) → name i ≡ name j → i ≡ j
 
 -- each index has its new name, under the same hash, and there is no other index
 pub record Renames (name : ℕ → ℕ) (old new : FinMap nat_cmp ℕ) : Type 0 where

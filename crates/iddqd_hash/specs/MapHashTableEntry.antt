@@ -1,7 +1,11 @@
 -- What a contract sees of an entry of a table of indexes.
-use Rattle.std.specs.Prelude.{ℕ, Option, Result, Ok, Err}
+use Rattle.std.specs.Prelude.{ℕ, Bool, Option, Result, Ok, Err}
 use Rattle.std.specs.Borrow.{GName}
+use Rattle.std.specs.Fn.{Shared}
+use Rattle.iddqd_hash.specs.Asks.{HitsPair}
+use Rattle.iddqd_hash.specs.Entries.{IsVacancy}
 use Rattle.iddqd_hash.specs.HashTable.{Table, pair_at, value_of}
+use Rattle.iddqd_hash.specs.MapHashTable.{filed, indexes_under, AsksEqual}
 use Rattle.iddqd_hash.specs.declared.hash_table.OccupiedEntry.{OccupiedEntry}
 use Rattle.iddqd_hash.specs.declared.hash_table.entry.Entry.{Entry}
 use Rattle.iddqd_hash.specs.declared.hash_table.entry.Entry.TheVariants.{Occupied, Vacant}
@@ -34,6 +38,16 @@ vacant_lender e = e.table.ghost_name
 -- the hash under which a vacant entry inserts
 unfoldable pub vacant_hash : VacantEntry → ℕ
 vacant_hash e = e.hash
+
+-- a look-up by a key, among the indexes of a table under a hash, hit the index of this entry
+abbrev pub HitsEntry :
+    {F K : Type 0} → Shared F (ℕ × Unit {0}) K → (K → K → Bool) → F → K → ℕ → Table ℕ → OccupiedEntry → Type 0
+HitsEntry g eq lookup key hash t e =
+    HitsPair (AsksEqual g eq lookup key) tt hash (indexes_under hash (filed t)) (entry_pair e)
+
+-- a vacant entry under the hash, in place of the table `old`
+abbrev pub IsVacantUnder : ℕ → Table ℕ → VacantEntry → Type 0
+IsVacantUnder hash old e = IsVacancy hash old (vacant_hash e) (vacant_table e)
 
 -- the ghost name of the reference to the table, of either entry
 abbrev pub lender_of : Entry → GName

@@ -5,7 +5,8 @@ use Rattle.std.specs.List.{filter_map}
 use Rattle.std.specs.Option.{option_map}
 use Rattle.std.specs.Vec.{vec_capacity, vec_len}
 use Rattle.std.specs.Global.{Vec}
-use Rattle.iddqd_hash.specs.HashTable.{Table}
+use Rattle.iddqd_hash.specs.Asks.{FindsPlace}
+use Rattle.iddqd_hash.specs.HashTable.{Table, under}
 
 -- the tag of a full cell: 128 and the top seven bits of its hash
 abbrev pub tag_of : ℕ → ℕ
@@ -101,6 +102,11 @@ module _ {T : Type 0} where
   abbrev pub Suits : ℕ → Option (ℕ × T) → Type 0
   Suits tag None = tag ≤ 1
   Suits tag (Some pair) = tag ≡ tag_of pair.0
+
+  -- the place of the pair that a look-up hit, by a closure in the state f, if it hit one
+  abbrev pub FindsSlot :
+      {F : Type 0} → (F → T → Bool → F → Type 0) → F → ℕ → List (Option (ℕ × T)) → Option ℕ → Type 0
+  FindsSlot ask f hash slots place = FindsPlace ask f hash (under hash (pairs slots)) (slot_at slots) place
 
   -- each tag suits its slot, and a probe for the hash of a pair comes to the pair before any empty cell
   pub record IsProbed (tags : List ℕ) (slots : List (Option (ℕ × T))) : Type 0 where

@@ -11,14 +11,14 @@
 //!
 //! `entry` hashes its key once, for the look-up and for the insert. `remove_by_index` is a `retain` over all indexes. A
 //! clone copies cells as memory, since an [`IndexCell`] is `Copy`.
-ghost use Rattle.std.specs.Prelude.{◌≡◌, ◌+◌, ◌≤◌, ℕ, max, Contains, Some, None, IsTrue, IsSome, IfOk, OnErr};
+ghost use Rattle.std.specs.Prelude.{◌≡◌, ◌+◌, ◌≤◌, ℕ, max, Some, None, IsTrue, IsSome, IfOk, OnErr};
 ghost use Rattle.std.specs.FinMap as finite;
 ghost use Rattle.iddqd.specs.Compaction.{CanRemap, remapped};
 ghost use Rattle.iddqd.specs.MapHash.{hash_one};
-ghost use Rattle.iddqd_hash.specs.Asks.{CanAsk, LooksUp, HitsPair, Misses};
+ghost use Rattle.iddqd_hash.specs.Asks.{CanAsk, HitsPair, Misses};
 ghost use Rattle.iddqd_hash.specs.HashTable.{room, capacity, memory, pair_at, HasNoMemory, KeepsMemory, UsesRoom};
 ghost use Rattle.iddqd_hash.specs.Sizes.{most_cells, Reserves};
-ghost use Rattle.iddqd_hash.specs.MapHashTable.{filed, indexes_under, AsksKey, Renames, RemovesIndex};
+ghost use Rattle.iddqd_hash.specs.MapHashTable.{filed, indexes_under, CanLookUp, LooksUpKey, HaveOwnNames, Renames, RemovesIndex};
 
 mod copies;
 mod entry;
@@ -151,10 +151,10 @@ impl MapHashTable {
         query: &Q,
         lookup: F,
     ) -> Option<ItemIndex>
-        requires { let hash = hash_one S.BuildHasher S.Hasher.Hasher state.now (Q.hash_input query.now) in
-            (ix : ℕ) → Contains (indexes_under hash (filed self.now)) ix → F.pre lookup ix }
-        ensures { let hash = hash_one S.BuildHasher S.Hasher.Hasher state.now (Q.hash_input query.now) in
-            LooksUp (AsksKey F.Fn Q.equivalent lookup query.now) tt (indexes_under hash (filed self.now)) result }
+        requires { CanLookUp F.Fn lookup
+            (hash_one S.BuildHasher S.Hasher.Hasher state.now (Q.hash_input query.now)) self.now }
+        ensures { LooksUpKey F.Fn Q.equivalent lookup query.now
+            (hash_one S.BuildHasher S.Hasher.Hasher state.now (Q.hash_input query.now)) self.now result }
     {
         let hash = MapHash::new(state.hash_one(query));
         self.find_index_prehashed(hash, query, lookup)
@@ -171,8 +171,8 @@ impl MapHashTable {
         query: &Q,
         lookup: F,
     ) -> Option<ItemIndex>
-        requires { (ix : ℕ) → Contains (indexes_under hash (filed self.now)) ix → F.pre lookup ix }
-        ensures { LooksUp (AsksKey F.Fn Q.equivalent lookup query.now) tt (indexes_under hash (filed self.now)) result }
+        requires { CanLookUp F.Fn lookup hash self.now }
+        ensures { LooksUpKey F.Fn Q.equivalent lookup query.now hash self.now result }
     {
         self.table
             .find(
@@ -252,8 +252,7 @@ impl MapHashTable {
     /// It costs a walk over the table, or nothing if the remap is `Identity`.
     pub fn remap_indexes(&mut self, remap: &IndexRemap)
         requires can_remap { (ix : ℕ) → IsSome (finite.get (filed self.old) ix) → CanRemap remap.now ix }
-        requires distinct { (i j : ℕ) → IsSome (finite.get (filed self.old) i) → IsSome (finite.get (filed self.old) j)
-            → remapped remap.now i ≡ remapped remap.now j → i ≡ j }
+        requires distinct { HaveOwnNames (remapped remap.now) (filed self.old) }
         ensures renamed { Renames (remapped remap.now) (filed self.old) (filed self.new) }
         ensures memory { KeepsMemory self.old self.new }
     {

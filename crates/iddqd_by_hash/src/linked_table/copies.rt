@@ -24,7 +24,7 @@ impl Clone for LinkedTable {
     }
 }
 
-// The same links, in memory for no more than these.
+// A copy of the links, in a vector whose capacity is exactly their number.
 fn copied_links(alloc: Global, links: &[Link]) -> Result<Vec<Link>, AllocError>
     ensures links { IfOk result (λ copies. copies.items ≡ links.now) }
     ensures capacity { IfOk result (λ copies. vec_capacity copies ≡ length links.now) }

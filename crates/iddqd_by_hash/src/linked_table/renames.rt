@@ -3,7 +3,7 @@ ghost use Rattle.std.specs.Prelude.{◌≡◌, ◌≢◌, ◌≤◌, ◌<◌, �
 ghost use Rattle.std.specs.FinMap as finite;
 ghost use Rattle.iddqd.specs.Compaction.{CanRemap, remapped};
 ghost use Rattle.iddqd.specs.Store.{sentinel};
-ghost use Rattle.iddqd_hash.specs.MapHashTable.{Renames};
+ghost use Rattle.iddqd_hash.specs.MapHashTable.{HaveOwnNames, Renames};
 ghost use Rattle.iddqd_by_hash.specs.LinkedTable.{KeepsLinkMemory};
 ghost use Rattle.iddqd_by_hash.specs.Links.{filed_by, next_of, prev_of, renamed, AreNeighbours, RenamesLinks};
 
@@ -13,15 +13,14 @@ use iddqd::index_remap::IndexRemap;
 use iddqd::item_index::ItemIndex;
 
 impl LinkedTable {
-    /// Gives each index its new name; its hash stays. The remap must have the new names 0, 1, and so on, one for each
-    /// index, and the array of links is cut off behind them.
+    /// Gives each index its new name; its hash stays. The new names must be 0, 1, and so on, one for each index, and
+    /// none may be greater than the old name. The array of links is then cut to one link for each index.
     ///
     /// It takes no memory. It takes a step for each link and one for each cell of the hash table, or none if the remap
     /// is `Identity`.
     pub fn remap_indexes(&mut self, remap: &IndexRemap)
         requires can_remap { (ix : ℕ) → IsSome (finite.get self.old.filed ix) → CanRemap remap.now ix }
-        requires distinct { (i j : ℕ) → IsSome (finite.get self.old.filed i) → IsSome (finite.get self.old.filed j)
-            → remapped remap.now i ≡ remapped remap.now j → i ≡ j }
+        requires distinct { HaveOwnNames (remapped remap.now) self.old.filed }
         requires never_up { (ix : ℕ) → IsSome (finite.get self.old.filed ix) → remapped remap.now ix ≤ ix }
         requires dense { (ix : ℕ) → IsSome (finite.get self.old.filed ix)
             → remapped remap.now ix < finite.len self.old.filed }
@@ -41,8 +40,7 @@ fn rename_links(links: &mut Vec<Link>, remap: &IndexRemap)
     requires small { vec_len links.old ≤ sentinel }
     requires neighbours { AreNeighbours (filed_by links.old.items) (next_of links.old.items) (prev_of links.old.items) }
     requires can_remap { (ix : ℕ) → IsSome (finite.get (filed_by links.old.items) ix) → CanRemap remap.now ix }
-    requires distinct { (i j : ℕ) → IsSome (finite.get (filed_by links.old.items) i)
-        → IsSome (finite.get (filed_by links.old.items) j) → remapped remap.now i ≡ remapped remap.now j → i ≡ j }
+    requires distinct { HaveOwnNames (remapped remap.now) (filed_by links.old.items) }
     requires never_up { (ix : ℕ) → IsSome (finite.get (filed_by links.old.items) ix) → remapped remap.now ix ≤ ix }
     ensures renamed { RenamesLinks (remapped remap.now) links.old.items links.new.items }
     ensures len { vec_len links.new ≡ vec_len links.old }

@@ -1,11 +1,10 @@
 //! Entries of a table of indexes: an index that was found, or room for one.
-ghost use Rattle.std.specs.Prelude.{◌≡◌, ◌≤◌, ℕ, Contains, None, IfOk, OnErr};
+ghost use Rattle.std.specs.Prelude.{◌≡◌, ◌≤◌, None, IfOk, OnErr};
 ghost use Rattle.std.specs.FinMap as finite;
 ghost use Rattle.iddqd.specs.MapHash.{hash_one};
-ghost use Rattle.iddqd_hash.specs.Asks.{HitsPair, FindsPlace, Misses};
-ghost use Rattle.iddqd_hash.specs.Entries.{IsVacancy};
+ghost use Rattle.iddqd_hash.specs.Asks.{FindsPlace};
 ghost use Rattle.iddqd_hash.specs.HashTable.{pair_at, room, UsesRoom};
-ghost use Rattle.iddqd_hash.specs.MapHashTable.{filed, indexes_under, AsksKey};
+ghost use Rattle.iddqd_hash.specs.MapHashTable.{filed, indexes_under, AsksEqual, CanLookUp, MissesKey};
 
 use super::{MapHashTable, OccupiedEntry};
 use crate::table_entry::PairCells;
@@ -34,7 +33,7 @@ pub struct VacantEntry<'a> {
 impl MapHashTable {
     ghost use Rattle.std.specs.Borrow.{RestsIfErr, sem};
     ghost use Rattle.iddqd_hash.specs.contracts.hash_table.MapHashTable.{the_row};
-    ghost use Rattle.iddqd_hash.specs.MapHashTableEntry.{entry_table, entry_pair, vacant_table, vacant_hash, lender_of, IfOccupied, IfVacant, UnlessOccupied};
+    ghost use Rattle.iddqd_hash.specs.MapHashTableEntry.{entry_table, vacant_table, lender_of, HitsEntry, IfOccupied, IfVacant, IsVacantUnder, UnlessOccupied};
 
     /// The entry of an index under the key's hash whose key equals it, else a vacant one, with room for an index.
     ///
@@ -47,21 +46,19 @@ impl MapHashTable {
         key: K,
         lookup: F,
     ) -> Result<Entry<'_>, AllocError>
-        requires { let hash = hash_one S.BuildHasher S.Hasher.Hasher state.now (K.hash_input key) in
-            (ix : ℕ) → Contains (indexes_under hash (filed self.old)) ix → F.pre lookup ix }
+        requires { CanLookUp F.Fn lookup
+            (hash_one S.BuildHasher S.Hasher.Hasher state.now (K.hash_input key)) self.old }
 
         // A hit is an index under the hash, and the asks before it were answered `false`. The table is as it was.
-        ensures found { let hash = hash_one S.BuildHasher S.Hasher.Hasher state.now (K.hash_input key) in
-            IfOccupied result (λ e. HitsPair (AsksKey F.Fn (λ k other. K.eq other k) lookup key) tt hash
-            (indexes_under hash (filed self.old)) (entry_pair e)) }
+        ensures found { IfOccupied result (HitsEntry F.Fn K.eq lookup key
+            (hash_one S.BuildHasher S.Hasher.Hasher state.now (K.hash_input key)) self.old) }
         ensures same_table { IfOccupied result (λ e. entry_table e ≡ self.old) }
 
         // Otherwise the key of each index under the hash differs, and the indexes stay.
-        ensures missed { let hash = hash_one S.BuildHasher S.Hasher.Hasher state.now (K.hash_input key) in
-            UnlessOccupied result
-            (Misses (AsksKey F.Fn (λ k other. K.eq other k) lookup key) tt (indexes_under hash (filed self.old))) }
-        ensures vacant { let hash = hash_one S.BuildHasher S.Hasher.Hasher state.now (K.hash_input key) in
-            IfVacant result (λ e. IsVacancy hash self.old (vacant_hash e) (vacant_table e)) }
+        ensures missed { UnlessOccupied result (MissesKey F.Fn K.eq lookup key
+            (hash_one S.BuildHasher S.Hasher.Hasher state.now (K.hash_input key)) self.old) }
+        ensures vacant { IfVacant result (IsVacantUnder
+            (hash_one S.BuildHasher S.Hasher.Hasher state.now (K.hash_input key)) self.old) }
         ensures contents { IfVacant result (λ e. filed (vacant_table e) ≡ filed self.old) }
         ensures refused { OnErr result (room self.old ≡ 0) }
 
@@ -86,8 +83,8 @@ impl MapHashTable {
         key: &K,
         lookup: F,
     ) -> Option<usize>
-        requires { (ix : ℕ) → Contains (indexes_under hash (filed self.now)) ix → F.pre lookup ix }
-        ensures { FindsPlace (AsksKey F.Fn (λ k other. K.eq other k) lookup key.now) tt hash
+        requires { CanLookUp F.Fn lookup hash self.now }
+        ensures { FindsPlace (AsksEqual F.Fn K.eq lookup key.now) tt hash
             (indexes_under hash (filed self.now)) (pair_at self.now) result }
     {
         self.table.place_of(

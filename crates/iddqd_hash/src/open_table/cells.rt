@@ -4,10 +4,10 @@ ghost use Rattle.std.specs.Fn.{TakesAt, CalledAt, FnReturnsAt};
 ghost use Rattle.std.specs.List.{Contains};
 ghost use Rattle.std.specs.Option.{option_map};
 ghost use Rattle.std.specs.List.Sorted.{IsPermutation};
-ghost use Rattle.iddqd_hash.specs.Asks.{CanAsk, FindsPlace, RetainsPairsTo};
+ghost use Rattle.iddqd_hash.specs.Asks.{CanAsk, RetainsPairsTo};
 ghost use Rattle.iddqd_hash.specs.HashTable.{under, value_of, values, Rewrites};
 ghost use Rattle.iddqd_hash.specs.OpenWalk.{IsMultipleOf16};
-ghost use Rattle.iddqd_hash.specs.OpenTable.{tag_of, limit_of, is_used, hashes_of, has_pair, slots_of, slot_at, pairs, IsPowerOfTwo, HasEmpty, IsProbed, FindsNext};
+ghost use Rattle.iddqd_hash.specs.OpenTable.{tag_of, limit_of, is_used, hashes_of, has_pair, slots_of, slot_at, pairs, IsPowerOfTwo, HasEmpty, IsProbed, FindsNext, FindsSlot};
 
 use crate::open_table::cell_kinds::Cell;
 use crate::open_table::places::FullPlaces;
@@ -17,7 +17,7 @@ use crate::open_table::tags::{
 
 /// The pair in a full cell.
 #[inline(always)]
-pub fn pair_at<'a, T, C: Cell<T>>(tags: &[u8], cells: &'a [C], place: usize) -> (u64, &'a T)
+pub(super) fn pair_at<'a, T, C: Cell<T>>(tags: &[u8], cells: &'a [C], place: usize) -> (u64, &'a T)
     requires inside { place < length tags.now }
     requires probed { IsProbed tags.now (slots_of C.slot tags.now cells.now) }
     requires full { 128 ≤ slice_index tags.now place }
@@ -29,7 +29,12 @@ pub fn pair_at<'a, T, C: Cell<T>>(tags: &[u8], cells: &'a [C], place: usize) -> 
 
 /// The first place from `from` on that has a pair under the hash, or `None` if an empty cell comes first.
 #[inline(always)]
-pub fn next_match<T, C: Cell<T>>(tags: &[u8], cells: &[C], from: usize, hash: u64) -> Option<usize>
+pub(super) fn next_match<T, C: Cell<T>>(
+    tags: &[u8],
+    cells: &[C],
+    from: usize,
+    hash: u64,
+) -> Option<usize>
     requires power { IsPowerOfTwo (length tags.now) }
     requires ends { HasEmpty tags.now }
     requires probed { IsProbed tags.now (slots_of C.slot tags.now cells.now) }
@@ -64,7 +69,12 @@ fn later_match<T, C: Cell<T>>(tags: &[u8], cells: &[C], from: usize, hash: u64) 
 
 /// The same answer as `next_match`. The place is mostly near, so the first stop is tried before the loop.
 #[inline(always)]
-pub fn near_match<T, C: Cell<T>>(tags: &[u8], cells: &[C], from: usize, hash: u64) -> Option<usize>
+pub(super) fn near_match<T, C: Cell<T>>(
+    tags: &[u8],
+    cells: &[C],
+    from: usize,
+    hash: u64,
+) -> Option<usize>
     requires power { IsPowerOfTwo (length tags.now) }
     requires ends { HasEmpty tags.now }
     requires probed { IsProbed tags.now (slots_of C.slot tags.now cells.now) }
@@ -89,7 +99,7 @@ pub fn near_match<T, C: Cell<T>>(tags: &[u8], cells: &[C], from: usize, hash: u6
 
 /// The place and the value of the pair that a look-up hits.
 #[inline(always)]
-pub fn find_cell<'a, T, C: Cell<T>, F: FnMut(&T) -> bool>(
+pub(super) fn find_cell<'a, T, C: Cell<T>, F: FnMut(&T) -> bool>(
     tags: &[u8],
     cells: &'a [C],
     hash: u64,
@@ -100,8 +110,8 @@ pub fn find_cell<'a, T, C: Cell<T>, F: FnMut(&T) -> bool>(
     requires probed { IsProbed tags.now (slots_of C.slot tags.now cells.now) }
     requires callable { CanAsk (TakesAt F.FnMut) (CalledAt F.FnMut) eq
         (under hash (pairs (slots_of C.slot tags.now cells.now))) }
-    ensures place { FindsPlace (CalledAt F.FnMut) eq hash (under hash (pairs (slots_of C.slot tags.now cells.now)))
-        (slot_at (slots_of C.slot tags.now cells.now)) (option_map (λ found. found.0) result) }
+    ensures place { FindsSlot (CalledAt F.FnMut) eq hash (slots_of C.slot tags.now cells.now)
+        (option_map (λ found. found.0) result) }
     ensures value { IfSome result
         (λ found. slot_at (slots_of C.slot tags.now cells.now) found.0 ≡ Some (hash, found.1.now)) }
 {
@@ -117,7 +127,13 @@ pub fn find_cell<'a, T, C: Cell<T>, F: FnMut(&T) -> bool>(
 }
 
 /// Puts a pair into a cell that has none.
-pub fn put<T, C: Cell<T>>(tags: &mut [u8], cells: &mut [C], place: usize, hash: u64, value: T)
+pub(super) fn put<T, C: Cell<T>>(
+    tags: &mut [u8],
+    cells: &mut [C],
+    place: usize,
+    hash: u64,
+    value: T,
+)
     requires inside { place < length tags.old }
     requires same_length { length cells.old ≡ length tags.old }
     requires free { slot_at (slots_of C.slot tags.old cells.old) place ≡ None }
@@ -130,7 +146,12 @@ pub fn put<T, C: Cell<T>>(tags: &mut [u8], cells: &mut [C], place: usize, hash: 
 }
 
 /// Removes the pair of a full cell, and returns it. `tag` is the cell's new tag: 0, as of an empty cell, or `MARK`.
-pub fn take<T, C: Cell<T>>(tags: &mut [u8], cells: &mut [C], place: usize, tag: u8) -> (u64, T)
+pub(super) fn take<T, C: Cell<T>>(
+    tags: &mut [u8],
+    cells: &mut [C],
+    place: usize,
+    tag: u8,
+) -> (u64, T)
     requires inside { place < length tags.old }
     requires same_length { length cells.old ≡ length tags.old }
     requires full { IsSome (slot_at (slots_of C.slot tags.old cells.old) place) }
@@ -145,7 +166,7 @@ pub fn take<T, C: Cell<T>>(tags: &mut [u8], cells: &mut [C], place: usize, tag: 
 }
 
 /// Moves every pair of the old cells into the new ones, which are empty.
-pub fn move_cells<T, C: Cell<T>>(
+pub(super) fn move_cells<T, C: Cell<T>>(
     old_tags: &[u8],
     old: &mut Vec<C>,
     tags: &mut [u8],
@@ -171,7 +192,7 @@ pub fn move_cells<T, C: Cell<T>>(
 }
 
 /// Asks once about each of the `len` values, removes those about which `f` answers `false`, and returns how many.
-pub fn retain_cells<T: Drop, C: Cell<T>, F: FnMut(&T) -> bool>(
+pub(super) fn retain_cells<T: Drop, C: Cell<T>, F: FnMut(&T) -> bool>(
     tags: &mut [u8],
     cells: &mut [C],
     len: usize,
@@ -205,7 +226,7 @@ pub fn retain_cells<T: Drop, C: Cell<T>, F: FnMut(&T) -> bool>(
 }
 
 /// Replaces each value by what `f` returns for it.
-pub fn rewrite_cells<T: Drop, C: Cell<T>, F: Fn(&T) -> T>(tags: &[u8], cells: &mut [C], f: F)
+pub(super) fn rewrite_cells<T: Drop, C: Cell<T>, F: Fn(&T) -> T>(tags: &[u8], cells: &mut [C], f: F)
     requires probed { IsProbed tags.now (slots_of C.slot tags.now cells.old) }
     requires callable { (v : _) → Contains (values (pairs (slots_of C.slot tags.now cells.old))) v.now → F.pre f v }
     ensures rewritten { Rewrites (FnReturnsAt F.Fn f) (pairs (slots_of C.slot tags.now cells.old))
@@ -225,7 +246,7 @@ pub fn rewrite_cells<T: Drop, C: Cell<T>, F: Fn(&T) -> T>(tags: &[u8], cells: &m
 }
 
 /// Drops every pair. The caller clears the tags.
-pub fn clear_cells<T: Drop, C: Cell<T>>(cells: &mut [C])
+pub(super) fn clear_cells<T: Drop, C: Cell<T>>(cells: &mut [C])
     ensures { slots_of C.slot (replicate (length cells.old) 0) cells.new ≡ replicate (length cells.old) None }
 {
     for at in 0..cells.len() {
@@ -234,7 +255,7 @@ pub fn clear_cells<T: Drop, C: Cell<T>>(cells: &mut [C])
 }
 
 /// Makes every tag that of an empty cell.
-pub fn clear_tags(tags: &mut [u8])
+pub(super) fn clear_tags(tags: &mut [u8])
     ensures { tags.new ≡ replicate (length tags.old) 0 }
 {
     for at in 0..tags.len() {

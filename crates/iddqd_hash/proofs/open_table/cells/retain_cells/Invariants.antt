@@ -10,10 +10,12 @@ use Rattle.iddqd_hash.proofs.open_table.cells.retain_cells.Given as goal
 abbrev pub invariant-asking : goal.invariant-asking
 invariant-asking g l =
     CanAsk (TakesAt g.F.FnMut) (CalledAt g.F.FnMut) l.f (values (pairs (slots_of g.C.Cell.slot l.fn.tags l.fn.cells)))
-    × Keeping (CalledAt g.F.FnMut) l.fn.f (slots_of g.C.Cell.slot l.fn.tags l.fn.cells) l.f (slots_of g.C.Cell.slot l.tags l.cells) l.places.at
+    × Keeping (CalledAt g.F.FnMut) l.fn.f (slots_of g.C.Cell.slot l.fn.tags l.fn.cells) l.f
+    (slots_of g.C.Cell.slot l.tags l.cells) l.places.at
     × IsProbed l.tags (slots_of g.C.Cell.slot l.tags l.cells)
     × (count_by is_used l.tags ≡ count_by is_used l.fn.tags)
-    × (l.removed + length (pairs (slots_of g.C.Cell.slot l.tags l.cells)) ≡ length (pairs (slots_of g.C.Cell.slot l.fn.tags l.fn.cells)))
+    × (l.removed + length (pairs (slots_of g.C.Cell.slot l.tags l.cells))
+    ≡ length (pairs (slots_of g.C.Cell.slot l.fn.tags l.fn.cells)))
     × IsAhead l.tags l.places.at l.places.end l.places.mask
     × (l.left ≡ length (pairs (drop l.places.at (slots_of g.C.Cell.slot l.tags l.cells))))
 
