@@ -9,7 +9,7 @@ use Rattle.iddqd.proofs.StoreLemmas.{contains_head, contains_tail, contains_none
 use Rattle.iddqd_order.specs.Cursor.{part}
 use Rattle.iddqd_keys.specs.Scan.{IsLive}
 use Rattle.iddqd_by_order.specs.Ordered.{AreLive}
-use Rattle.iddqd_by_order.specs.OrderedWalk.{IsRunOf, pair_at, pairs_at}
+use Rattle.iddqd_by_order.specs.OrderedWalk.{IsRunOf, index_with_item, pairs_at}
 
 -- ---- a run
 
@@ -77,7 +77,7 @@ module _ {T : Type 0} (s : Store T) where
       → pairs_at s all ≡ pairs_at s left ++ (ix, item) ∷ []
   pairs_at-last all left ix item given is =
       let one : pairs_at s (ix ∷ []) ≡ (ix, item) ∷ [] = rw is refl in
-      ap (pairs_at s) given ∙ filter_map-append (pair_at s) left (ix ∷ []) ∙ ap (λ l. pairs_at s left ++ l) one
+      ap (pairs_at s) given ∙ filter_map-append (index_with_item s) left (ix ∷ []) ∙ ap (λ l. pairs_at s left ++ l) one
 
   -- so it has fewer left
   pub pairs_at-fewer :

@@ -1,4 +1,4 @@
--- What a table of indexes in an order means for one key of a store's items. Its list has the indexes in their order.
+-- How an ordered table of indexes relates to one key of a store's items. `order` is the table's list of indexes.
 use Rattle.std.specs.Prelude.{◌≡◌, ◌≢◌, ◌≤◌, ℕ, Bool, List, length, insert, nat_eq, Option, Some, None}
 use Rattle.std.specs.List.{Contains, IsDistinct}
 use Rattle.std.specs.Option.{option_map, option_cmp}
@@ -64,7 +64,8 @@ module _ {T K : Type 0} (key_of : T → K) where
     -- what a look-up by a query returns: what `Finds` allows; and if the table is in sync, what a scan returns
     abbrev pub LooksUp : Store T → List ℕ → (K → Ordering) → Option ℕ → Type 0
     LooksUp s order comparing result =
-        TableLooksUp (Finds s order comparing result) (IsInSync s order) s (passes_by key_of (is_equal comparing)) result
+        TableLooksUp (Finds s order comparing result) (IsInSync s order)
+        s (passes_by key_of (is_equal comparing)) result
 
     -- the index is live, and no live index has an item with a lesser key
     abbrev pub HasLeastKey : Store T → ℕ → Type 0
@@ -79,7 +80,7 @@ module _ {T K : Type 0} (key_of : T → K) where
         × ((j : ℕ) (other : T) → get s j ≡ Some other → compare (key_of other) (key_of item) ≢ Greater)
 
     -- A look-up by a query missed, and this is the place for an index whose key the query stands for: if the list is in
-    -- place, it is behind all keys that the query is greater than.
+    -- place, the query is Greater at each index before the place, and Less at each one from it on.
     pub record IsVacantAt (s : Store T) (order : List ℕ) (comparing : K → Ordering) (place : ℕ) : Type 0 where
       pub missed : LooksUp s order comparing None
       pub within : place ≤ length order
@@ -87,13 +88,14 @@ module _ {T K : Type 0} (key_of : T → K) where
           IsInPlace key_of compare s order
           → IsPlace (λ ix. compared comparing (key_at key_of s ix)) order place
 
-    -- an entry by a query is that of the index that a look-up found, or, if it found none, that of the place for such
-    -- an index
+    -- an entry by a query is that of the index that a look-up found, or else a vacant one at the place where an index
+    -- with that key belongs
     abbrev pub IsEntryOf : Store T → List ℕ → (K → Ordering) → Entry → Type 0
     IsEntryOf s order comparing (Occupied entry) = LooksUp s order comparing (Some (entry_index entry))
     IsEntryOf s order comparing (Vacant entry) = IsVacantAt s order comparing (vacant_place entry)
 
-    -- the next index was inserted into the list for an item at some place; a list that was in place is in place again
+    -- the index that the store will give the item was inserted into the list; if the list was in place over the store,
+    -- it is in place over the store with the item
     pub record AddsInPlace (s : Store T) (item : T) (old new : List ℕ) : Type 0 where
       pub adds : Adds old (next_index s) new
       pub placed : IsInPlace key_of compare s old → IsInPlace key_of compare (inserted s item) new

@@ -7,7 +7,7 @@ use Rattle.std.specs.declared.cmp.Ordering.TheVariants.{Less}
 use Rattle.iddqd.specs.Store.{Store, get}
 use Rattle.iddqd_keys.specs.Scan.{IsHit, HasNoHit, passes_by}
 use Rattle.iddqd_by_order.specs.Ordered.{AreLive, IsInPlace, key_at}
-pub use Rattle.iddqd_keys.specs.KeyWalk.{pair_at, pairs_at, ComesBefore, IsFirstHit, SortsWithin}
+pub use Rattle.iddqd_keys.specs.KeyWalk.{index_with_item, pairs_at, ComesBefore, IsFirstHit, SortsWithin}
 
 -- `run` has consecutive members of `whole`, in their order
 pub record IsRunOf (whole run : List ℕ) : Type 0 where

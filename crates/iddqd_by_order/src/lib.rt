@@ -1,6 +1,6 @@
-//! What an ordered table of a store's indexes means for one key of the store's items.
+//! Look-ups, ranges and removals by one key of a store's items, in an ordered table of the store's indexes.
 //!
-//! Its calls are functions over the table and the store, as the calls of `iddqd_by_hash` are.
+//! As in `iddqd_by_hash`, the calls are free functions that are handed the table and the store.
 #![tactic(auto)]
 
 mod borrowed_key_query;

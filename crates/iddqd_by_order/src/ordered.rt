@@ -1,13 +1,14 @@
 //! A table of indexes beside a store, in the order of a key, ties by index.
 //!
 //! Keys may change silently. Then the list may be out of order: a search may miss, but it never hits an index whose
-//! item's key doesn't compare Equal now. An iteration between two bounds returns a run of the list, and `remove_index`
+//! item's key doesn't compare Equal now. An iteration between two bounds returns a part of the list, and `remove_index`
 //! still removes an index.
 //!
-//! An insert goes through `entry`, which finds its place, or the index that has the key, by one search. The entry
-//! borrows the table and not the store, so the store may change before the index is inserted.
+//! `KeyedItems` inserts through `entry`, which finds the place, or the index that has the key, by one search. The entry
+//! borrows the table and not the store, so the store may change before the index is inserted. `Map` inserts at a `Gap`
+//! of the table.
 //!
-//! No query needs a premise: by the laws of `Comparable` it stands for one key.
+//! In `iddqd_by_hash` it is a premise that a query stands for one key; here it is a law of `Comparable`.
 ghost use Rattle.std.specs.Prelude.{◌≡◌, ◌≤◌};
 ghost use Rattle.std.specs.Range.Bound.{bound_map};
 ghost use Rattle.iddqd_order.specs.{capacity, entry_table, indexes_ahead, order_of, without};
@@ -28,7 +29,7 @@ use std::ops::Bound;
 
 /// The index of an item whose key the query compares Equal with.
 ///
-/// It compares the query with at most 4 + 2d keys, where the length has d binary digits.
+/// It compares the query with at most 4 + 2d keys, where the number of indexes in the table has d binary digits.
 pub fn find<T, E, Q>(table: &MapBTreeTable, items: &ItemSet<T>, query: &Q) -> Option<ItemIndex>
 where
     E: KeyOf<T>,
@@ -46,7 +47,8 @@ where
     table.find_by(&mut asking)
 }
 
-/// The entry of the index that `find` would return, or, if it would return none, of the place for such an index.
+/// The occupied entry of the index that `find` would return, or else a vacant entry at the place where an index with
+/// that key belongs.
 ///
 /// It compares the query with as many keys as `find` does, and takes no memory.
 pub fn entry<'t, T, E, Q>(table: &'t mut MapBTreeTable, items: &ItemSet<T>, query: &Q) -> Entry<'t>
@@ -92,9 +94,9 @@ where
     E: KeyOf<T>,
     E::Key: Ord,
     requires live { IsLive items.now.store ix }
-    requires stored { AreLive items.now.store (order_of table.old) }
+    requires all_live { AreLive items.now.store (order_of table.old) }
     ensures taken { order_of table.new ≡ without (order_of table.old) ix }
-    ensures lower { table.new.height ≤ table.old.height }
+    ensures no_higher { table.new.height ≤ table.old.height }
     ensures memory { capacity table.new ≡ capacity table.old }
 {
     let key = key_at::<T, E>(items, ix);
@@ -111,10 +113,10 @@ where
 }
 
 /// The indexes whose items have keys between two bounds, in the order of the keys: none if the lower bound is above the
-/// upper one. If the list isn't sorted, they are a run of it.
+/// upper one. If the list isn't sorted, they are consecutive in it.
 ///
-/// It compares each query with at most 4 + 2d keys, where the length has d binary digits, and takes
-/// no memory.
+/// It compares each query with at most 4 + 2d keys, where the number of indexes in the table has d binary digits, and
+/// takes no memory.
 pub fn range<'t, T, E, Q>(
     table: &'t MapBTreeTable,
     items: &ItemSet<T>,
@@ -140,7 +142,7 @@ where
     table.range(from.as_ref(), to.as_ref(), &mut asking)
 }
 
-// The bound, with its query compared with borrowed keys.
+// The same bound, with its query wrapped in `BorrowedKeyQuery`.
 fn by_borrowed_key<Q>(bound: Bound<Q>) -> Bound<BorrowedKeyQuery<Q>>
     ensures { bound_map (λ query. query.0) result ≡ bound }
 {

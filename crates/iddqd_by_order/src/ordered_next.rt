@@ -21,8 +21,8 @@ use std::ops::Bound;
 
 /// The next index behind a live one, by key and then by index, if its item's key is within the upper bound.
 ///
-/// It compares the live one's key with at most 4 + 2d keys, where the length has d binary digits, and the query with
-/// one. It takes no memory.
+/// It compares the live one's key with at most 4 + 2d keys, where the number of indexes in the table has d binary
+/// digits, and the query with one. It takes no memory.
 pub fn next_between<T, E, Q>(
     table: &MapBTreeTable,
     items: &ItemSet<T>,

@@ -1,7 +1,7 @@
 //! An iterator over the indexes between two bounds of a key, with their items.
 //!
-//! It goes along the table, and reads each item from the store. It is generic over the item alone, so
-//! each collection with an ordered table re-exports it, whether or not its keys may change silently.
+//! It goes along the table, and reads each item from the store. It has no parameter for the key and assumes nothing of
+//! the order, so `KeyedItems` and `IdOrdMap` share it.
 ghost use Rattle.std.specs.Prelude.{◌≡◌, ⊤};
 ghost use Rattle.std.specs.Iterator.{YieldsFirstBy, YieldsLastBy, item_count};
 ghost use Rattle.iddqd_order.specs.Range.{indexes_ahead};
@@ -16,8 +16,7 @@ use std::fmt;
 use std::iter::{DoubleEndedIterator, FusedIterator};
 use std::marker::Model;
 
-/// Indexes with their items from one key on up to another one, in the order of the keys, from both
-/// ends. Once it has ended it stays ended.
+/// Live indexes with their items, in the order of the table, from both ends. Once it has ended it stays ended.
 ///
 /// A contract sees it as the pairs that are left. It takes no memory, and a step costs a constant time
 /// on the average.
@@ -41,7 +40,7 @@ impl<'a, T> Model for Range<'a, T> {
 }
 
 impl<'a, T> Range<'a, T> {
-    /// The live indexes that an iterator over a table returns, each with its item.
+    /// The indexes that an iterator over a table returns, each with its item. All of them must be live.
     pub fn new(indexes: btree_table::Range<'a>, items: &'a ItemSet<T>) -> Range<'a, T>
         requires { AreLive items.now.store (indexes_ahead indexes) }
         ensures { result ≡ pairs_at items.now.store (indexes_ahead indexes.entry) }

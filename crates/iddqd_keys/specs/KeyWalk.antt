@@ -11,12 +11,12 @@ use Rattle.iddqd_keys.specs.Scan.{IsHit, HasNoHit, passes_by}
 
 module _ {T : Type 0} where
   -- an index with its item, if it has one
-  abbrev pub pair_at : Store T → ℕ → Option (ℕ × T)
-  pair_at s ix = option_map (λ item. (ix, item)) (get s ix)
+  abbrev pub index_with_item : Store T → ℕ → Option (ℕ × T)
+  index_with_item s ix = option_map (λ item. (ix, item)) (get s ix)
 
   -- the live ones among these indexes with their items, in the order of the list
   abbrev pub pairs_at : Store T → List ℕ → List (ℕ × T)
-  pairs_at s indexes = filter_map (pair_at s) indexes
+  pairs_at s indexes = filter_map (index_with_item s) indexes
 
   -- the items at these indexes, in the order of the list
   abbrev pub items_at : Store T → List ℕ → List T

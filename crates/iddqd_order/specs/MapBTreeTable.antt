@@ -47,6 +47,10 @@ capacity t = capacity_of t.reserved
 abbrev pub room : Order → ℕ
 room t = capacity t - length (order_of t)
 
+-- it can hold one more index without asking for memory
+abbrev pub HasRoom : Order → Type 0
+HasRoom t = length (order_of t) < capacity t
+
 -- distinct indexes, none of which is `SENTINEL`
 pub record IsIndexList (xs : List ℕ) : Type 0 where
   pub distinct : IsDistinct nat_eq xs

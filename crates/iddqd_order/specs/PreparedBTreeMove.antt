@@ -3,7 +3,7 @@ use Rattle.std.specs.Prelude.{◌≡◌, ◌≤◌, ℕ, List, Some, Result, len
 use Rattle.std.specs.Borrow.{RestsIfErr, Fml, MutBor}
 use Rattle.std.specs.Fn.{Mut}
 use Rattle.std.specs.declared.cmp.Ordering.{Ordering}
-use Rattle.iddqd_order.specs.MapBTreeTable.{Order, order_of}
+use Rattle.iddqd_order.specs.MapBTreeTable.{Order, order_of, without}
 use Rattle.iddqd_order.specs.Search.{IsSteadyRising, IsPlace, with_ties}
 use Rattle.iddqd_order.specs.contracts.btree_table.blocks.BlocksHoldsBlocks.TheImpl.{ghosts}
 use Rattle.iddqd_order.specs.contracts.btree_table.table.MapBTreeTable.{the_row}
@@ -22,6 +22,10 @@ table_of p = p.table
 -- the index that it moves
 unfoldable pub index_of : PreparedMove → ℕ
 index_of p = p.ix
+
+-- the other indexes of the table, in their order
+abbrev pub others_of : PreparedMove → List ℕ
+others_of p = without (order_of (table_of p).now) (index_of p)
 
 -- how many blocks of memory it holds, each for the children of one node
 unfoldable pub blocks_of : PreparedMove → ℕ

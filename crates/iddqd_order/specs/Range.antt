@@ -1,15 +1,15 @@
 -- What a contract sees of a `Range`.
-use Rattle.std.specs.Prelude.{◌≡◌, ◌*◌, ◌≤◌, ℕ, List, None, drop, length}
+use Rattle.std.specs.Prelude.{◌≡◌, ◌≤◌, ℕ, List, None, drop, length}
+use Rattle.std.specs.Borrow.{Bor}
 use Rattle.std.specs.Fn.{Mut}
 use Rattle.std.specs.declared.cmp.Ordering.{Ordering}
 use Rattle.std.specs.declared.cmp.Ordering.TheVariants.{Less, Greater}
 use Rattle.std.specs.declared.ops.Bound.{Bound}
 use Rattle.std.specs.declared.ops.Bound.TheVariants.{Included, Excluded, Unbounded}
 use Rattle.std.specs.Ordering.{ordering_then}
-use Rattle.iddqd_order.specs.Asks.{AsksWithin}
+use Rattle.std.specs.Range.Bound.{bound_map}
 use Rattle.iddqd_order.specs.Cursor.{part}
-use Rattle.iddqd_order.specs.Digits.{bound}
-use Rattle.iddqd_order.specs.Search.{Askable, SearchAsks, IsSteadyRising, IsPlace}
+use Rattle.iddqd_order.specs.Search.{SearchAsks, TwoSearchesAsk, IsSteadyRising, IsPlace}
 use Rattle.iddqd_order.specs.declared.btree_table.asking.Asking.{Asking}
 use Rattle.iddqd_order.specs.declared.btree_table.range.Range.{Range}
 
@@ -42,6 +42,10 @@ pub record IsPart (xs : List ℕ) (from to : ℕ) (walk : Range) : Type 0 where
   pub to_within : to ≤ length xs
   pub ahead : indexes_ahead walk ≡ part from to xs
 
+-- how a bound reads a key: as its query compares with the key
+abbrev pub bound_reading : {Q K : Type 0} → (Q → K → Ordering) → Bound (Bor Q) → Bound (K → Ordering)
+bound_reading compare b = bound_map (λ q. compare q.now) b
+
 -- A walk between two bounds. One asking serves both. A bound says how it reads an answer.
 module _ {F R : Type 0} (g : Mut F (ℕ × Unit {0}) R) (xs : List ℕ) where
   -- If the answers are steady and rise, the position of the first index within the lower bound. Without a bound it is
@@ -60,7 +64,7 @@ module _ {F R : Type 0} (g : Mut F (ℕ × Unit {0}) R) (xs : List ℕ) where
 
   pub record WalksBetween (lower upper : Bound (R → Ordering)) (old : Asking F) (walk : Range) (new : Asking F)
       : Type 0 where
-    pub asked : AsksWithin g (Askable xs None) (2 * bound (length xs)) old new
+    pub asked : TwoSearchesAsk g xs None old new
     pub from : ℕ
     pub to : ℕ
     pub ahead : IsPart xs from to walk

@@ -1,5 +1,5 @@
 -- How a search asks, and what its answers mean.
-use Rattle.std.specs.Prelude.{◌≡◌, ◌≢◌, ℕ, ◌<◌, ◌≤◌, ◌==◌, List, All, Contains, Option, Some, None, IfSome, IsNone, Result, IfOk, IfErr, is_err, true, if◌then◌else◌, slice_index, length}
+use Rattle.std.specs.Prelude.{◌≡◌, ◌≢◌, ℕ, ◌*◌, ◌<◌, ◌≤◌, ◌==◌, List, All, Contains, Option, Some, None, IfSome, IsNone, Result, IfOk, IfErr, is_err, true, if◌then◌else◌, slice_index, length}
 use Rattle.std.specs.declared.cmp.Ordering.{Ordering}
 use Rattle.std.specs.declared.cmp.Ordering.TheVariants.{Less, Equal, Greater}
 use Rattle.std.specs.Ordering.{nat_cmp, ordering_then}
@@ -42,6 +42,10 @@ module _ {F R : Type 0} (g : Mut F (ℕ × Unit {0}) R) (xs : List ℕ) (sought 
   -- the search asks at most 4 plus twice the number of binary digits of the length, and counts each ask
   abbrev pub SearchAsks : Asking F → Asking F → Type 0
   SearchAsks old new = AsksWithin g (Askable xs sought) (bound (length xs)) old new
+
+  -- two searches ask at most twice as often as one may, and count each ask
+  abbrev pub TwoSearchesAsk : Asking F → Asking F → Type 0
+  TwoSearchesAsk old new = AsksWithin g (Askable xs sought) (2 * bound (length xs)) old new
 
   -- the answers, as `read` turns them into `Ordering`s, are one function of the index
   abbrev pub IsSteady : (R → Ordering) → (ℕ → Ordering) → Asking F → Type 0

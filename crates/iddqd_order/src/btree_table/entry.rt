@@ -2,8 +2,8 @@
 //!
 //! An entry keeps the path of its search, so removing its index, or inserting one at its gap, asks nothing.
 //! An Equal answer is a hit, so ties aren't broken by index.
-ghost use Rattle.std.specs.Prelude.{◌≡◌, ◌≢◌, ◌+◌, ◌<◌, ◌≤◌, None, IsOk, IfOk, Contains, length};
-ghost use Rattle.iddqd_order.specs.MapBTreeTable.{order_of, capacity, without, sentinel};
+ghost use Rattle.std.specs.Prelude.{◌≡◌, ◌≢◌, ◌+◌, ◌≤◌, None, IsOk, IfOk, Contains};
+ghost use Rattle.iddqd_order.specs.MapBTreeTable.{order_of, capacity, HasRoom, without, sentinel};
 ghost use Rattle.iddqd_order.specs.Node.{AtIndex, InGap};
 ghost use Rattle.iddqd_order.specs.Search.{CanSearch};
 ghost use Rattle.iddqd_order.specs.Tree.{ReachesGapIn, FullIn, ReachesIndexIn, ReachesIn-prop, FullIn-prop};
@@ -148,9 +148,8 @@ impl<'a> VacantEntry<'a> {
         ensures prepared { IfOk result (FillsEntry self.entry ix) }
         ensures memory { IfOk result
             (λ p. capacity (prepared_insert.table_of p).now ≡ capacity (vacant_table self.entry).now) }
-        ensures roomy { length (order_of (vacant_table self.entry).now) < capacity (vacant_table self.entry).now →
-            IsOk result }
-        ensures no_blocks { length (order_of (vacant_table self.entry).now) < capacity (vacant_table self.entry).now →
+        ensures roomy { HasRoom (vacant_table self.entry).now → IsOk result }
+        ensures no_blocks { HasRoom (vacant_table self.entry).now →
             IfOk result (λ p. prepared_insert.blocks_of p ≡ 0) }
     {
         let VacantEntry { table, gap } = self;

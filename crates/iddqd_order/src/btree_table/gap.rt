@@ -2,13 +2,11 @@
 //!
 //! A gap is valid only for the table that it was found in, until that table's tree changes. An insert at a gap asks
 //! nothing. It takes no memory but the blocks that it is given, and below the capacity it needs none of them.
-ghost use Rattle.std.specs.Prelude.{◌≡◌, ◌≢◌, ◌*◌, ◌+◌, ◌<◌, ◌≤◌, Some, IsOk, IfOk, Contains, length, insert};
-ghost use Rattle.iddqd_order.specs.Asks.{AsksWithin};
-ghost use Rattle.iddqd_order.specs.Digits.{bound};
+ghost use Rattle.std.specs.Prelude.{◌≡◌, ◌≢◌, ◌+◌, ◌≤◌, Some, IsOk, IfOk, Contains, length, insert};
 ghost use Rattle.iddqd_order.specs.Gap.{Fits, gap_place, gap_blocks, FindsGap, FindsOwnGap};
-ghost use Rattle.iddqd_order.specs.MapBTreeTable.{order_of, capacity, move_blocks, without, sentinel};
+ghost use Rattle.iddqd_order.specs.MapBTreeTable.{order_of, capacity, HasRoom, move_blocks, without, sentinel};
 ghost use Rattle.iddqd_order.specs.PreparedBTreeMove.{PutsIn};
-ghost use Rattle.iddqd_order.specs.Search.{Askable, CanSearch};
+ghost use Rattle.iddqd_order.specs.Search.{CanSearch, TwoSearchesAsk};
 
 use crate::btree_table::asking::Asking;
 use crate::btree_table::blocks::Blocks;
@@ -72,8 +70,7 @@ impl MapBTreeTable {
     /// Allocates the blocks for an insert at the gap: none below the capacity.
     pub fn blocks_at(&self, gap: &Gap) -> Result<Blocks, AllocError>
         ensures blocks { IfOk result (λ blocks. blocks ≡ gap_blocks self.now gap.now) }
-        ensures roomy { Fits self.now gap.now → length (order_of self.now) < capacity self.now →
-            gap_blocks self.now gap.now ≡ 0 }
+        ensures roomy { Fits self.now gap.now → HasRoom self.now → gap_blocks self.now gap.now ≡ 0 }
         ensures none { gap_blocks self.now gap.now ≡ 0 → IsOk result }
     {
         self.allocate_blocks(gap.full)
@@ -117,8 +114,7 @@ impl MapBTreeTable {
         requires stored { Contains (order_of self.old) ix }
         requires can_search { CanSearch F.FnMut (order_of self.old) (Some ix) asking.old }
         requires enough { move_blocks self.old ≤ blocks }
-        ensures asked { AsksWithin F.FnMut (Askable (order_of self.old) (Some ix))
-            (2 * bound (length (order_of self.old))) asking.old asking.new }
+        ensures asked { TwoSearchesAsk F.FnMut (order_of self.old) (Some ix) asking.old asking.new }
         ensures moved { PutsIn F.FnMut (K.cmp new_key.now) (without (order_of self.old) ix) ix asking.old
             (order_of self.new) }
         ensures memory { capacity self.new ≡ capacity self.old }

@@ -4,11 +4,9 @@
 //! the index. Up to the capacity a move takes no block, since the index is removed before it is inserted again.
 //! Past the capacity the prepare takes as many blocks as any insert into a tree of that height can need: one for
 //! each inner node on a path, and one for a new root.
-ghost use Rattle.std.specs.Prelude.{true, ◌≡◌, ◌≢◌, ◌*◌, ◌<◌, ◌≤◌, Some, IsOk, IfOk, Contains, length};
-ghost use Rattle.iddqd_order.specs.Asks.{AsksWithin};
-ghost use Rattle.iddqd_order.specs.Digits.{bound};
+ghost use Rattle.std.specs.Prelude.{true, ◌≡◌, ◌≢◌, ◌<◌, ◌≤◌, Some, IsOk, IfOk, Contains, length};
 ghost use Rattle.iddqd_order.specs.MapBTreeTable.{order_of, capacity, spare_blocks, move_blocks, sentinel, without, IsIndexList};
-ghost use Rattle.iddqd_order.specs.Search.{Askable, CanSearch, SearchAsks};
+ghost use Rattle.iddqd_order.specs.Search.{CanSearch, SearchAsks, TwoSearchesAsk};
 
 use crate::btree_table::asking::Asking;
 use crate::btree_table::blocks::{Blocks, HoldsBlocks};
@@ -103,7 +101,7 @@ impl MapBTreeTable {
 }
 
 impl<'a> PreparedBTreeMove<'a> {
-    ghost use Rattle.iddqd_order.specs.PreparedBTreeMove.{table_of, index_of, PutsIn};
+    ghost use Rattle.iddqd_order.specs.PreparedBTreeMove.{table_of, index_of, others_of, PutsIn};
 
     /// Removes the index, inserts it where `entering` leads, and returns the table. The others keep
     /// their order. If an answer is Equal, the lesser index comes first.
@@ -122,10 +120,10 @@ impl<'a> PreparedBTreeMove<'a> {
         ensures same_reference { result.ghost_name ≡ (table_of self.entry).ghost_name }
         ensures leaving_asked { SearchAsks F.FnMut (order_of (table_of self.entry).now) (Some (index_of self.entry))
             leaving.old leaving.new }
-        ensures entering_asked { SearchAsks G.FnMut (without (order_of (table_of self.entry).now) (index_of self.entry))
-            (Some (index_of self.entry)) entering.old entering.new }
-        ensures moved { PutsIn G.FnMut (λ r. r) (without (order_of (table_of self.entry).now) (index_of self.entry))
-            (index_of self.entry) entering.old (order_of result.now) }
+        ensures entering_asked { SearchAsks G.FnMut (others_of self.entry) (Some (index_of self.entry))
+            entering.old entering.new }
+        ensures moved { PutsIn G.FnMut (λ r. r) (others_of self.entry) (index_of self.entry) entering.old
+            (order_of result.now) }
         ensures memory { capacity result.now ≡ capacity (table_of self.entry).now }
     {
         let PreparedBTreeMove { table, ix, blocks } = self;
@@ -149,11 +147,10 @@ impl<'a> PreparedBTreeMove<'a> {
     ) -> &'a mut MapBTreeTable
         requires { CanSearch F.FnMut (order_of (table_of self).now) (Some (index_of self)) asking.old }
         ensures same_reference { result.ghost_name ≡ (table_of self.entry).ghost_name }
-        ensures asked { AsksWithin F.FnMut (Askable (order_of (table_of self.entry).now) (Some (index_of self.entry)))
-            (2 * bound (length (order_of (table_of self.entry).now))) asking.old asking.new }
-        ensures moved { PutsIn F.FnMut (K.cmp new_key.now)
-            (without (order_of (table_of self.entry).now) (index_of self.entry)) (index_of self.entry)
-            asking.old (order_of result.now) }
+        ensures asked { TwoSearchesAsk F.FnMut (order_of (table_of self.entry).now) (Some (index_of self.entry))
+            asking.old asking.new }
+        ensures moved { PutsIn F.FnMut (K.cmp new_key.now) (others_of self.entry) (index_of self.entry) asking.old
+            (order_of result.now) }
         ensures memory { capacity result.now ≡ capacity (table_of self.entry).now }
     {
         let PreparedBTreeMove { table, ix, blocks } = self;

@@ -12,10 +12,9 @@
 ghost use Rattle.std.specs.Prelude.{◌≡◌, ◌≢◌, None, length};
 ghost use Rattle.std.specs.declared.cmp.Ordering.{Ordering};
 ghost use Rattle.std.specs.declared.cmp.Ordering.TheVariants.{Less, Equal, Greater};
-ghost use Rattle.std.specs.Range.Bound.{bound_map};
 ghost use Rattle.iddqd_order.specs.Cursor.{edge_of};
 ghost use Rattle.iddqd_order.specs.MapBTreeTable.{order_of};
-ghost use Rattle.iddqd_order.specs.Range.{Begins, Ends, IsBoundBy, IsPart, WalksBetween, WalksBetweenBy, WalksFrom};
+ghost use Rattle.iddqd_order.specs.Range.{bound_reading, Begins, Ends, IsBoundBy, IsPart, WalksBetween, WalksBetweenBy, WalksFrom};
 ghost use Rattle.iddqd_order.specs.Search.{CanSearch, SearchAsks};
 ghost use Rattle.iddqd_order.specs.Tree.{ReachesGapIn, place_in};
 
@@ -240,8 +239,8 @@ impl MapBTreeTable {
         asking: &mut Asking<F>,
     ) -> Range<'_>
         requires { CanSearch F.FnMut (order_of self.now) None asking.old }
-        ensures { WalksBetween F.FnMut (order_of self.now) (bound_map (λ q. Q.compare q.now) lower.entry)
-            (bound_map (λ q. Q.compare q.now) upper.entry) asking.old result asking.new }
+        ensures { WalksBetween F.FnMut (order_of self.now) (bound_reading Q.compare lower.entry)
+            (bound_reading Q.compare upper.entry) asking.old result asking.new }
     {
         let front = self.find_lower(lower, asking);
         let back = self.find_upper(upper, asking);
@@ -274,7 +273,7 @@ impl MapBTreeTable {
         requires { CanSearch F.FnMut (order_of self.now) None asking.old }
         ensures goes { ReachesGapIn self.now.root self.now.height result }
         ensures asked { SearchAsks F.FnMut (order_of self.now) None asking.old asking.new }
-        ensures begins { Begins F.FnMut (order_of self.now) (bound_map (λ q. Q.compare q.now) lower.entry) asking.old
+        ensures begins { Begins F.FnMut (order_of self.now) (bound_reading Q.compare lower.entry) asking.old
             (place_in self.now.root self.now.height result) }
     {
         match lower {
@@ -293,7 +292,7 @@ impl MapBTreeTable {
         requires { CanSearch F.FnMut (order_of self.now) None asking.old }
         ensures goes { ReachesGapIn self.now.root self.now.height result }
         ensures asked { SearchAsks F.FnMut (order_of self.now) None asking.old asking.new }
-        ensures ends { Ends F.FnMut (order_of self.now) (bound_map (λ q. Q.compare q.now) upper.entry) asking.old
+        ensures ends { Ends F.FnMut (order_of self.now) (bound_reading Q.compare upper.entry) asking.old
             (place_in self.now.root self.now.height result) }
     {
         match upper {

@@ -5,7 +5,7 @@ ghost use Rattle.iddqd.specs.Compaction.{CanRemap, remapped};
 ghost use Rattle.iddqd_order.specs.Asks.{AsksWithin};
 ghost use Rattle.iddqd_order.specs.Descent.{EndsIn};
 ghost use Rattle.iddqd_order.specs.Gap.{FindsOwnGap, gap_place};
-ghost use Rattle.iddqd_order.specs.MapBTreeTable.{order_of, capacity, spare_blocks, fresh_for, move_blocks, without, sentinel, IsIndexList, IsSpot, LeadsTo, spot_place};
+ghost use Rattle.iddqd_order.specs.MapBTreeTable.{order_of, capacity, HasRoom, spare_blocks, fresh_for, move_blocks, without, sentinel, IsIndexList, IsSpot, LeadsTo, spot_place};
 ghost use Rattle.iddqd_order.specs.Tree.{IsTree, ReachesGapIn, place_in, FullIn, ReachesIndexIn, place_at_level_in, blocks_for};
 ghost use Rattle.iddqd_order.specs.declared.btree_table.reserve.TheConstants.{FREE_INDEXES};
 ghost use Rattle.iddqd_order.specs.Search.{Askable, CanSearch, SearchAsks, IsSteady, IsSteadyRising, IsPlace, Finds, with_ties};
@@ -290,9 +290,8 @@ impl MapBTreeTable {
         ensures asked { SearchAsks F.FnMut (order_of self.old) (Some ix) asking.old asking.new }
         ensures prepared { IfOk result (PreparesInsert F.FnMut (λ r. r) (order_of self.old) ix asking.old) }
         ensures memory { IfOk result (λ p. capacity (prepared_insert.table_of p).now ≡ capacity self.old) }
-        ensures roomy { length (order_of self.old) < capacity self.old → IsOk result }
-        ensures no_blocks { length (order_of self.old) < capacity self.old →
-            IfOk result (λ p. prepared_insert.blocks_of p ≡ 0) }
+        ensures roomy { HasRoom self.old → IsOk result }
+        ensures no_blocks { HasRoom self.old → IfOk result (λ p. prepared_insert.blocks_of p ≡ 0) }
     {
         self.prepare(ix, asking, &AsOrdering)
     }
@@ -317,9 +316,8 @@ impl MapBTreeTable {
         ensures prepared { IfOk result
             (PreparesInsert F.FnMut (Q.compare query.now) (order_of self.old) ix asking.old) }
         ensures memory { IfOk result (λ p. capacity (prepared_insert.table_of p).now ≡ capacity self.old) }
-        ensures roomy { length (order_of self.old) < capacity self.old → IsOk result }
-        ensures no_blocks { length (order_of self.old) < capacity self.old →
-            IfOk result (λ p. prepared_insert.blocks_of p ≡ 0) }
+        ensures roomy { HasRoom self.old → IsOk result }
+        ensures no_blocks { HasRoom self.old → IfOk result (λ p. prepared_insert.blocks_of p ≡ 0) }
     {
         self.prepare(ix, asking, &ByQuery(query))
     }
@@ -339,9 +337,8 @@ impl MapBTreeTable {
         ensures asked { SearchAsks F.FnMut (order_of self.old) (Some ix) asking.old asking.new }
         ensures prepared { IfOk result (PreparesInsert F.FnMut (H.reading how.now) (order_of self.old) ix asking.old) }
         ensures memory { IfOk result (λ p. capacity (prepared_insert.table_of p).now ≡ capacity self.old) }
-        ensures roomy { length (order_of self.old) < capacity self.old → IsOk result }
-        ensures no_blocks { length (order_of self.old) < capacity self.old →
-            IfOk result (λ p. prepared_insert.blocks_of p ≡ 0) }
+        ensures roomy { HasRoom self.old → IsOk result }
+        ensures no_blocks { HasRoom self.old → IfOk result (λ p. prepared_insert.blocks_of p ≡ 0) }
     {
         let gap = self.find_own_gap(ix, asking, how);
         let blocks = match self.allocate_blocks(gap.full) {
@@ -426,7 +423,7 @@ impl MapBTreeTable {
         ensures few { full ≤ self.now.height + 1 → fresh_for self.now full ≤ LEVELS }
         ensures roomy { (path : List ℕ) → ReachesGapIn self.now.root self.now.height path →
             FullIn full self.now.root self.now.height path → full ≤ self.now.height + 1 →
-            length (order_of self.now) < capacity self.now → fresh_for self.now full ≡ 0 }
+            HasRoom self.now → fresh_for self.now full ≡ 0 }
         ensures none { fresh_for self.now full ≡ 0 → IsOk result }
     {
         let count = if full > self.height {

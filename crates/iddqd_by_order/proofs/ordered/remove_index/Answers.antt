@@ -8,6 +8,6 @@ pub prepare_remove-requires : goal.prepare_remove-requires
 prepare_remove-requires g c =
     CanAsk-by _ _ (λ f. f ≡ closure_of c.new-asking.result) (λ f f' ix r i h e. search rules)
     (λ f ix i h.
-    let live : IsLive c.args.items.now.store ix = c.requires.stored ix h.0 in
+    let live : IsLive c.args.items.now.store ix = c.requires.all_live ix h.0 in
     search rules)
     _ refl
