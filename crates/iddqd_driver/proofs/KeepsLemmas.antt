@@ -17,7 +17,7 @@ use Rattle.iddqd_by_order.proofs.OrderedHoldsLemmas as order_holds
 use Rattle.iddqd_by_order.proofs.OrderedPlaceLemmas as order_place
 use Rattle.iddqd_driver.specs.Keys.{Keys, first_hashing}
 use Rattle.iddqd_driver.specs.State.{State, empty_state_within, cleared_state, unbound, compacted_state, IsPaired, IsEmpty}
-use Rattle.iddqd_driver.specs.KeyIndexes.{hash_in, first_key_index, second_key_index, LooksUp, FirstKeysInOrder, SecondKeysInOrder, Keeps, KeepsUnlessChanged}
+use Rattle.iddqd_driver.specs.KeyIndexes.{hash_in, first_key_index, second_key_index, LooksUp, FirstKeysInSync, SecondKeysInSync, Keeps, KeepsUnlessChanged}
 use Rattle.iddqd_driver.specs.Machine.{inserted_state}
 use Rattle.iddqd_driver.proofs.KeyLemmas.{AreLawful}
 
@@ -65,11 +65,11 @@ module _ {T S : Type 0} where
 
 module _ {T S K1 K2 : Type 0} (keys : Keys T K1 K2 S) where
   -- where nothing is live
-  pub FirstKeysInOrder-bare : (s : State T S) → IsPaired s → IsEmpty s → FirstKeysInOrder keys s
-  FirstKeysInOrder-bare s paired = filed_place.IsInSync-bare keys.first (first_hashing keys s.hasher) s.store s.filed
+  pub FirstKeysInSync-bare : (s : State T S) → IsPaired s → IsEmpty s → FirstKeysInSync keys s
+  FirstKeysInSync-bare s paired = filed_place.IsInSync-bare keys.first (first_hashing keys s.hasher) s.store s.filed
 
-  pub SecondKeysInOrder-bare : (s : State T S) → IsPaired s → IsEmpty s → SecondKeysInOrder keys s
-  SecondKeysInOrder-bare s paired =
+  pub SecondKeysInSync-bare : (s : State T S) → IsPaired s → IsEmpty s → SecondKeysInSync keys s
+  SecondKeysInSync-bare s paired =
       order_place.IsInSync-bare keys.second keys.compare_second s.store s.order (Holds-order s paired)
 
   -- a look-up in the hash table, seen in its parts, under the hash of a lawful key

@@ -5,7 +5,7 @@ use Rattle.std.proofs.lemmas.List.Elements.{All-cons, All-nil, All-head, All-tai
 use Rattle.iddqd.specs.Store.{Store, live_count}
 use Rattle.iddqd_driver.specs.Keys.{Keys}
 use Rattle.iddqd_driver.specs.State.{State, IsPaired, IsEmpty}
-use Rattle.iddqd_driver.specs.KeyIndexes.{IsInSync, InOrder, ChangesKey, AsScan, first_key_index, second_key_index}
+use Rattle.iddqd_driver.specs.KeyIndexes.{IsInSync, AreInSync, ChangesKey, AsScan, first_key_index, second_key_index}
 use Rattle.iddqd_driver.specs.Machine.{Answers, Step}
 use Rattle.iddqd_driver.specs.Run.{Run, IsStepChain, No_step, Next_step, IsQuietAfter, IsExactFrom, IsInSyncWhereQuiet, IsSilentChange, AnswersAsScan}
 use Rattle.iddqd_driver.specs.Memory.{Memory, SizedState, IsNoLower, TakesForOne, StepsInMemory, RefusesMemory, IsServedBelow, RunsInMemory, capacity, room}
@@ -13,7 +13,7 @@ use Rattle.iddqd_driver.specs.declared.command.Command.{Command}
 use Rattle.iddqd_driver.specs.declared.command.Command.TheVariants.{Insert, Find1, Find2, Remove, Remove1, Remove2, Overwrite, Compact, Clear, Walk}
 use Rattle.iddqd_driver.specs.declared.command.Reply.{Reply}
 use Rattle.iddqd_driver.specs.declared.command.Reply.TheVariants.{Inserted, Refused, Found, Removed, Overwritten, Compacted, Cleared, Walked, NoMemory}
-use Rattle.iddqd_driver.proofs.KeepsLemmas.{FirstKeysInOrder-bare, SecondKeysInOrder-bare}
+use Rattle.iddqd_driver.proofs.KeepsLemmas.{FirstKeysInSync-bare, SecondKeysInSync-bare}
 
 module _ {T S K1 K2 : Type 0} (keys : Keys T K1 K2 S) where
   -- a chain goes on by one step
@@ -72,9 +72,9 @@ module _ {T S K1 K2 : Type 0} (keys : Keys T K1 K2 S) where
         moments = moments;
         steps = chain;
         paired = paired_along chain paired;
-        quiet = exact_from_start (IsSilentChange keys) (InOrder keys) (AnswersAsScan keys)
+        quiet = exact_from_start (IsSilentChange keys) (AreInSync keys) (AnswersAsScan keys)
             (λ s p none.
-            record { first = FirstKeysInOrder-bare keys s p none; second = SecondKeysInOrder-bare keys s p none })
+            record { first = FirstKeysInSync-bare keys s p none; second = SecondKeysInSync-bare keys s p none })
             (λ old new command reply step o. (
               (step.first_keys.as_scan o.first, step.second_keys.as_scan o.second),
               λ none. record {
@@ -83,12 +83,12 @@ module _ {T S K1 K2 : Type 0} (keys : Keys T K1 K2 S) where
               },
             ))
             chain paired;
-        quiet_first_keys = exact_from_start (ChangesKey first) (IsInSync first) (AsScan first) (FirstKeysInOrder-bare keys)
+        quiet_first_keys = exact_from_start (ChangesKey first) (IsInSync first) (AsScan first) (FirstKeysInSync-bare keys)
             (λ old new command reply step o.
             (step.first_keys.as_scan o, λ none. (step.first_keys.keeps none).in_sync o))
             chain paired;
         quiet_second_keys =
-            exact_from_start (ChangesKey second) (IsInSync second) (AsScan second) (SecondKeysInOrder-bare keys)
+            exact_from_start (ChangesKey second) (IsInSync second) (AsScan second) (SecondKeysInSync-bare keys)
             (λ old new command reply step o.
             (step.second_keys.as_scan o, λ none. (step.second_keys.keeps none).in_sync o))
             chain paired;

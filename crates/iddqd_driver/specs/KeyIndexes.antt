@@ -73,6 +73,10 @@ module _ {T S K1 K2 K : Type 0} (key_index : KeyIndex T S K1 K2 K) where
   ReportsScan s (Reports_found key result) = AnswersScan s (has key) result
   ReportsScan s (Reports_all indexes) = key_index.Lists s indexes
 
+  -- a list of all indexes: if the key index is in sync, it is one that a scan of the live items returns
+  abbrev pub ListsAsScan : State T S → List ℕ → Type 0
+  ListsAsScan s indexes = IsInSync s → key_index.Lists s.store indexes
+
   -- what a command with its reply reports of keys is what a scan of the live items returns
   abbrev pub AsScan : Store T → Command T K1 K2 → Reply T → Type 0
   AsScan s command reply = ReportsScan s (key_index.report command reply)
@@ -128,17 +132,17 @@ module _ {T S K1 K2 : Type 0} (keys : Keys T K1 K2 S) where
 
   -- Each live index is filed under the hash of its item's first key, and the first keys of live items are pairwise
   -- distinct.
-  abbrev pub FirstKeysInOrder : State T S → Type 0
-  FirstKeysInOrder = IsInSync first_key_index
+  abbrev pub FirstKeysInSync : State T S → Type 0
+  FirstKeysInSync = IsInSync first_key_index
 
   -- The order is sorted, and the second keys of live items are pairwise distinct.
-  abbrev pub SecondKeysInOrder : State T S → Type 0
-  SecondKeysInOrder = IsInSync second_key_index
+  abbrev pub SecondKeysInSync : State T S → Type 0
+  SecondKeysInSync = IsInSync second_key_index
 
-  -- both tables are in place for the keys of the live items, and no two items share a key
-  pub record InOrder (s : State T S) : Type 0 where
-    pub first : FirstKeysInOrder s
-    pub second : SecondKeysInOrder s
+  -- both tables are in sync with the keys of the live items
+  pub record AreInSync (s : State T S) : Type 0 where
+    pub first : FirstKeysInSync s
+    pub second : SecondKeysInSync s
 
   -- what a call that changes no key of a live index preserves
   pub record Keeps (old new : State T S) : Type 0 where

@@ -21,7 +21,7 @@ pub record Keys (T K1 K2 S : Type 0) : Type 0 where
   pub compare_second : K2 → K2 → Ordering
   pub hash_first : S → K1 → ℕ
 
--- the keys, from the members of the bounds that a clause has
+-- the keys, from the ghost members of their traits and of the hasher's
 abbrev pub keys_of :
     {T K1 K2 S H : Type 0} → Ghosts T K1 K2 → (K1 → K1 → Bool) → (K1 → List (List ℕ)) → (K2 → K2 → Ordering)
     → builder.Ghosts S H → hasher.Ghosts H → Keys T K1 K2 S

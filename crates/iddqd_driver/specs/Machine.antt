@@ -60,7 +60,7 @@ module _ {T S K1 K2 : Type 0} (keys : Keys T K1 K2 S) where
         order = order;
       }
 
-  -- There was room for the item, and it was stored: its index was filed, and inserted into the order at some place.
+  -- The store was not full, and the item was stored: its index was filed, and inserted into the order at some place.
   -- Nothing else changed.
   pub record StoresAt (old : State T S) (item : T) (ix : ℕ) (new : State T S) : Type 0 where
     pub not_full : IsFull old.store → ⊥

@@ -51,7 +51,7 @@ sized_state_code {T} {S} item hasher =
     (λ p. record { state = p.0; memory = p.1 })
     (λ _. refl)
 
--- the memory of a collection that has allocated nothing
+-- the memory of a collection that has allocated nothing: an ordered table has room for 10 indexes without a block
 abbrev pub no_memory : Memory
 no_memory = record { slots = 0; hashed = 0; cells = 0; ordered = 10 }
 
@@ -99,8 +99,8 @@ pub record InsertsInMemory
   pub had_room : has_room → new ≡ old
   pub not_refused : has_room → IfErr result (λ refusal. IsOutOfMemory refusal → ⊥)
 
--- The most that an insert beside `items` items allocates, whether it is refused or not: slots for twice as many, at
--- least four, and at most the limit; and no more cells than one more index needs.
+-- The most memory after an insert beside `items` items, whether it is refused or not, if there was less: slots for
+-- twice as many, at least four, and at most the limit; and the cells that `items + 1` indexes need.
 pub record TakesForOne (limit items : ℕ) (old new : Memory) : Type 0 where
   pub slots : new.slots ≤ max old.slots (min limit (max 4 (2 * items)))
   pub cells : new.cells ≤ max old.cells (most_cells (items + 1))
@@ -110,6 +110,16 @@ pub record HasRoomInParts {T : Type 0} (items : SizedStore T) (table : Table ℕ
   pub slots : 1 ≤ set_room items
   pub hashed : finite.len (filed table) < hashed_capacity table
   pub ordered : length (order_of order) < ordered_capacity order
+
+-- what an insert into a store and two tables leaves of their memory
+abbrev pub InsertsInParts :
+    {T : Type 0} → SizedStore T → Table ℕ → Order → Result ℕ (InsertRefusal T) → SizedStore T → Table ℕ → Order → Type 0
+InsertsInParts items table order result new_items new_table new_order =
+    InsertsInMemory
+    (HasRoomInParts items table order)
+    (memory_of items table order)
+    result
+    (memory_of new_items new_table new_order)
 
 -- the memory is made for `items` items: each part can hold these, and has no more than these need
 pub record IsMadeFor (items : ℕ) (memory : Memory) : Type 0 where
@@ -156,8 +166,8 @@ module _ {T S : Type 0} where
         ≤ max old.memory.ordered (capacity_for (live_count old.state.store + reservable additional old))
 
   -- What a shrink to `least` items leaves: the contents, and a capacity for that many, or for the items that there are
-  -- if these are more. At Ok no part has more than these need, except that the store keeps every slot, also the vacant
-  -- ones.
+  -- if these are more; no more than there was, if there was less. At Ok no part has more than these need, except that
+  -- the store keeps every slot, also the vacant ones.
   pub record ShrinksInMemory {E : Type 0}
       (least : ℕ) (old : SizedState T S) (result : Result (Unit {0}) E) (new : SizedState T S) : Type 0 where
     pub contents : new.state ≡ old.state
@@ -168,8 +178,9 @@ module _ {T S : Type 0} where
         new.memory.ordered ≡ min old.memory.ordered (capacity_for (max least (live_count old.state.store)))
     pub never_more : (new.memory.slots ≤ old.memory.slots) × (new.memory.cells ≤ old.memory.cells)
 
-  -- One step and its memory: no part can hold less than before; if there is room for an item, no memory is taken and no
-  -- item is refused for memory; only an insert takes memory, and no more than one more item needs.
+  -- One step and the memory of the store and both tables: no part can hold less than before; if there is room for an
+  -- item, they take none and no item is refused for memory; only an insert gives them more, at most as `TakesForOne`
+  -- says. The lists that `Walk` and `Compact` return are not counted.
   pub record StepsInMemory
       {K1 K2 : Type 0} (old : SizedState T S) (command : Command T K1 K2) (reply : Reply T) (new : SizedState T S)
       : Type 0 where

@@ -3,8 +3,11 @@ use Rattle.std.specs.Prelude.{◌≡◌, ℕ, Option, Some, None}
 use Rattle.std.specs.Borrow.{MutBor}
 use Rattle.std.specs.Fn.{Once}
 use Rattle.iddqd.specs.Store.{get}
-use Rattle.iddqd_keys.specs.KeyKeeping.{ModifiesItem}
+use Rattle.iddqd_keys.specs.KeyKeeping.{KeepsKey, ModifiesItem, pair_keys}
+use Rattle.iddqd_driver.specs.Keys.{Keys}
 use Rattle.iddqd_driver.specs.State.{State}
+use Rattle.iddqd_driver.specs.KeyIndexes.{KeyIndex, LooksUp}
+use Rattle.iddqd_driver.specs.Queries.{LooksUpItem}
 
 module _ {F T R S : Type 0} (g : Once F (MutBor T × Unit {0}) (R × (MutBor T × Unit {0}))) (f : F) where
   -- What a modification at an index may return and leave. The item at a live index was modified, and neither table
@@ -19,3 +22,13 @@ module _ {F T R S : Type 0} (g : Once F (MutBor T × Unit {0}) (R × (MutBor T �
   abbrev pub ModifiesFound : (Option ℕ → Type 0) → State T S → Option R → State T S → Type 0
   ModifiesFound finds old (Some result) new = (ix : ℕ) × finds (Some ix) × ModifiesAt old ix (Some result) new
   ModifiesFound finds old None new = finds None × (new ≡ old)
+
+  module _ {K1 K2 K : Type 0} where
+    -- f may be called with a `&mut` to each item that the look-up of a key may return, and leaves it both keys
+    abbrev pub KeepsKeysOfFound : Keys T K1 K2 S → KeyIndex T S K1 K2 K → State T S → K → Type 0
+    KeepsKeysOfFound keys key_index s key =
+        KeepsKey g f (pair_keys keys.first keys.second) (λ item. LooksUpItem key_index s key (Some item))
+
+    -- what a modification of the item that the look-up of a key finds may return and leave
+    abbrev pub ModifiesByKey : KeyIndex T S K1 K2 K → State T S → K → Option R → State T S → Type 0
+    ModifiesByKey key_index old key result new = ModifiesFound (LooksUp key_index old key) old result new

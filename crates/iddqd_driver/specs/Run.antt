@@ -3,7 +3,7 @@ use Rattle.std.specs.Prelude.{List, [], ◌∷◌, ◌⊎◌, All}
 use Rattle.iddqd.specs.Store.{Store}
 use Rattle.iddqd_driver.specs.Keys.{Keys}
 use Rattle.iddqd_driver.specs.State.{State, IsPaired, IsEmpty}
-use Rattle.iddqd_driver.specs.KeyIndexes.{KeyIndex, IsInSync, InOrder, ChangesKey, AsScan, first_key_index, second_key_index}
+use Rattle.iddqd_driver.specs.KeyIndexes.{KeyIndex, IsInSync, AreInSync, ChangesKey, AsScan, first_key_index, second_key_index}
 use Rattle.iddqd_driver.specs.Machine.{Step}
 use Rattle.iddqd_driver.specs.declared.command.Command.{Command}
 use Rattle.iddqd_driver.specs.declared.command.Reply.{Reply}
@@ -62,14 +62,14 @@ module _ {T S K1 K2 : Type 0} (keys : Keys T K1 K2 S) where
   -- A run over a list of commands. Its steps say of every moment that hits have the key asked for, that a live index is
   -- removed whatever its keys are now, that compaction moves each index to its rank, and that an overwrite changes
   -- neither table. Both tables have each live index once and no other at every moment. From a moment without live
-  -- indexes on (or from the first, if all is in order) until a key is changed silently, all is in order and every reply
-  -- is that of a scan. The same holds for each key index alone until a key of that key index is changed, whatever
-  -- happens to the other.
+  -- indexes on (or from the first, if both tables are in sync) until a key is changed silently, both tables are in sync
+  -- and every reply is that of a scan. The same holds for each key index alone until a key of that key index is
+  -- changed, whatever happens to the other.
   pub record Run (old : State T S) (commands : List (Command T K1 K2)) (replies : List (Reply T)) (new : State T S)
       : Type 0 where
     pub moments : List (State T S)
     pub steps : IsStepChain old commands replies moments new
     pub paired : All IsPaired (old ∷ moments)
-    pub quiet : IsInSyncWhereQuiet IsSilentChange (InOrder keys) AnswersAsScan old commands replies moments
+    pub quiet : IsInSyncWhereQuiet IsSilentChange (AreInSync keys) AnswersAsScan old commands replies moments
     pub quiet_first_keys : IsKeyIndexInSyncWhereQuiet (first_key_index keys) old commands replies moments
     pub quiet_second_keys : IsKeyIndexInSyncWhereQuiet (second_key_index keys) old commands replies moments

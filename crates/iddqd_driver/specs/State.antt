@@ -55,8 +55,8 @@ module _ {T S : Type 0} where
   state_of hasher store table order =
       record { hasher = hasher; store = store; filed = filed table; order = order_of order }
 
-  -- The live indexes, the filed ones and those of the order are the same, and the order has none twice. The free
-  -- indexes are distinct and exactly the vacant ones.
+  -- The live indexes, the filed ones and those of the order are the same, and the order has none twice. The store's
+  -- list `free` has each vacant index once, and no other.
   pub record IsPaired (s : State T S) : Type 0 where
     pub valid : IsValid s.store
     pub filed : Holds s.store s.filed

@@ -5,7 +5,7 @@ use Rattle.iddqd_by_order.specs.OrderedWalk.{WalksWithin, pairs_at}
 use Rattle.iddqd_driver.specs.Keys.{Keys}
 use Rattle.iddqd_driver.specs.State.{State}
 
--- What an iteration between two bounds of the second key returns: the indexes of a run of the order with their items,
+-- What an iteration between two bounds of the second key returns: consecutive indexes of the order with their items,
 -- all live and each once; and if the second key index is in place, exactly those whose second keys are within, sorted
 -- by them.
 pub record RangesWithin

@@ -1,6 +1,7 @@
 //! Commands to keyed items, and the replies to them.
 //!
-//! `Command` has no `Debug` and no equality, since the types of its keys belong to the item's trait. `Reply` has both.
+//! `Command` has no `Debug` and no equality: a derive would require them of the item, and not of its keys' types.
+//! `Reply` has both.
 use crate::keyed_item::KeyedItem;
 use crate::keyed_items::InsertRefusal;
 use iddqd::index_remap::IndexRemap;

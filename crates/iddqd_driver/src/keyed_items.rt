@@ -7,9 +7,9 @@
 //! removes its index from both tables.
 //!
 //! A removal searches both tables, by the keys that the item has now, and scans a table only if the search misses. An
-//! insert searches the ordered table once, which finds a duplicate or the place of the new index. Each call that obeys
-//! a command has a clause that the states before and after it are paired, though the type says so too: `step` and `run`
-//! are proved from the calls' clauses alone.
+//! insert searches the ordered table once, which finds a duplicate or the place of the new index. Each call that
+//! `step` makes has a clause that the states before and after it are paired, though the type says so too: `step` and
+//! `run` are proved from the calls' clauses alone.
 ghost use Rattle.std.specs.Prelude.{◌≡◌, ◌↔◌, ◌≤◌, ◌+◌, ◌*◌, min, max, [], None, IsTrue, IsSome, OnSome, IsOk, IfOk, OnOk, IfErr, OnErr, option_copied};
 ghost use Rattle.std.specs.FinMap as finite;
 ghost use Rattle.iddqd.specs.{get, live_count, next_index, inserted, removed, IsFull, IsValid, IsRemapOf};
@@ -25,7 +25,7 @@ ghost use Rattle.iddqd_driver.specs.State.{empty_state, empty_state_within, clea
 ghost use Rattle.iddqd_driver.specs.KeyIndexes.{first_key_index, second_key_index, finds_reported, hash_in, LooksUp, IsInSync, Keeps, KeepsUnlessChanged};
 ghost use Rattle.iddqd_driver.specs.Machine.{Refuses, Inserts, ReportsAsScan, Removes, RemovesBy, Overwrites, Step};
 ghost use Rattle.iddqd_driver.specs.Run.{Run};
-ghost use Rattle.iddqd_driver.specs.Memory.{no_memory, capacity, room, memory_of, HasRoomInParts, InsertsInMemory, TakesForOne, StepsInMemory, RunsInMemory};
+ghost use Rattle.iddqd_driver.specs.Memory.{no_memory, capacity, room, InsertsInMemory, InsertsInParts, TakesForOne, StepsInMemory, RunsInMemory};
 
 mod defaults;
 mod memory;
@@ -64,7 +64,7 @@ pub use walks::ValuesByKey2;
 #[derive(Drop)]
 pub struct KeyedItems<T: KeyedItem, S: BuildHasher = DefaultHashBuilder> {
     items: ItemSet<T>,
-    // Each live index, under the hash that its item's first key had when it was inserted.
+    // Each live index, under the hash of the first key that `insert` or `replace` put there last.
     filed: MapHashTable,
     // Each live index: by second key, ties by index, if no second key was changed silently.
     order: MapBTreeTable,
@@ -169,7 +169,7 @@ impl<T: KeyedItem, S: BuildHasher> KeyedItems<T, S> {
     pub fn len(&self) -> usize
         ensures value { result ≡ live_count self.now.state.store }
 
-        // What every value keeps.
+        // The invariant of the type, so that a caller's proof has it of any collection.
         ensures paired { IsPaired self.now.state }
     {
         self.items.len()
@@ -262,9 +262,9 @@ impl<T: KeyedItem, S: BuildHasher> KeyedItems<T, S> {
 
     /// Replaces the item at a live index, and returns the old one. If the index isn't live, it returns the given item.
     ///
-    /// Neither table is updated, whatever the keys of both items: the index stays filed under the hash
-    /// that it has and in its place in the order. Look-ups may then miss the new keys, but never hit a
-    /// wrong one, and the index can still be removed. It takes no memory.
+    /// Neither table is updated, whatever the keys of both items: the index stays filed under the hash that it has, and
+    /// in its place in the order. Look-ups may then miss the new keys, and look-ups by second key any other, but none
+    /// hits a wrong one, and the index can still be removed. It takes no memory.
     pub fn overwrite(&mut self, ix: ItemIndex, item: T) -> Result<T, T>
         ensures overwrites { Overwrites self.old.state ix item result self.new.state }
         ensures keeps { KeepsUnlessChanged ⟦<Self as Keyed>⟧.keys self.old.state ix item self.new.state }
@@ -342,8 +342,8 @@ impl<T: KeyedItem, S: BuildHasher> KeyedItems<T, S> {
 
     /// Obeys commands in turn, one reply each.
     ///
-    /// The memory for all replies is taken first. If it runs out, or no vector can hold that many replies, nothing is
-    /// done and the commands come back; without commands that can't happen.
+    /// The memory of the vector of replies is taken first. If it runs out, or no vector can hold that many replies,
+    /// nothing is done and the commands come back; without commands that can't happen.
     pub fn run(&mut self, commands: Vec<Command<T>>) -> Result<Vec<Reply<T>>, Vec<Command<T>>>
         ensures run { let keys = ⟦<Self as Keyed>⟧.keys in
             IfOk result (λ replies. Run keys self.old.state commands.items replies.items self.new.state) }
@@ -421,22 +421,20 @@ fn insert_item<T: KeyedItem>(
     requires unfiled { finite.get (filed table.old) (next_index items.old.store) ≡ None }
     requires ordered { by_order.Holds items.old.store (order_of order.old) }
     ensures first { (finds_reported result).0 ≡ first }
-    ensures second { let looks_up = by_order.LooksUp T.KeyedItem.second_key T.Key2.cmp items.old.store in
-        looks_up (order_of order.old) (T.Key2.cmp (T.KeyedItem.second_key item)) (finds_reported result).1 }
+    ensures second { by_order.LooksUp T.second_key T.Key2.cmp items.old.store (order_of order.old)
+        (T.Key2.cmp (T.second_key item)) (finds_reported result).1 }
     ensures not_full { IsOk result → IsFull items.old.store → ⊥ }
     ensures index { IfOk result (λ ix. ix ≡ next_index items.old.store) }
     ensures stored { OnOk result (items.new.store ≡ inserted items.old.store item) }
     ensures filed { OnOk result (filed table.new
         ≡ finite.insert (filed table.old) (next_index items.old.store) hash) }
-    ensures placed { let adds = by_order.AddsInPlace T.KeyedItem.second_key T.Key2.cmp items.old.store item in
-        OnOk result (adds (order_of order.old) (order_of order.new)) }
+    ensures placed { OnOk result (by_order.AddsInPlace T.second_key T.Key2.cmp items.old.store item
+        (order_of order.old) (order_of order.new)) }
     ensures refused { IfErr result (Refuses items.old.store item) }
     ensures items_stay { OnErr result (items.new.store ≡ items.old.store) }
     ensures hashes_stay { OnErr result (filed table.new ≡ filed table.old) }
     ensures order_stays { OnErr result (order_of order.new ≡ order_of order.old) }
-    ensures memory { let has_room = HasRoomInParts items.old table.old order.old in
-        let was = memory_of items.old table.old order.old in
-        InsertsInMemory has_room was result (memory_of items.new table.new order.new) }
+    ensures memory { InsertsInParts items.old table.old order.old result items.new table.new order.new }
     ensures few_slots { items.new.capacity
         ≤ max items.old.capacity (min items.old.store.limit (max 4 (2 * live_count items.old.store))) }
     ensures few_cells { cells table.new ≤ max (cells table.old) (most_cells (finite.len (filed table.old) + 1)) }

@@ -36,15 +36,15 @@ pub use Rattle.iddqd_by_order.specs.OrderedWalk.{WalksWithin, pairs_at}
 pub use Rattle.iddqd_keys.specs.KeyKeeping.{KeepsKey, ModifiesItem, pair_keys}
 pub use Rattle.iddqd_driver.specs.Keys.{keys_of, IsDefaultHasher}
 pub use Rattle.iddqd_driver.specs.State.{empty_state, empty_state_within, cleared_state, unbound, Compacts, IsPaired}
-pub use Rattle.iddqd_driver.specs.KeyIndexes.{hash_in, has, first_key_index, second_key_index, IsInSync, LooksUp, AsScan}
-pub use Rattle.iddqd_driver.specs.KeyIndexes.{FirstKeysInOrder, SecondKeysInOrder, InOrder, Keeps, KeepsUnlessChanged}
+pub use Rattle.iddqd_driver.specs.KeyIndexes.{hash_in, has, first_key_index, second_key_index, IsInSync, LooksUp, ListsAsScan, AsScan}
+pub use Rattle.iddqd_driver.specs.KeyIndexes.{FirstKeysInSync, SecondKeysInSync, AreInSync, Keeps, KeepsUnlessChanged}
 pub use Rattle.iddqd_driver.specs.Refusal.{refusal_text, replace_refusal_text}
 pub use Rattle.iddqd_driver.specs.Machine.{StoresAt, Inserts, ReportsAsScan, Removes, RemovesBy, Overwrites, Answers, Step}
 pub use Rattle.iddqd_driver.specs.Run.{IsSilentChange}
-pub use Rattle.iddqd_driver.specs.Queries.{LooksUpBy, GivesFound}
+pub use Rattle.iddqd_driver.specs.Queries.{LooksUpBy, LooksUpItem, LooksUpItemBy, GivesFound, RemovesByQuery}
 pub use Rattle.iddqd_driver.specs.Walks.{items_at, RangesWithin}
 pub use Rattle.iddqd_driver.specs.Replacement.{ReportsOtherIndex, Becomes, Replaces}
-pub use Rattle.iddqd_driver.specs.Modify.{ModifiesAt, ModifiesFound}
+pub use Rattle.iddqd_driver.specs.Modify.{KeepsKeysOfFound, ModifiesAt, ModifiesFound, ModifiesByKey}
 pub use Rattle.iddqd_by_hash.specs.Retain.{MayAsk, RetainsTo, kept_of, removed_of}
 pub use Rattle.iddqd_driver.specs.Retain.{unbound_all, Retains}
 pub use Rattle.iddqd_driver.specs.Memory.{SizedState, no_memory, capacity, room, reservable, IsNoLower, IsMadeFor}

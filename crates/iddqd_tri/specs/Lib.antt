@@ -15,5 +15,5 @@ pub use Rattle.iddqd_tri.specs.TriState.{empty_tri_state, unbound, unbound_all, 
 pub use Rattle.iddqd_tri.specs.TriState.{IsTriState, HasNoClash, AreClashes}
 pub use Rattle.iddqd_tri.specs.TriMemory.{no_memory, capacity, room, reaching, Grows, Shrinks, ReservesItems, NeedsMemory}
 pub use Rattle.iddqd_keys.specs.Removals.{padded}
-pub use Rattle.iddqd_tri.specs.TriCalls.{FindsOne, RemovesItem, Overwriting}
+pub use Rattle.iddqd_tri.specs.TriCalls.{FindsOne, FindsQuery, RemovesItem, Overwriting}
 pub use Rattle.iddqd_tri.specs.TriRefusal.{tri_refusal_text}

@@ -1,6 +1,9 @@
 -- What each call of items with three unique keys may return, and what state it leaves.
 use Rattle.std.specs.Prelude.{◌≡◌, ℕ, suc, zero, Bool, List, [], ◌∷◌, map, Option, Some, None, Result, Ok, Err}
+use Rattle.std.specs.declared.hash.Hasher as hasher
+use Rattle.std.specs.declared.hash.BuildHasher as builder
 use Rattle.iddqd.specs.Store.{Store, get, next_index, IsFull}
+use Rattle.iddqd.specs.MapHash.{hash_one}
 use Rattle.iddqd_keys.specs.Removals.{padded}
 use Rattle.iddqd_keys.specs.Scan.{IsHit, AnswersScan, passes_by}
 use Rattle.iddqd_by_hash.specs.Hashed.{StandsForOne}
@@ -31,6 +34,12 @@ module _ {T S : Type 0} where
     pub hit : (ix : ℕ) → result ≡ Some ix → IsHit s.store (passes_by key.key_of test) ix
     pub as_scan :
         StandsForOne (hashing_in key s.hasher) hash test → AnswersScan s.store (passes_by key.key_of test) result
+
+  -- what a look-up by a query returns, where `input` is what the query gives the hasher
+  abbrev pub FindsQuery :
+      {K H : Type 0} → builder.Ghosts S H → hasher.Ghosts H → ItemKey T K S → TriState T S → List (List ℕ) → (K → Bool)
+      → Option ℕ → Type 0
+  FindsQuery b h key s input test result = FindsOne key s (hash_one b h s.hasher input) test result
 
 module _ {T K1 K2 K3 S : Type 0} (keys : TriKeys T K1 K2 K3 S) where
   -- The items that share a key were removed by rising index, and come back in this order from the first place on. Then

@@ -23,14 +23,14 @@ pub record TriKeys (T K1 K2 K3 S : Type 0) : Type 0 where
   pub second : ItemKey T K2 S
   pub third : ItemKey T K3 S
 
--- a key from the members of its bounds, and of the hasher's
+-- a key, from the ghost members of its traits (its reader, `eq`, `hash_input`) and those of the hasher's traits
 abbrev pub item_key :
     {T K S H : Type 0} → builder.Ghosts S H → hasher.Ghosts H → (T → K) → (K → K → Bool) → (K → List (List ℕ))
     → ItemKey T K S
 item_key b h key_of equal hash_input =
     record { key_of = key_of; equal = equal; hash_in = λ state key. hash_one b h state (hash_input key) }
 
--- the three keys from the members of the bounds that a clause has
+-- the three keys, from the ghost members of their traits and of the hasher's
 abbrev pub tri_keys_of :
     {T K1 K2 K3 S H : Type 0} → Ghosts T K1 K2 K3 → (K1 → K1 → Bool) → (K1 → List (List ℕ)) → (K2 → K2 → Bool)
     → (K2 → List (List ℕ)) → (K3 → K3 → Bool) → (K3 → List (List ℕ)) → builder.Ghosts S H → hasher.Ghosts H

@@ -94,8 +94,8 @@ pub record TableShrinks {A E : Type 0} (wanted : ℕ) (old : TableMemory) (resul
   pub capacity_at_least : min old.capacity wanted ≤ new.capacity
   pub shrunk : OnOk result (new.cells ≤ most_cells wanted)
 
--- What is given back beyond what `slots` slots and `wanted` indexes need. A refusal means that some part still has
--- more; if no slot is needed, there is no refusal.
+-- What is given back beyond what `slots` slots and `wanted` indexes need. A refusal means that the store still has more
+-- than `slots` slots, or some table more than `wanted` cells; if no slot is needed, there is no refusal.
 pub record Shrinks {A E : Type 0} (slots wanted : ℕ) (old : TriMemory) (result : Result A E) (new : TriMemory)
     : Type 0 where
   pub never_more : new.slots ≤ old.slots
@@ -120,8 +120,9 @@ module _ {T S : Type 0} where
   abbrev pub reaching : TriState T S → ℕ → ℕ
   reaching s additional = live_count s.store + min additional (s.store.limit - live_count s.store)
 
-  -- There is memory for `additional` more items, or for as many as there can be, and no more was taken than these need.
-  -- If it was there before, nothing changed. A refusal leaves the items, and no part has less memory than before.
+  -- There is memory for `additional` more items, or for as many as there can be; the slots grew at most as `SlotsGrow`
+  -- says, and the cells to no more than the items need. If the memory was there before, nothing changed. A refusal
+  -- leaves the items, and no part has less memory than before.
   pub record ReservesItems
       {A E : Type 0} (additional : ℕ) (old : SizedTri T S) (result : Result A E) (new : SizedTri T S)
       : Type 0 where

@@ -95,7 +95,7 @@ module _ {T K1 K2 K3 S : Type 0} (keys : TriKeys T K1 K2 K3 S) where
       }
 
   -- Each table has exactly the live indexes, under the hash of the item's key as it is now, and no two live items share
-  -- that key. The free indexes are distinct and exactly the vacant ones.
+  -- that key. The store's list `free` has each vacant index once, and no other.
   pub record IsTriState (s : TriState T S) : Type 0 where
     pub valid : IsValid s.store
     pub held : HoldLive s.store s.maps

@@ -22,7 +22,7 @@ tri_state_of hasher store tables = record { hasher = hasher; store = store; maps
 abbrev pub three_hashes : TriHashes → Three ℕ
 three_hashes h = record { first = h.first; second = h.second; third = h.third }
 
--- the memory of a table: it can hold as many indexes as it has, and as it has room for
+-- the memory of a table, whose capacity is the number of its indexes and its room
 abbrev pub table_memory : Table ℕ → TableMemory
 table_memory t = record { capacity = finite.len (filed t) + room t; cells = memory t }
 

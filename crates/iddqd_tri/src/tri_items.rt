@@ -11,7 +11,7 @@
 //! A clause sees the state and beside it the memory, so a call that leaves the memory as it was says so in one
 //! equation.
 ghost use Rattle.std.specs.Prelude.{◌≡◌, ◌↔◌, ◌+◌, ◌≤◌, ℕ, min, max, IsTrue, IsOk, IfOk, Err, option_copied};
-ghost use Rattle.iddqd.specs.{get, hash_one, slot_count, live_count};
+ghost use Rattle.iddqd.specs.{get, slot_count, live_count};
 ghost use Rattle.iddqd_keys.specs.Scan.{IsLive};
 ghost use Rattle.iddqd_by_hash.specs.Hashed.{AreLive, LooksUp};
 ghost use Rattle.iddqd_hash.specs.{filed};
@@ -20,17 +20,18 @@ ghost use Rattle.iddqd_tri.specs.TriKeys.{TriKeys, tri_keys_of, hashes_in};
 ghost use Rattle.iddqd_tri.specs.TriState.{empty_tri_state, IsTriState, ClashesAt};
 ghost use Rattle.iddqd_tri.specs.TriMemory.{no_memory, capacity, room, Grows, Shrinks, ReservesItems, NeedsMemory};
 ghost use Rattle.iddqd_tri.specs.TriTables.{three_hashes};
-ghost use Rattle.iddqd_tri.specs.TriCalls.{FindsKey, FindsOne, RemovesItem, Overwriting};
+ghost use Rattle.iddqd_tri.specs.TriCalls.{FindsKey, FindsQuery, RemovesItem, Overwriting};
 
 use crate::clashes::Clashes;
 use crate::tri_item::{First, Second, Third, TriItem};
 use crate::tri_refusal::TriRefusal;
-use crate::tri_steps::{insert_apart, remove_item, replace_clashes, reserve_slots};
+use crate::tri_steps::{insert_without_clash, remove_item, replace_clashes, reserve_slots};
 use crate::tri_tables::{TriHashes, TriTables};
 use iddqd::item_index::ItemIndex;
 use iddqd::item_set::ItemSet;
 use iddqd::map_hash::{Equivalent, MapHash};
 use iddqd_by_hash::hashed;
+use iddqd_by_hash::hashed::query_hash;
 use iddqd_hash::hash_table::MapHashTable;
 use iddqd_keys::key_of::{KeyOf, KeyQuery};
 use std::alloc::{AllocError, Global};
@@ -41,7 +42,7 @@ use std::marker::Model;
 #[derive(Drop)]
 pub struct TriItems<T: TriItem, S: BuildHasher> {
     items: ItemSet<T>,
-    // For each key each live index, under the hash of that key of its item.
+    // The table of a key has each live index, under the hash of that key of the index's item.
     tables: TriTables,
     state: S,
 }
@@ -114,7 +115,7 @@ impl<T: TriItem, S: BuildHasher> TriItems<T, S> {
     pub fn len(&self) -> usize
         ensures value { result ≡ live_count self.now.state.store }
 
-        // What every value keeps.
+        // The invariant of the type, so that a caller's proof has it of any collection.
         ensures state { IsTriState ⟦<Self as TriKeyed>⟧.keys self.now.state }
     {
         self.items.len()
@@ -155,28 +156,34 @@ impl<T: TriItem, S: BuildHasher> TriItems<T, S> {
         self.find3_by(&KeyQuery(key))
     }
 
-    /// The index of the item whose first key the query is equivalent to. The query has to hash as that key does.
+    /// The index of the item whose first key the query is equivalent to.
+    ///
+    /// If the keys that the query is equivalent to are equal to each other and hash as it does, the answer is that of a
+    /// scan. Otherwise it may miss an item.
     pub fn find1_by<Q: Hash + Equivalent<T::Key1>>(&self, query: &Q) -> Option<ItemIndex>
-        ensures { let hash = hash_one S.BuildHasher S.Hasher.Hasher self.now.state.hasher (Q.hash_input query.now) in
-            FindsOne ⟦<Self as TriKeyed>⟧.keys.first self.now.state hash (Q.equivalent query.now) result }
+        ensures { FindsQuery S.BuildHasher S.Hasher.Hasher ⟦<Self as TriKeyed>⟧.keys.first self.now.state
+            (Q.hash_input query.now) (Q.equivalent query.now) result }
     {
-        find_query::<T, First, S, Q>(&self.tables.first, &self.items, &self.state, query)
+        let hash = query_hash(&self.state, query);
+        hashed::find::<T, First, Q>(&self.tables.first, &self.items, hash, query)
     }
 
     /// The index of the item whose second key the query is equivalent to, as `find1_by`.
     pub fn find2_by<Q: Hash + Equivalent<T::Key2>>(&self, query: &Q) -> Option<ItemIndex>
-        ensures { let hash = hash_one S.BuildHasher S.Hasher.Hasher self.now.state.hasher (Q.hash_input query.now) in
-            FindsOne ⟦<Self as TriKeyed>⟧.keys.second self.now.state hash (Q.equivalent query.now) result }
+        ensures { FindsQuery S.BuildHasher S.Hasher.Hasher ⟦<Self as TriKeyed>⟧.keys.second self.now.state
+            (Q.hash_input query.now) (Q.equivalent query.now) result }
     {
-        find_query::<T, Second, S, Q>(&self.tables.second, &self.items, &self.state, query)
+        let hash = query_hash(&self.state, query);
+        hashed::find::<T, Second, Q>(&self.tables.second, &self.items, hash, query)
     }
 
     /// The index of the item whose third key the query is equivalent to, as `find1_by`.
     pub fn find3_by<Q: Hash + Equivalent<T::Key3>>(&self, query: &Q) -> Option<ItemIndex>
-        ensures { let hash = hash_one S.BuildHasher S.Hasher.Hasher self.now.state.hasher (Q.hash_input query.now) in
-            FindsOne ⟦<Self as TriKeyed>⟧.keys.third self.now.state hash (Q.equivalent query.now) result }
+        ensures { FindsQuery S.BuildHasher S.Hasher.Hasher ⟦<Self as TriKeyed>⟧.keys.third self.now.state
+            (Q.hash_input query.now) (Q.equivalent query.now) result }
     {
-        find_query::<T, Third, S, Q>(&self.tables.third, &self.items, &self.state, query)
+        let hash = query_hash(&self.state, query);
+        hashed::find::<T, Third, Q>(&self.tables.third, &self.items, hash, query)
     }
 
     /// Removes the item at an index, if it is live. It takes no memory.
@@ -192,9 +199,10 @@ impl<T: TriItem, S: BuildHasher> TriItems<T, S> {
     /// Inserts an item, and removes the items that share a key with it, at most three. It returns these by rising
     /// index, in the first places of the array.
     ///
-    /// If it removes one, it takes no memory and doesn't refuse the item. If it removes none, the store may be full, or
-    /// there is no room and memory runs out. A refusal returns the item, leaves the others, and gives back no memory
-    /// that was there. The item's keys are hashed once each, and so are those of the removed ones.
+    /// If it removes one, it takes no memory and doesn't refuse the item. If it removes none, it refuses the item if
+    /// the store is full, or if there is no room and memory runs out. A refusal returns the item, leaves the others,
+    /// and gives back no memory that was there. The item's keys are hashed once each, and so are those of the removed
+    /// ones.
     pub fn insert_overwrite(
         &mut self,
         item: T,
@@ -203,7 +211,7 @@ impl<T: TriItem, S: BuildHasher> TriItems<T, S> {
         ensures state_before { IsTriState ⟦<Self as TriKeyed>⟧.keys self.old.state }
         ensures state_after { IsTriState ⟦<Self as TriKeyed>⟧.keys self.new.state }
 
-        // Memory is taken only if no item is removed and there is no room, and no more than one item needs.
+        // Memory is taken only if no item is removed and there is no room. The slots at most double, or become four.
         ensures over_others { (ix : ℕ) → ClashesAt ⟦<Self as TriKeyed>⟧.keys self.old.state.store item ix
             → self.new.memory ≡ self.old.memory }
         ensures in_room { 1 ≤ room self.old → self.new.memory ≡ self.old.memory }
@@ -216,7 +224,7 @@ impl<T: TriItem, S: BuildHasher> TriItems<T, S> {
         let clashes = self.clashes(&item, &hashes);
         let (items, tables) = (&mut self.items, &mut self.tables);
         if clashes.is_empty() {
-            return insert_apart(items, tables, item, hashes);
+            return insert_without_clash(items, tables, item, hashes);
         }
         let (ix, (first, second, third)) = replace_clashes(
             items,
@@ -301,7 +309,8 @@ impl<T: TriItem, S: BuildHasher> TriItems<T, S> {
 
     /// Gives back the memory beyond what `least` items need, or the items that there are if these are more.
     ///
-    /// If a part can't get smaller memory, the items stay, and the other parts still give theirs back.
+    /// Vacant slots stay, and so does their memory. If a part can't get smaller memory, the items stay, and the other
+    /// parts still give theirs back.
     pub fn shrink_to(&mut self, least: usize) -> Result<(), AllocError>
         ensures state { self.new.state ≡ self.old.state }
         ensures memory { let s = self.old.state.store in
@@ -328,25 +337,6 @@ impl<T: TriItem, S: BuildHasher> TriItems<T, S> {
             find_key::<T, Third>(&tables.third, items, hashes.third, item),
         )
     }
-}
-
-// The index that a table finds by a query.
-fn find_query<T, E, S, Q>(
-    table: &MapHashTable,
-    items: &ItemSet<T>,
-    state: &S,
-    query: &Q,
-) -> Option<ItemIndex>
-where
-    E: KeyOf<T>,
-    S: BuildHasher,
-    Q: Hash + Equivalent<E::Key>,
-    requires { AreLive items.now.store (filed table.now) }
-    ensures { let hash = hash_one S.BuildHasher S.Hasher.Hasher state.now (Q.hash_input query.now) in
-        LooksUp E.key_of items.now.store (filed table.now) hash (Q.equivalent query.now) result }
-{
-    let hash = MapHash::new(state.hash_one(query));
-    hashed::find::<T, E, Q>(table, items, hash, query)
 }
 
 // The index that a table finds by the key of an item.

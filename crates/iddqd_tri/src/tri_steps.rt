@@ -1,8 +1,9 @@
 //! The steps that the store and the three tables of items with three keys take together.
 //!
 //! A step borrows the store and the tables apart, since its contract says how much room each of them has left. If
-//! nothing clashes, the store's handle is held while the tables take memory. If an item clashes, its removal makes room
-//! in the store and in each table, so no memory is taken and nothing can be refused.
+//! nothing clashes, the store makes room first, and the handle that it returns for that is held while the tables take
+//! memory. If an item clashes, its removal makes room in the store and in each table, so no memory is taken and nothing
+//! can be refused.
 ghost use Rattle.std.specs.Prelude.{◌≡◌, ◌≤◌, ◌+◌, ℕ, [], ◌∷◌, map, Some, None, IsSome, IsOk, IfOk, OnOk, IfErr, OnErr, OnSome, IfSome, IfNone};
 ghost use Rattle.std.specs.Option.{option_and_then};
 ghost use Rattle.iddqd.specs.{get, room, live_count, next_index, inserted, removed, IsFull, IsValid};
@@ -108,7 +109,7 @@ fn store_in_room<T>(items: &mut ItemSet<T>, item: T) -> ItemIndex
     }
 }
 
-/// Makes room for `wanted` slots, unless there are as many.
+/// Takes memory for `wanted` slots in all, unless the store has memory for as many.
 pub(crate) fn reserve_slots<T>(items: &mut ItemSet<T>, wanted: usize) -> Result<(), AllocError>
     requires { wanted ≤ items.old.store.limit }
     ensures contents { items.new.store ≡ items.old.store }
@@ -124,7 +125,7 @@ pub(crate) fn reserve_slots<T>(items: &mut ItemSet<T>, wanted: usize) -> Result<
 
 /// Stores an item that clashes with none, and files its index under the hashes. All memory is taken before
 /// anything is written.
-pub(crate) fn insert_apart<T: TriItem>(
+pub(crate) fn insert_without_clash<T: TriItem>(
     items: &mut ItemSet<T>,
     tables: &mut TriTables,
     item: T,

@@ -1,8 +1,9 @@
 //! Reserving memory, and giving it back.
 //!
 //! The capacity is how many items there can be without asking for memory: the least of what the store and both tables
-//! can hold. A removal leaves the room that it makes, so below the capacity no insert runs out of memory, whatever was
-//! inserted and removed before. Only an insert without room and the calls here change the capacity.
+//! can hold. A removal gives no memory back, and an insert can use what it frees. So below the capacity no insert runs
+//! out of memory, whatever was inserted and removed before. Only an insert without room and the calls here change the
+//! capacity.
 ghost use Rattle.std.specs.Prelude.{◌≡◌, ◌≤◌, ◌*◌, min, max, IsOk, IfOk, OnOk};
 ghost use Rattle.iddqd.specs.{slot_limit};
 ghost use Rattle.iddqd_driver.specs.State.{empty_state};
@@ -105,7 +106,7 @@ impl<T: KeyedItem, S: BuildHasher> KeyedItems<T, S> {
     }
 }
 
-// Makes room for `wanted` slots, unless there are as many.
+// Takes memory for `wanted` slots in all, unless the store has memory for as many.
 fn reserve_slots<T>(items: &mut ItemSet<T>, wanted: usize) -> Result<(), AllocError>
     requires { wanted ≤ items.old.store.limit }
     ensures store { items.new.store ≡ items.old.store }

@@ -3,9 +3,8 @@ ghost use Rattle.std.specs.Borrow.{MutBor};
 ghost use Rattle.std.specs.Prelude.{◌≡◌, Some};
 ghost use Rattle.iddqd.specs.{get};
 ghost use Rattle.iddqd_keys.specs.KeyKeeping.{KeepsKey, pair_keys};
-ghost use Rattle.iddqd_driver.specs.KeyIndexes.{first_key_index, second_key_index, LooksUp, Keeps};
-ghost use Rattle.iddqd_driver.specs.Queries.{GivesFound};
-ghost use Rattle.iddqd_driver.specs.Modify.{ModifiesAt, ModifiesFound};
+ghost use Rattle.iddqd_driver.specs.KeyIndexes.{first_key_index, second_key_index, Keeps};
+ghost use Rattle.iddqd_driver.specs.Modify.{KeepsKeysOfFound, ModifiesAt, ModifiesByKey};
 
 use super::{Keyed, KeyedItems};
 use crate::keyed_item::KeyedItem;
@@ -31,11 +30,10 @@ impl<T: KeyedItem, S: BuildHasher> KeyedItems<T, S> {
     /// Calls the closure with a `&mut` to the item with this first key, found as `find1` finds its index; if the
     /// look-up misses, it returns `None` and doesn't call the closure. Otherwise it behaves as `modify_at`.
     pub fn modify1<R, F: FnOnce(&mut T) -> R>(&mut self, key: &T::Key1, f: F) -> Option<R>
-        requires { let keys = pair_keys T.first_key T.second_key in
-            let finds = LooksUp (first_key_index ⟦<Self as Keyed>⟧.keys) self.old.state key.now in
-            KeepsKey F.FnOnce f keys (λ item. GivesFound self.old.state.store finds (Some item)) }
-        ensures modifies { let finds = LooksUp (first_key_index ⟦<Self as Keyed>⟧.keys) self.old.state key.now in
-            ModifiesFound F.FnOnce f finds self.old.state result self.new.state }
+        requires { let keys = ⟦<Self as Keyed>⟧.keys in
+            KeepsKeysOfFound F.FnOnce f keys (first_key_index keys) self.old.state key.now }
+        ensures modifies { ModifiesByKey F.FnOnce f (first_key_index ⟦<Self as Keyed>⟧.keys) self.old.state
+            key.now result self.new.state }
         ensures keeps { Keeps ⟦<Self as Keyed>⟧.keys self.old.state self.new.state }
         ensures memory { self.new.memory ≡ self.old.memory }
     {
@@ -45,19 +43,17 @@ impl<T: KeyedItem, S: BuildHasher> KeyedItems<T, S> {
     /// Calls the closure with a `&mut` to the item with this second key, found as `find2` finds its index; if the
     /// look-up misses, it returns `None` and doesn't call the closure. Otherwise it behaves as `modify_at`.
     pub fn modify2<R, F: FnOnce(&mut T) -> R>(&mut self, key: &T::Key2, f: F) -> Option<R>
-        requires { let keys = pair_keys T.first_key T.second_key in
-            let finds = LooksUp (second_key_index ⟦<Self as Keyed>⟧.keys) self.old.state key.now in
-            KeepsKey F.FnOnce f keys (λ item. GivesFound self.old.state.store finds (Some item)) }
-        ensures modifies { let finds = LooksUp (second_key_index ⟦<Self as Keyed>⟧.keys) self.old.state key.now in
-            ModifiesFound F.FnOnce f finds self.old.state result self.new.state }
+        requires { let keys = ⟦<Self as Keyed>⟧.keys in
+            KeepsKeysOfFound F.FnOnce f keys (second_key_index keys) self.old.state key.now }
+        ensures modifies { ModifiesByKey F.FnOnce f (second_key_index ⟦<Self as Keyed>⟧.keys) self.old.state
+            key.now result self.new.state }
         ensures keeps { Keeps ⟦<Self as Keyed>⟧.keys self.old.state self.new.state }
         ensures memory { self.new.memory ≡ self.old.memory }
     {
         self.modify_live(self.find2(key)?, f)
     }
 
-    // Does what `modify_at` says. What the closure has to keep is two clauses here, since a proof file that answers one
-    // alone makes a call expensive to check.
+    // Does what `modify_at` says. Its condition is two clauses here, which makes a call cheaper to check.
     fn modify_live<R, F: FnOnce(&mut T) -> R>(&mut self, ix: ItemIndex, f: F) -> Option<R>
         requires callable { (item : MutBor T) → get self.old.state.store ix ≡ Some item.now
             → F.FnOnce.pre f (item, tt) }

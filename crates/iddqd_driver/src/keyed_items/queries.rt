@@ -4,9 +4,8 @@
 //! look-up by it returns what a look-up by each key for which it stands may return.
 ghost use Rattle.std.specs.Prelude.{◌≡◌, option_copied};
 ghost use Rattle.iddqd_by_order.specs.Ordered.{is_equal};
-ghost use Rattle.iddqd_driver.specs.KeyIndexes.{first_key_index, second_key_index, Keeps, LooksUp};
-ghost use Rattle.iddqd_driver.specs.Machine.{RemovesFound};
-ghost use Rattle.iddqd_driver.specs.Queries.{GivesFound, LooksUpBy};
+ghost use Rattle.iddqd_driver.specs.KeyIndexes.{first_key_index, second_key_index, Keeps};
+ghost use Rattle.iddqd_driver.specs.Queries.{LooksUpBy, LooksUpItem, LooksUpItemBy, RemovesByQuery};
 
 use super::{Keyed, KeyedItems, remove_item, take_item};
 use crate::keyed_item::{First, KeyedItem, Second};
@@ -21,16 +20,14 @@ use std::hash::BuildHasher;
 impl<T: KeyedItem, S: BuildHasher> KeyedItems<T, S> {
     /// The item with this first key, found as `find1` finds its index.
     pub fn get1(&self, key: &T::Key1) -> Option<&T>
-        ensures { let finds = LooksUp (first_key_index ⟦<Self as Keyed>⟧.keys) self.now.state key.now in
-            GivesFound self.now.state.store finds (option_copied result) }
+        ensures { LooksUpItem (first_key_index ⟦<Self as Keyed>⟧.keys) self.now.state key.now (option_copied result) }
     {
         self.items.get(self.find1(key)?)
     }
 
     /// The item with this second key, found as `find2` finds its index.
     pub fn get2(&self, key: &T::Key2) -> Option<&T>
-        ensures { let finds = LooksUp (second_key_index ⟦<Self as Keyed>⟧.keys) self.now.state key.now in
-            GivesFound self.now.state.store finds (option_copied result) }
+        ensures { LooksUpItem (second_key_index ⟦<Self as Keyed>⟧.keys) self.now.state key.now (option_copied result) }
     {
         self.items.get(self.find2(key)?)
     }
@@ -55,26 +52,24 @@ impl<T: KeyedItem, S: BuildHasher> KeyedItems<T, S> {
 
     /// The item with the first key for which the query stands, found as `find1_by` finds its index.
     pub fn get1_by<Q: HashQuery<T::Key1>>(&self, query: Q) -> Option<&T>
-        ensures { let finds = LooksUpBy (first_key_index ⟦<Self as Keyed>⟧.keys) self.now.state (Q.stands_for query) in
-            GivesFound self.now.state.store finds (option_copied result) }
+        ensures { LooksUpItemBy (first_key_index ⟦<Self as Keyed>⟧.keys) self.now.state
+            (Q.stands_for query) (option_copied result) }
     {
         self.items.get(self.find1_by(query)?)
     }
 
     /// The item with the second key for which the query stands, found as `find2_by` finds its index.
     pub fn get2_by<Q: OrdQuery<T::Key2>>(&self, query: Q) -> Option<&T>
-        ensures { let finds = LooksUpBy (second_key_index ⟦<Self as Keyed>⟧.keys) self.now.state
-            (is_equal (Q.compare query)) in
-            GivesFound self.now.state.store finds (option_copied result) }
+        ensures { LooksUpItemBy (second_key_index ⟦<Self as Keyed>⟧.keys) self.now.state
+            (is_equal (Q.compare query)) (option_copied result) }
     {
         self.items.get(self.find2_by(query)?)
     }
 
     /// Removes the item with the first key for which the query stands. It takes no memory.
     pub fn remove1_by<Q: HashQuery<T::Key1>>(&mut self, query: Q) -> Option<(ItemIndex, T)>
-        ensures removes { let finds = LooksUpBy (first_key_index ⟦<Self as Keyed>⟧.keys) self.old.state
-            (Q.stands_for query) in
-            RemovesFound finds self.old.state result self.new.state }
+        ensures removes { RemovesByQuery (first_key_index ⟦<Self as Keyed>⟧.keys) self.old.state
+            (Q.stands_for query) result self.new.state }
         ensures keeps { Keeps ⟦<Self as Keyed>⟧.keys self.old.state self.new.state }
         ensures memory { self.new.memory ≡ self.old.memory }
     {
@@ -87,9 +82,8 @@ impl<T: KeyedItem, S: BuildHasher> KeyedItems<T, S> {
     /// Removes the item with the second key for which the query stands. It takes no memory.
     #[tactic(auto, using(crate::proofs::KeepsLemmas::order_held))]
     pub fn remove2_by<Q: OrdQuery<T::Key2>>(&mut self, query: Q) -> Option<(ItemIndex, T)>
-        ensures removes { let finds = LooksUpBy (second_key_index ⟦<Self as Keyed>⟧.keys) self.old.state
-            (is_equal (Q.compare query)) in
-            RemovesFound finds self.old.state result self.new.state }
+        ensures removes { RemovesByQuery (second_key_index ⟦<Self as Keyed>⟧.keys) self.old.state
+            (is_equal (Q.compare query)) result self.new.state }
         ensures keeps { Keeps ⟦<Self as Keyed>⟧.keys self.old.state self.new.state }
         ensures memory { self.new.memory ≡ self.old.memory }
     {

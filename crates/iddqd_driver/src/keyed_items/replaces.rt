@@ -68,7 +68,7 @@ impl<T: fmt::Debug + Drop> Error for ReplaceRefusal<T> {}
 impl<T: KeyedItem, S: BuildHasher> KeyedItems<T, S> {
     /// Replaces the item at a live index, updates both tables, and returns the old item.
     ///
-    /// The index stays, and each table that was in order is in order afterwards. The item may have other keys, but none
+    /// The index stays, and each table that was in sync is in sync afterwards. The item may have other keys, but none
     /// that another item has. A refusal returns it and changes nothing.
     ///
     /// The hash table needs no memory for a new key: the removal of the old entry leaves the room. Nor does the ordered

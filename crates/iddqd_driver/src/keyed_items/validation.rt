@@ -7,7 +7,7 @@ ghost use Rattle.iddqd.specs.Validation.{Allows, IsMemory, Tells, Validates, not
 ghost use Rattle.iddqd_hash.specs.{filed};
 ghost use Rattle.iddqd_order.specs.{order_of};
 ghost use Rattle.iddqd_driver.specs.State.{IsPaired};
-ghost use Rattle.iddqd_driver.specs.KeyIndexes.{first_key_index, InOrder};
+ghost use Rattle.iddqd_driver.specs.KeyIndexes.{first_key_index, AreInSync};
 ghost use Rattle.iddqd_driver.specs.Validation.{AreStored, with_table_name};
 
 use super::{Keyed, KeyedItems};
@@ -42,11 +42,11 @@ impl<T: KeyedItem, S: BuildHasher> KeyedItems<T, S> {
         ensures not_compact { (Allows compactness (length self.now.state.store.free) → ⊥)
             → IfErr result (Tells (not_compact_text (length self.now.state.store.free))) }
 
-        // By scans, and also if the keys are in order, it is Ok if and only if the mode allows the vacant slots, unless
-        // memory runs out.
+        // By scans, and also if both tables are in sync, it is Ok if and only if the mode allows the vacant slots,
+        // unless memory runs out.
         ensures by_walks { chaos ≡ ValidateChaos.Yes
             → Validates (Allows compactness (length self.now.state.store.free)) result }
-        ensures in_order { InOrder ⟦<Self as Keyed>⟧.keys self.now.state
+        ensures in_sync { AreInSync ⟦<Self as Keyed>⟧.keys self.now.state
             → Validates (Allows compactness (length self.now.state.store.free)) result }
 
         // By keys it is Ok only if each index is filed under the hash of its first key.
@@ -68,7 +68,7 @@ impl<T: KeyedItem, S: BuildHasher> KeyedItems<T, S> {
     // Whether each item is found by the keys that it has now.
     fn check_found(&self) -> Result<(), ValidateRefusal<ValidationError>>
         ensures by_keys { IsOk result → (first_key_index ⟦<Self as Keyed>⟧.keys).IsInPlace self.now.state }
-        ensures in_order { InOrder ⟦<Self as Keyed>⟧.keys self.now.state → IfErr result IsMemory }
+        ensures in_sync { AreInSync ⟦<Self as Keyed>⟧.keys self.now.state → IfErr result IsMemory }
     {
         for (ix, item) in self.items.iter() {
             if self.find1(item.key1()) != Some(ix) {

@@ -7,7 +7,7 @@ ghost use Rattle.iddqd.specs.LiveItems.{IsWalkOf};
 ghost use Rattle.iddqd_order.specs.{indexes_left};
 ghost use Rattle.iddqd_keys.specs.OrderedQuery.{is_within};
 ghost use Rattle.iddqd_driver.specs.State.{IsPaired};
-ghost use Rattle.iddqd_driver.specs.KeyIndexes.{second_key_index, IsInSync};
+ghost use Rattle.iddqd_driver.specs.KeyIndexes.{second_key_index, ListsAsScan};
 ghost use Rattle.iddqd_driver.specs.Walks.{items_at, RangesWithin};
 
 use super::{Keyed, KeyedItems, Range};
@@ -38,8 +38,7 @@ impl<T: KeyedItem, S: BuildHasher> KeyedItems<T, S> {
     pub fn walk(&self) -> btree_table::Iter<'_>
         ensures order { indexes_left result ≡ self.now.state.order }
         ensures paired { IsPaired self.now.state }
-        ensures as_scan { let key_index = second_key_index ⟦<Self as Keyed>⟧.keys in
-            IsInSync key_index self.now.state → key_index.Lists self.now.state.store (indexes_left result) }
+        ensures as_scan { ListsAsScan (second_key_index ⟦<Self as Keyed>⟧.keys) self.now.state (indexes_left result) }
     {
         self.order.iter()
     }
@@ -48,8 +47,7 @@ impl<T: KeyedItem, S: BuildHasher> KeyedItems<T, S> {
     pub fn values_by_key2(&self) -> ValuesByKey2<'_, T>
         ensures items { result ≡ items_at self.now.state.store self.now.state.order }
         ensures len { length result ≡ live_count self.now.state.store }
-        ensures as_scan { let key_index = second_key_index ⟦<Self as Keyed>⟧.keys in
-            IsInSync key_index self.now.state → key_index.Lists self.now.state.store self.now.state.order }
+        ensures as_scan { ListsAsScan (second_key_index ⟦<Self as Keyed>⟧.keys) self.now.state self.now.state.order }
     {
         ValuesByKey2 {
             items: &self.items,
@@ -60,8 +58,8 @@ impl<T: KeyedItem, S: BuildHasher> KeyedItems<T, S> {
     /// The live indexes with their items whose second keys are between two bounds, in the order of the second keys,
     /// from both ends: none if the lower bound is above the upper one.
     ///
-    /// If a second key was changed silently, they are a run of the ordered table. Each query is compared with at most 4
-    /// + 2d second keys, where the number of items has d binary digits. It takes no memory.
+    /// If a second key was changed silently, they are consecutive in the ordered table. Each query is compared with at
+    /// most 4 + 2d second keys, where the number of items has d binary digits. It takes no memory.
     #[tactic(auto, using(crate::proofs::KeepsLemmas::order_held))]
     pub fn range_by_key2<Q: OrdQuery<T::Key2>>(
         &self,

@@ -23,15 +23,15 @@ returns-then-ne-clause-by_keys g c = λ ok. absurd (false≢true ok)
 pub returns-then-ne-2-clause-by_keys : goal.returns-then-ne-2-clause-by_keys
 returns-then-ne-2-clause-by_keys g c = λ ok. absurd (false≢true ok)
 
-pub returns-then-ne-clause-in_order : goal.returns-then-ne-clause-in_order
-returns-then-ne-clause-in_order g c = λ o.
+pub returns-then-ne-clause-in_sync : goal.returns-then-ne-clause-in_sync
+returns-then-ne-clause-in_sync g c = λ o.
     let left = rw c.in-Some.ensures.steps at c.loop-ix.invariant in
     let itself : has (first_key_index (keys_in g)) c.key1.result.now c.in-Some.item.now ≡ true = rw c.key1.ensures (g.met.T.Key1.Eq.laws.refl ((keys_in g).first c.in-Some.item.now)) in
     let found : c.find1.result ≡ Some c.in-Some.ix = AnswersScan-hit c.args.self.now.state.store (has (first_key_index (keys_in g)) c.key1.result.now) c.find1.result c.in-Some.ix (c.find1.ensures.found.as_scan o.first) (c.in-Some.item.now, Checked-live _ _ _ _ _ left, itself) in
     absurd (differs-itself c.find1.result c.in-Some.ix c.ne.result c.ne.ensures c.if-ne.true found)
 
-pub returns-then-ne-2-clause-in_order : goal.returns-then-ne-2-clause-in_order
-returns-then-ne-2-clause-in_order g c = λ o.
+pub returns-then-ne-2-clause-in_sync : goal.returns-then-ne-2-clause-in_sync
+returns-then-ne-2-clause-in_sync g c = λ o.
     let left = rw c.in-Some.ensures.steps at c.loop-ix.invariant in
     let itself : has (second_key_index (keys_in g)) c.key2.result.now c.in-Some.item.now ≡ true = rw c.key2.ensures ((eq_by_cmp_equiv g.met.T.Key2.Ord.total).refl ((keys_in g).second c.in-Some.item.now)) in
     let found : c.find2.result ≡ Some c.in-Some.ix = AnswersScan-hit c.args.self.now.state.store (has (second_key_index (keys_in g)) c.key2.result.now) c.find2.result c.in-Some.ix (c.find2.ensures.found.as_scan o.second) (c.in-Some.item.now, Checked-live _ _ _ _ _ left, itself) in
@@ -44,5 +44,5 @@ loop-ix-preserved g c =
     let hit = subst ((first_key_index (keys_in g)).Finds c.args.self.now.state c.key1.result.now) found c.find1.ensures.found.found in
     Checked-next _ _ _ _ _ left (hit.filed ∙ ap (λ k. Some (hash_in (keys_in g) c.args.self.now.state k)) c.key1.ensures)
 
-pub returns-clause-in_order : goal.returns-clause-in_order
-returns-clause-in_order g c = grind (arith, common_steps)
+pub returns-clause-in_sync : goal.returns-clause-in_sync
+returns-clause-in_sync g c = grind (arith, common_steps)

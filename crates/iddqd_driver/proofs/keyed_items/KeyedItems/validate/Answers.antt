@@ -25,8 +25,8 @@ pub returns-in_err-of_table-clause-by_walks : goal.returns-in_err-of_table-claus
 returns-in_err-of_table-clause-by_walks g c = λ walks.
     Validates-refused (Allows c.args.compactness (length c.args.self.now.state.store.free)) c.from_residual-in_err-of_table.result c.from_residual-in_err-of_table.ensures.0 (first_memory g c)
 
-pub returns-in_err-of_table-clause-in_order : goal.returns-in_err-of_table-clause-in_order
-returns-in_err-of_table-clause-in_order g c = λ ordered.
+pub returns-in_err-of_table-clause-in_sync : goal.returns-in_err-of_table-clause-in_sync
+returns-in_err-of_table-clause-in_sync g c = λ ordered.
     Validates-refused (Allows c.args.compactness (length c.args.self.now.state.store.free)) c.from_residual-in_err-of_table.result c.from_residual-in_err-of_table.ensures.0 (first_memory g c)
 
 -- and so is the ordered table
@@ -46,8 +46,8 @@ pub returns-in_err-of_table-2-clause-by_walks : goal.returns-in_err-of_table-2-c
 returns-in_err-of_table-2-clause-by_walks g c = λ walks.
     Validates-refused (Allows c.args.compactness (length c.args.self.now.state.store.free)) c.from_residual-in_err-of_table-2.result c.from_residual-in_err-of_table-2.ensures.0 (second_memory g c)
 
-pub returns-in_err-of_table-2-clause-in_order : goal.returns-in_err-of_table-2-clause-in_order
-returns-in_err-of_table-2-clause-in_order g c = λ ordered.
+pub returns-in_err-of_table-2-clause-in_sync : goal.returns-in_err-of_table-2-clause-in_sync
+returns-in_err-of_table-2-clause-in_sync g c = λ ordered.
     Validates-refused (Allows c.args.compactness (length c.args.self.now.state.store.free)) c.from_residual-in_err-of_table-2.result c.from_residual-in_err-of_table-2.ensures.0 (second_memory g c)
 
 pub returns-in-No-clause-paired : goal.returns-in-No-clause-paired

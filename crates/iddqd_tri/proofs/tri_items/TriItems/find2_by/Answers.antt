@@ -9,6 +9,7 @@ pub returns : goal.returns
 returns g c =
     let key : ItemKey _ _ _ = item_key g.S.BuildHasher g.S.Hasher.Hasher g.T.TriItem.second_key g.T.Key2.PartialEq.eq g.T.Key2.Hash.hash_input in
     let test = g.Q.Equivalent.equivalent c.args.query.now in
-    subst (λ s. FindsOne key s.state (hash_one g.S.BuildHasher g.S.Hasher.Hasher s.state.hasher (g.Q.Hash.hash_input c.args.query.now)) test c.find_query.result)
+    subst (λ s. FindsOne key s.state (hash_one g.S.BuildHasher g.S.Hasher.Hasher s.state.hasher (g.Q.Hash.hash_input c.args.query.now)) test c.find.result)
     c.self.view_is
-    (FindsOne-exact key _ _ c.self.invariant.second _ test c.find_query.result c.find_query.ensures)
+    (FindsOne-exact key _ _ c.self.invariant.second _ test c.find.result
+    (rw (← c.query_hash-hash.ensures) c.find.ensures))

@@ -13,7 +13,7 @@ use Rattle.iddqd_tri.proofs.ClashLemmas.{none_listed, some_listed, some_there}
 use Rattle.iddqd_tri.proofs.TriLemmas.{AreLawful-from_bounds}
 use Rattle.iddqd_tri.proofs.TriCallLemmas.{ClashesAt-live, AreClashes-listed, HasNoClash-none, inserted_apart, inserted_over}
 use Rattle.iddqd_tri.proofs.TriMemoryLemmas.{Grows-parts, Grows-none, Grows-same, HaveRoom-held, set_room-held}
-use Rattle.iddqd_tri.proofs.tri_items.TriItems.insert_overwrite.Goals.{After-insert_apart, After-replace_clashes-ix}
+use Rattle.iddqd_tri.proofs.tri_items.TriItems.insert_overwrite.Goals.{After-insert_without_clash, After-replace_clashes-ix}
 use Rattle.iddqd_tri.proofs.tri_items.TriItems.insert_overwrite.Given.{Over}
 use Rattle.iddqd_tri.proofs.tri_items.TriItems.insert_overwrite.Goals as goal
 
@@ -38,20 +38,20 @@ pair g c =
     (r.0, (r.1.0 ∷ (r.1.1 ∷ (r.1.2 ∷ []))))
 
 -- what the call leaves, and what it answers
-apart : (g : _) (c : After-insert_apart g)
+apart : (g : _) (c : After-insert_without_clash g)
     → let was = tri_state_of c.self.inside.state c.self.inside.items.store c.self.inside.tables in
-    let is = tri_state_of c.self.inside.state c.insert_apart.new.items.store c.insert_apart.new.tables in
-    IsTriState (keys_in g) is × Overwriting (keys_in g) was c.args.item c.insert_apart.result is
+    let is = tri_state_of c.self.inside.state c.insert_without_clash.new.items.store c.insert_without_clash.new.tables in
+    IsTriState (keys_in g) is × Overwriting (keys_in g) was c.args.item c.insert_without_clash.result is
 apart g c =
     let s = tri_state_of c.self.inside.state c.self.inside.items.store c.self.inside.tables in
     let item = c.args.item in
     let found = rw (← c.self.view_is) at c.clashes-clashes.ensures.clashes in
     let are = AreClashes-listed (keys_in g) s.store item _ _ _ c.clashes-clashes.ensures.ordered found in
     let lawful = AreLawful-from_bounds g.T.TriItem _ _ _ _ _ _ g.S.BuildHasher g.S.Hasher.Hasher c.self.inside.state g.met.T.Key1.PartialEq.laws g.met.T.Key1.Hash.respects_eq g.met.T.Key2.PartialEq.laws g.met.T.Key2.Hash.respects_eq g.met.T.Key3.PartialEq.laws g.met.T.Key3.Hash.respects_eq in
-    let did = c.insert_apart.ensures in
-    let r = c.insert_apart.result in
-    let store = c.insert_apart.new.items.store in
-    let maps = maps_of c.insert_apart.new.tables in
+    let did = c.insert_without_clash.ensures in
+    let r = c.insert_without_clash.result in
+    let store = c.insert_without_clash.new.items.store in
+    let maps = maps_of c.insert_without_clash.new.tables in
     let added = subst (λ h. OnOk r (maps ≡ maps_with s.maps (next_index s.store) h)) c.of-hashes.ensures did.added in
     let none = none_listed _ _ _ c.clashes-clashes.ensures.ordered (c.is_empty.ensures.0 c.if-is_empty.true) in
     inserted_apart (keys_in g) s item lawful c.self.invariant (clashing c.clashes-clashes.result) none are r store maps did.not_full did.index did.values did.stored added did.refused did.items_stay did.tables_stay
@@ -61,7 +61,7 @@ invariant_of-self g c = (apart g c).0
 
 pub returns-then-is_empty-clause-overwrites : goal.returns-then-is_empty-clause-overwrites
 returns-then-is_empty-clause-overwrites g c =
-    subst (λ t. Overwriting (keys_in g) t.state c.args.item c.insert_apart.result (tri_state_of c.self.inside.state c.insert_apart.new.items.store c.insert_apart.new.tables)) c.self.view_is (apart g c).1
+    subst (λ t. Overwriting (keys_in g) t.state c.args.item c.insert_without_clash.result (tri_state_of c.self.inside.state c.insert_without_clash.new.items.store c.insert_without_clash.new.tables)) c.self.view_is (apart g c).1
 
 pub returns-then-is_empty-clause-state_after : goal.returns-then-is_empty-clause-state_after
 returns-then-is_empty-clause-state_after g c = (apart g c).0
@@ -114,15 +114,15 @@ returns-clause-grows g c =
     subst (λ m. Grows s.limit (live_count s + 1) c.args.self.now.memory m) (sym (same g c)) (Grows-same s.limit (live_count s + 1) c.args.self.now.memory)
 
 -- beside others it grows for one item
-grown : (g : _) (c : After-insert_apart g)
+grown : (g : _) (c : After-insert_without_clash g)
     → let s = c.self.inside.items.store in
     Grows s.limit (live_count s + 1) (memory_of c.self.inside.items c.self.inside.tables)
-    (memory_of c.insert_apart.new.items c.insert_apart.new.tables)
+    (memory_of c.insert_without_clash.new.items c.insert_without_clash.new.tables)
 grown g c =
-    Grows-parts c.self.inside.items c.self.inside.tables c.self.invariant.held c.self.inside.items.store.limit 1 c.insert_apart.new.items c.insert_apart.new.tables c.insert_apart.ensures.slots c.insert_apart.ensures.memory
+    Grows-parts c.self.inside.items c.self.inside.tables c.self.invariant.held c.self.inside.items.store.limit 1 c.insert_without_clash.new.items c.insert_without_clash.new.tables c.insert_without_clash.ensures.slots c.insert_without_clash.ensures.memory
 
 -- and nothing clashes with the item
-none : (g : _) (c : After-insert_apart g) → HasNoClash (keys_in g) c.self.inside.items.store c.args.item
+none : (g : _) (c : After-insert_without_clash g) → HasNoClash (keys_in g) c.self.inside.items.store c.args.item
 none g c =
     let s = c.self.inside.items.store in
     let found = rw (← c.self.view_is) at c.clashes-clashes.ensures.clashes in
@@ -144,5 +144,5 @@ pub returns-then-is_empty-clause-needed : goal.returns-then-is_empty-clause-need
 returns-then-is_empty-clause-needed g c =
     let items = c.self.inside.items in
     let tables = c.self.inside.tables in
-    let needed : (back : _) → c.insert_apart.result ≡ Err (Memory back) → 1 ≤ room (sized_tri_of c.self.inside.state items tables) → ⊥ = λ back is some. c.insert_apart.ensures.needed back is (set_room-held items c.self.invariant.valid (omega (arith, some))) (HaveRoom-held items tables c.self.invariant.held 1 (omega (arith, some))) in
+    let needed : (back : _) → c.insert_without_clash.result ≡ Err (Memory back) → 1 ≤ room (sized_tri_of c.self.inside.state items tables) → ⊥ = λ back is some. c.insert_without_clash.ensures.needed back is (set_room-held items c.self.invariant.valid (omega (arith, some))) (HaveRoom-held items tables c.self.invariant.held 1 (omega (arith, some))) in
     rw (← c.self.view_is) (λ back is. record { no_clash = none g c; no_room = let never = needed back is in omega arith })

@@ -5,7 +5,7 @@ use Rattle.iddqd.specs.GrowHandle.{handle_set}
 use Rattle.iddqd_tri.specs.TriTables.{maps_of}
 use Rattle.iddqd_tri.proofs.TriLemmas.{AreUnfiled-next}
 use Rattle.iddqd_tri.proofs.TriMemoryLemmas.{SlotsGrow-one}
-use Rattle.iddqd_tri.proofs.tri_steps.insert_apart.Goals as goal
+use Rattle.iddqd_tri.proofs.tri_steps.insert_without_clash.Goals as goal
 
 pub insert-requires-clause-new : goal.insert-requires-clause-new
 insert-requires-clause-new g c =
