@@ -55,7 +55,13 @@ module _ {T : Type 0} (same : T → T → Bool) where
       (alike : T → T → Bool) (laws : IsPartialEquivalence alike)
       (keyed : (x y : T) → same x y ≡ true → alike x y ≡ true) (turn : (x y : T) → same x y ≡ same y x)
     where
-      differs_from : (x z there : T) → alike x z ≡ false → same x there ≡ true → (b : Bool) → same z there ≡ b → b ≡ false
+      differs_from :
+          (x z there : T)
+          → alike x z ≡ false
+          → same x there ≡ true
+          → (b : Bool)
+          → same z there ≡ b
+          → b ≡ false
       differs_from x z there apart is true also =
           absurd (true≢false (sym (laws.trans x there z (keyed x there is) (laws.symm there z ∙ keyed z there also)) ∙ apart))
       differs_from x z there apart is false also = refl

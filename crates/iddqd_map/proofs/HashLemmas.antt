@@ -76,7 +76,10 @@ module _
   where
     module _ (ix : ℕ) (item : T) where
       -- who shares the key with the item is the one whose place it takes
-      no_other : (plan : Move) → Plans key_of hashing s ix item plan → HasNoOther s (shares key_of hashing.equal item) ix
+      no_other :
+          (plan : Move)
+          → Plans key_of hashing s ix item plan
+          → HasNoOther s (shares key_of hashing.equal item) ix
       no_other (To hash) planned j hit = absurd (planned.0 j hit)
       no_other Stays (y, is, same) j (x, there, like) =
           let e = lawful.equivalence in

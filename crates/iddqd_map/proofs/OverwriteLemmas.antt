@@ -56,7 +56,11 @@ module _ where
         | inr behind ↦ contains_tail y z (without x rest) (ih behind)
       ]
 
-  pub rising_fits : (xs ys : List ℕ) → IsIncreasing xs → ((x : ℕ) → Contains xs x → Contains ys x) → length xs ≤ length ys
+  pub rising_fits :
+      (xs ys : List ℕ)
+      → IsIncreasing xs
+      → ((x : ℕ) → Contains xs x → Contains ys x)
+      → length xs ≤ length ys
   rising_fits [] ys rising among = omega arith
   rising_fits (x ∷ rest) ys rising among =
       let fits = rising_fits rest (without x ys) rising.1 (λ z here.
@@ -84,7 +88,11 @@ push_adds : (l : List ℕ) (j : ℕ) → Contains (l ++ j ∷ []) j
 push_adds [] j = contains_head j []
 push_adds (x ∷ rest) j = contains_tail x j (rest ++ j ∷ []) (push_adds rest j)
 
-IsIncreasing-push : (l : List ℕ) (j : ℕ) → IsIncreasing l → ((ix : ℕ) → Contains l ix → ix < j) → IsIncreasing (l ++ j ∷ [])
+IsIncreasing-push :
+    (l : List ℕ) (j : ℕ)
+    → IsIncreasing l
+    → ((ix : ℕ) → Contains l ix → ix < j)
+    → IsIncreasing (l ++ j ∷ [])
 IsIncreasing-push [] j rising below = (λ y here. absurd (contains_none y here), tt)
 IsIncreasing-push (x ∷ rest) j rising below = (
   λ y here. elim (contains_push rest j y here) [
@@ -392,8 +400,8 @@ module _ {T : Type 0} (alike : T → T → Bool) (most : ℕ → ℕ) where
 
   -- and where some do, which were removed
   module _
-      (reported : ℕ → Type 0) (s : Store T) (item : T) (hits : (ix : ℕ) → reported ix ↔ IsHit s (alike item) ix) (places : ℕ)
-      (back : List (Option T)) (left : Store T) (took : TakesAll reported places s back left)
+      (reported : ℕ → Type 0) (s : Store T) (item : T) (hits : (ix : ℕ) → reported ix ↔ IsHit s (alike item) ix)
+      (places : ℕ) (back : List (Option T)) (left : Store T) (took : TakesAll reported places s back left)
     where
       removed_hit : (ix : ℕ) → Contains took.indexes ix ↔ IsHit s (alike item) ix
       removed_hit ix = (λ here. (hits ix).0 ((took.each ix).0 here), λ hit. (took.each ix).1 ((hits ix).1 hit))

@@ -92,7 +92,12 @@ module _ {T K : Type 0} (key_of : T → K) (compare : K → K → Ordering) wher
           | Greater ↦ λ at other. cc
         ] refl then
 
-    awaits_later : (n : Option ℕ) → IsNextHit key_of compare s test ix n → (j : ℕ) → awaits s n j ≡ true → awaits s (Some ix) j ≡ true
+    awaits_later :
+        (n : Option ℕ)
+        → IsNextHit key_of compare s test ix n
+        → (j : ℕ)
+        → awaits s n j ≡ true
+        → awaits s (Some ix) j ≡ true
     awaits_later None is j waits = cc
     awaits_later (Some n) is j waits =
         let (there, then) = both (is_some (get s j)) (not (is_gt (by_key_then_index key_of compare s n j))) waits in
@@ -112,7 +117,12 @@ module _ {T K : Type 0} (key_of : T → K) (compare : K → K → Ordering) wher
     to_ask-kept =
         less (awaits s next) (awaits s (Some ix)) (length s.items) ix (awaits_later next is) (live_within s.items ix (ap is_some live)) (awaits_no_more next is) awaits_itself
 
-    awaits_before : (n : Option ℕ) → IsNextHit key_of compare s test ix n → (j : ℕ) → awaits (removed s ix) n j ≡ true → awaits s n j ≡ true
+    awaits_before :
+        (n : Option ℕ)
+        → IsNextHit key_of compare s test ix n
+        → (j : ℕ)
+        → awaits (removed s ix) n j ≡ true
+        → awaits s n j ≡ true
     awaits_before None is j waits = waits
     awaits_before (Some n) is j waits = elim (cases_eq j ix) [
       | inl same ↦

@@ -1,7 +1,7 @@
 -- What the calls of a map that change items may return, and what they leave.
 use Rattle.std.specs.Prelude.{◌≡◌, ◌⊎◌, ◌↔◌, ◌<◌, ◌≤◌, ℕ, Bool, true, not, List, [], length, map, Option, Some, None, Result, Ok, Err}
 use Rattle.std.specs.Borrow.{Bor}
-use Rattle.std.specs.Fn.{Once}
+use Rattle.std.specs.Fn.{Once, FnOnceReturnsAt}
 use Rattle.std.specs.List.{Contains}
 use Rattle.iddqd.specs.Store.{Store, IsFull, get, live_count, next_index, inserted, rebound}
 use Rattle.iddqd.specs.Compaction.{compacted}
@@ -158,3 +158,9 @@ module _ {T : Type 0} (alike same : T → T → Bool) (may_need_memory : Bool) w
     Changes gives old test (Ok None) new = HasNoHit old.store test × (new ≡ old)
     Changes gives old test (Ok (Some was)) new = ChangesBy gives old test (Ok was) new
     Changes gives old test (Err refusal) new = ChangesBy gives old test (Err refusal) new
+
+    -- the same for a closure f that makes the new item
+    abbrev pub ChangesByCall :
+        {F : Type 0} → Once F (Bor T × Unit {0}) T → F → MapState T → (T → Bool)
+        → Result (Option T) (ReplaceRefusal T C) → MapState T → Type 0
+    ChangesByCall g f = Changes (FnOnceReturnsAt g f)

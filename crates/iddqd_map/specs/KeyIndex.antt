@@ -21,14 +21,15 @@ module _ {S T : Type 0} where
   abbrev pub IsPlannedForOne : (S → Store T → T → Type 0) → Type 0
   IsPlannedForOne planned = (state : S) × ((s : Store T) × ((item : T) × planned state s item))
 
-  -- If the plan was made for an item that shares no key with those stored, the store with that item inserted is
-  -- indexed.
+  -- If the plan was made for an item that shares no key with those stored, and `known` is what is known of its keys,
+  -- the store with that item inserted is indexed.
   abbrev pub IndexesOneMore :
-      (T → T → Bool) → (S → T → Type 0) → (S → Store T → T → Type 0) → (S → Store T → Type 0) → ℕ
-      → (S → Store T → Type 0) → Type 0
-  IndexesOneMore alike known planned old ix new =
+      {K P : Type 0} → (T → T → Bool) → (S → T → K → Type 0) → K → (S → Store T → T → P → Type 0) → P
+      → (S → Store T → Type 0) → ℕ → (S → Store T → Type 0) → Type 0
+  IndexesOneMore alike is_known known is_planned plan old ix new =
       (state : S) (s : Store T) (item : T) → old state s → IsValid s → (IsFull s → ⊥) → ix ≡ next_index s
-      → HasNoHit s (alike item) → known state item → planned state s item → new state (inserted s item)
+      → HasNoHit s (alike item) → is_known state item known → is_planned state s item plan
+      → new state (inserted s item)
 
   -- there is a store that it indexes, and the remap is that of the store
   abbrev pub IsRemapOfSome : (S → Store T → Type 0) → IndexRemap → Type 0
@@ -56,9 +57,10 @@ module _ {S T : Type 0} where
 module _ {T : Type 0} where
   -- `Ok`: the position for an item that shares no key with another; `Err`: the items with which it shares a key
   abbrev pub FindsSpot :
-      {P C : Type 0} → (T → Bool) → (P → Type 0) → (C → Type 0) → Store T → Result P C → Type 0
-  FindsSpot alike is_spot conflicts s (Ok spot) = HasNoHit s alike × is_spot spot
-  FindsSpot alike is_spot conflicts s (Err at) = conflicts at
+      {P C : Type 0} → (T → T → Bool) → (Store T → T → P → Type 0) → (Store T → T → C → Type 0) → Store T → T
+      → Result P C → Type 0
+  FindsSpot alike is_spot conflicts s item (Ok spot) = HasNoHit s (alike item) × is_spot s item spot
+  FindsSpot alike is_spot conflicts s item (Err at) = conflicts s item at
 
   -- `Ok`: how a live index must move if its item is replaced, which it must unless all keys stay; `Err`: the other
   -- items that share a key with the new one.
@@ -68,6 +70,13 @@ module _ {T : Type 0} where
   PlansMove alike same is_move moves taken s ix (Ok plan) =
       is_move plan × HasNoOther s alike ix × ((was : T) → get s ix ≡ Some was → moves plan ≡ not (same was))
   PlansMove alike same is_move moves taken s ix (Err at) = taken at
+
+  -- the same by what a key index says of any item in place of this one
+  abbrev pub FindsMove :
+      {P C : Type 0} → (T → T → Bool) → (T → T → Bool) → (Store T → ℕ → T → P → Type 0) → (P → Bool)
+      → (Store T → ℕ → T → C → Type 0) → Store T → ℕ → T → Result P C → Type 0
+  FindsMove alike same is_move moves taken s ix item =
+      PlansMove (alike item) (same item) (is_move s ix item) moves (taken s ix item) s ix
 
   -- the stores have equally many slots and the same live indexes, and their items at each index share all keys
   pub record HaveSameKeys (same : T → T → Bool) (s t : Store T) : Type 0 where

@@ -1,12 +1,13 @@
 -- What two key indexes of the same items mean together.
 use Rattle.std.proofs.Common.{◌≡◌, ◌∙◌, inl, inr, ◌⊎◌, ◌&&◌, ◌||◌, ◌↔◌, ◌<◌, ◌≤◌, ◌+◌, ℕ, Bool, true, false, not, List, ◌++◌, [], length, min, Option, Some, None, refl, sym, subst, arith}
-use Rattle.std.specs.Cmp.{IsEquivalence}
+use Rattle.std.specs.Cmp.{IsEquivalence, first_so, second_so}
 use Rattle.std.specs.List.{Contains}
 use Rattle.std.proofs.lemmas.List.Elements.{Contains-append_left, Contains-append_right}
 use Rattle.std.proofs.lemmas.List.{length-append}
 use Rattle.std.proofs.lemmas.Bool.{cases_lt}
 use Rattle.iddqd.specs.Store.{Store, get}
 use Rattle.iddqd_keys.specs.Scan.{IsHit, HasNoHit, AnswersScan, AreApart}
+use Rattle.iddqd_map.specs.EqualityLaws.{both_true}
 use Rattle.iddqd_map.specs.KeyIndex.{HaveSameKeys, IsNextReported}
 use Rattle.iddqd_map.specs.PairConflict.{Reports, ReportBoth, IsReportedBy, IsEither, lesser_of}
 use Rattle.iddqd_map.specs.Several.{either_key, both_keys, HasNoOther}
@@ -26,14 +27,6 @@ left_true false b is = absurd (cc)
 right_true : (a b : Bool) → b ≡ true → (a || b) ≡ true
 right_true true b is = refl
 right_true false b is = is
-
-both_true : (a b : Bool) → (a && b) ≡ true → (a ≡ true) × (b ≡ true)
-both_true true b is = (refl, is)
-both_true false b is = absurd (cc)
-
-true_both : (a b : Bool) → a ≡ true → b ≡ true → (a && b) ≡ true
-true_both true b one other = other
-true_both false b one other = absurd (cc)
 
 -- one of two moves if and only if not both keys stay
 pub moves_either : (m n a b : Bool) → m ≡ not a → n ≡ not b → (m || n) ≡ not (a && b)
@@ -86,10 +79,10 @@ module _ {T : Type 0} (first second : T → T → Bool) where
   HaveSameKeys-first s t same = record {
     slots = λ ix y live.
         let (x, is, alike) = same.slots ix y live in
-        (x, is, (both_true (first x y) (second x y) alike).0);
+        (x, is, first_so (first x y) (second x y) alike);
     items = λ ix x live.
         let (y, is, alike) = same.items ix x live in
-        (y, is, (both_true (first x y) (second x y) alike).0);
+        (y, is, first_so (first x y) (second x y) alike);
     as_many = same.as_many;
   }
 
@@ -97,10 +90,10 @@ module _ {T : Type 0} (first second : T → T → Bool) where
   HaveSameKeys-second s t same = record {
     slots = λ ix y live.
         let (x, is, alike) = same.slots ix y live in
-        (x, is, (both_true (first x y) (second x y) alike).1);
+        (x, is, second_so (first x y) (second x y) alike);
     items = λ ix x live.
         let (y, is, alike) = same.items ix x live in
-        (y, is, (both_true (first x y) (second x y) alike).1);
+        (y, is, second_so (first x y) (second x y) alike);
     as_many = same.as_many;
   }
 
@@ -112,7 +105,7 @@ module _ {T : Type 0} (first second : T → T → Bool) where
       → both_keys first second x y ≡ true
       → either_key alike other x y ≡ true
   alike_both alike so other x y both =
-      left_true (alike x y) (other x y) (so x y (both_true (first x y) (second x y) both).0)
+      left_true (alike x y) (other x y) (so x y (first_so (first x y) (second x y) both))
 
 -- the indexes that either reports fit in one list, whose length is at most the sum of both numbers
 pub few_both :
@@ -224,7 +217,7 @@ IsNextReported-lesser reported reported_too before (Some x) (Some y) a b =
 -- an item shares all keys if and only if it shares those of the first key index and those of the second
 module _ {T : Type 0} (first second : T → T → Bool) (s : Store T) (item : T) where
   pub HasNoHit-both : HasNoHit s (first item) → HasNoHit s (both_keys first second item)
-  HasNoHit-both none ix (x, is, same) = none ix (x, is, (both_true (first item x) (second item x) same).0)
+  HasNoHit-both none ix (x, is, same) = none ix (x, is, first_so (first item x) (second item x) same)
 
   module _ (ix : ℕ) (there : T) (live : get s ix ≡ Some there) (scan : AnswersScan s (first item) (Some ix)) where
     is_there : (x : T) → get s ix ≡ Some x → x ≡ there
@@ -232,17 +225,18 @@ module _ {T : Type 0} (first second : T → T → Bool) (s : Store T) (item : T)
 
     pub AnswersScan-both : second item there ≡ true → AnswersScan s (both_keys first second item) (Some ix)
     AnswersScan-both same j = (
-      λ hit. (let (x, is, both) = hit in (scan j).0 (x, is, (both_true (first item x) (second item x) both).0)),
+      λ hit. (let (x, is, both) = hit in (scan j).0 (x, is, first_so (first item x) (second item x) both)),
       λ here. (
           let (x, is, one) = (scan ix).1 refl in
           let other : second item x ≡ true = subst (λ z. second item z ≡ true) (sym (is_there x is)) same in
           subst (IsHit s (both_keys first second item)) (sym here)
-          (x, is, true_both (first item x) (second item x) one other)),
+          (x, is, both_true (first item x) (second item x) one other)),
     )
 
     pub HasNoHit-unlike : second item there ≡ false → HasNoHit s (both_keys first second item)
     HasNoHit-unlike unlike j (x, is, both) =
-        let (one, other) = both_true (first item x) (second item x) both in
+        let one : first item x ≡ true = first_so (first item x) (second item x) both in
+        let other : second item x ≡ true = second_so (first item x) (second item x) both in
         let at : j ≡ ix = (scan j).0 (x, is, one) in
         let same : x ≡ there = is_there x (subst (λ k. get s k ≡ Some x) at is) in
         let known : second item there ≡ true = subst (λ z. second item z ≡ true) same other in

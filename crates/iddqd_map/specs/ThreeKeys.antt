@@ -1,11 +1,15 @@
--- What a map whose items have three keys reports of other items.
-use Rattle.std.specs.Prelude.{◌⊎◌, ℕ, Bool, IsSome}
+-- What a map whose items have three keys reports of other items, and what its insert that overwrites may return.
+use Rattle.std.specs.Prelude.{◌⊎◌, ◌+◌, ℕ, Bool, false, List, Option, Result, IsSome}
 use Rattle.iddqd.specs.Store.{Store}
+use Rattle.iddqd_hash.specs.Sizes.{most_cells}
+use Rattle.iddqd_map.specs.Calls.{Overwrites}
+use Rattle.iddqd_map.specs.Map.{MapState}
 use Rattle.iddqd_map.specs.OneKey.{IsReported, IsTaken}
 use Rattle.iddqd_map.specs.PairConflict.{ReportBoth, ReportBothOther, first_of, second_of, both_of}
 use Rattle.iddqd_map.specs.Several.{either_key, both_keys}
 use Rattle.iddqd_map.specs.declared.pair_conflict.PairConflict.{PairConflict}
 use Rattle.iddqd_map.specs.declared.tri_hash_map.clash.TriClash.{TriClash}
+use Rattle.iddqd_map.specs.declared.refusal.OverwriteRefusal.{OverwriteRefusal}
 
 -- one of the keys was found
 abbrev pub ReportsSome : TriClash → Type 0
@@ -42,3 +46,9 @@ module _ {T : Type 0} (first second third : T → T → Bool) where
   AreTaken s ix item at =
       ReportBothOther first (either_key second third) (IsTaken first) AreTakenLast s ix item at.key1
       (both_of at.key2 at.key3)
+
+  -- what an insert that overwrites may return and leave where all three keys go by their hashes: after a removal it
+  -- needs no memory
+  abbrev pub OverwritesThree :
+      MapState T → T → Result (ℕ × List (Option T)) (OverwriteRefusal T) → MapState T → Type 0
+  OverwritesThree = Overwrites any_key (λ n. most_cells n + (most_cells n + most_cells n)) false 3

@@ -30,10 +30,10 @@ where
     E::Key: Eq + Hash,
     S: BuildHasher,
     requires live { IsLive items.now.store ix }
-    requires indexed { let hashing = hashing_of E.Key.eq E.Key.hash_input S.BuildHasher S.Hasher.Hasher state.now in
-        Indexes E.key_of hashing items.now.store (filed table.now) }
-    ensures { let hashing = hashing_of E.Key.eq E.Key.hash_input S.BuildHasher S.Hasher.Hasher state.now in
-        PlansOrConflicts E.key_of hashing items.now.store ix item.now result }
+    requires indexed { Indexes E.key_of (hashing_of E.Key.eq E.Key.hash_input S.BuildHasher S.Hasher.Hasher state.now)
+        items.now.store (filed table.now) }
+    ensures { PlansOrConflicts E.key_of (hashing_of E.Key.eq E.Key.hash_input S.BuildHasher S.Hasher.Hasher state.now)
+        items.now.store ix item.now result }
 {
     match move_of::<T, E, S>(items, state, ix, item) {
         Move::Stays => Ok(Move::Stays),
@@ -60,8 +60,8 @@ where
     E::Key: Eq + Hash,
     S: BuildHasher,
     requires { IsLive items.now.store ix }
-    ensures { let hashing = hashing_of E.Key.eq E.Key.hash_input S.BuildHasher S.Hasher.Hasher state.now in
-        IsMoveFor E.key_of hashing items.now.store ix item.now result }
+    ensures { IsMoveFor E.key_of (hashing_of E.Key.eq E.Key.hash_input S.BuildHasher S.Hasher.Hasher state.now)
+        items.now.store ix item.now result }
 {
     if *E::key(item) == *key_at::<T, E>(items, ix) {
         return Move::Stays;

@@ -42,8 +42,8 @@ where
     S: BuildHasher,
     Q: HashQuery<E::Key>,
     requires hash { hash ≡ hash_one S.BuildHasher S.Hasher.Hasher state.now (Q.hash_input query) }
-    requires indexed { let hashing = hashing_of E.Key.eq E.Key.hash_input S.BuildHasher S.Hasher.Hasher state.now in
-        Indexes E.key_of hashing items.now.store (filed table.now) }
+    requires indexed { Indexes E.key_of (hashing_of E.Key.eq E.Key.hash_input S.BuildHasher S.Hasher.Hasher state.now)
+        items.now.store (filed table.now) }
     ensures { AnswersScan items.now.store (passes_by E.key_of (Q.stands_for query)) result }
 {
     hashed::find::<T, E, AsEquivalent<Q>>(table, items, hash, &AsEquivalent(query))
@@ -61,8 +61,8 @@ where
     E::Key: Eq + Hash,
     S: BuildHasher,
     Q: HashQuery<E::Key>,
-    requires { let hashing = hashing_of E.Key.eq E.Key.hash_input S.BuildHasher S.Hasher.Hasher state.now in
-        Indexes E.key_of hashing items.now.store (filed table.old) }
+    requires { Indexes E.key_of (hashing_of E.Key.eq E.Key.hash_input S.BuildHasher S.Hasher.Hasher state.now)
+        items.now.store (filed table.old) }
     ensures found { AnswersScan items.now.store (passes_by E.key_of (Q.stands_for query)) result }
     ensures taken { Takes (filed table.old) result (filed table.new) }
     ensures memory { KeepsMemory table.old table.new }
@@ -85,8 +85,8 @@ where
     S: BuildHasher,
     requires hash { let hashing = hashing_of E.Key.eq E.Key.hash_input S.BuildHasher S.Hasher.Hasher state.now in
         hash ≡ hashing.hash_of (E.key_of item.now) }
-    requires indexed { let hashing = hashing_of E.Key.eq E.Key.hash_input S.BuildHasher S.Hasher.Hasher state.now in
-        Indexes E.key_of hashing items.now.store (filed table.now) }
+    requires indexed { Indexes E.key_of (hashing_of E.Key.eq E.Key.hash_input S.BuildHasher S.Hasher.Hasher state.now)
+        items.now.store (filed table.now) }
     ensures { AnswersScan items.now.store (shares E.key_of E.Key.eq item.now) result }
 {
     find_under::<T, E, S, &E::Key>(table, items, state, hash, E::key(item))
@@ -104,8 +104,8 @@ where
     E::Key: Eq + Hash,
     S: BuildHasher,
     Q: HashQuery<E::Key>,
-    requires { let hashing = hashing_of E.Key.eq E.Key.hash_input S.BuildHasher S.Hasher.Hasher state.now in
-        Files E.key_of hashing items.now.store table.now.filed }
+    requires { Files E.key_of (hashing_of E.Key.eq E.Key.hash_input S.BuildHasher S.Hasher.Hasher state.now)
+        items.now.store table.now.filed }
     ensures { FindsSome items.now.store (passes_by E.key_of (Q.stands_for query)) result }
 {
     let mut group = group_by::<T, E, S, Q>(table, items, state, query);
@@ -126,8 +126,8 @@ where
     E::Key: Eq + Hash,
     S: BuildHasher,
     Q: HashQuery<E::Key>,
-    requires { let hashing = hashing_of E.Key.eq E.Key.hash_input S.BuildHasher S.Hasher.Hasher state.now in
-        Files E.key_of hashing items.now.store table.now.filed }
+    requires { Files E.key_of (hashing_of E.Key.eq E.Key.hash_input S.BuildHasher S.Hasher.Hasher state.now)
+        items.now.store table.now.filed }
     ensures { AreHits items.now.store (passes_by E.key_of (Q.stands_for query)) result }
 {
     let hash = query_hash(state, query);
@@ -141,8 +141,8 @@ where
     E::Key: Eq + Hash,
     S: BuildHasher,
     Q: HashQuery<E::Key>,
-    requires { let hashing = hashing_of E.Key.eq E.Key.hash_input S.BuildHasher S.Hasher.Hasher state.now in
-        Files E.key_of hashing items.now.store table.now.filed }
+    requires { Files E.key_of (hashing_of E.Key.eq E.Key.hash_input S.BuildHasher S.Hasher.Hasher state.now)
+        items.now.store table.now.filed }
     ensures { CountsHits items.now.store (passes_by E.key_of (Q.stands_for query)) result }
 {
     let group = group_by::<T, E, S, Q>(table, items, state, query);

@@ -2,14 +2,13 @@
 //!
 //! All calls that name no key are `Map`'s. Here are those that do, each the call of `Map` at the place of its key.
 ghost use Rattle.std.specs.Prelude.{◌≡◌, ◌≤◌, ◌↔◌, false, Some, Ok, option_copied};
-ghost use Rattle.std.specs.Fn.{FnOnceReturnsAt};
 ghost use Rattle.iddqd_hash.specs.Sizes.{most_cells};
 ghost use Rattle.iddqd_keys.specs.Scan.{HasNoHit, AnswersScan, passes_by};
 ghost use Rattle.iddqd_keys.specs.KeyKeeping.{KeepsKey};
 ghost use Rattle.iddqd_map.specs.Map.{room, shares, FindsItem, Removes};
-ghost use Rattle.iddqd_map.specs.Calls.{MayChange, Replaces, Changes};
+ghost use Rattle.iddqd_map.specs.Calls.{MayChange};
 ghost use Rattle.iddqd_map.specs.Modify.{Modifies};
-ghost use Rattle.iddqd_map.specs.OneKey.{IsTaken, OverwritesOne};
+ghost use Rattle.iddqd_map.specs.OneKey.{ChangesOne, OverwritesOne, ReplacesOne};
 
 mod clones;
 mod item;
@@ -75,8 +74,7 @@ impl<T: IdHashItem, S: BuildHasher> Map<T, IdIndex<T>, S> {
         query: Q,
         item: T,
     ) -> Result<T, ReplaceRefusal<T, ItemIndex>>
-        ensures replaces { let alike = shares T.key_of T.Key.eq in
-            Replaces alike alike false (IsTaken alike) self.old
+        ensures replaces { ReplacesOne (shares T.key_of T.Key.eq) self.old
             (passes_by T.key_of (Q.stands_for query)) item result self.new }
         ensures room { room self.old ≤ room self.new }
     {
@@ -93,9 +91,8 @@ impl<T: IdHashItem, S: BuildHasher> Map<T, IdIndex<T>, S> {
         f: F,
     ) -> Result<Option<T>, ReplaceRefusal<T, ItemIndex>>
         requires { MayChange F.FnOnce f self.old.store (passes_by T.key_of (Q.stands_for query)) }
-        ensures changes { let alike = shares T.key_of T.Key.eq in
-            Changes alike alike false (IsTaken alike) (FnOnceReturnsAt F.FnOnce f)
-            self.old (passes_by T.key_of (Q.stands_for query)) result self.new }
+        ensures changes { ChangesOne (shares T.key_of T.Key.eq) F.FnOnce f self.old
+            (passes_by T.key_of (Q.stands_for query)) result self.new }
         ensures room { room self.old ≤ room self.new }
     {
         self.change_by::<Here, Q, F>(query, f)

@@ -12,7 +12,7 @@ ghost use Rattle.iddqd.specs.{next_index, removed, rebound, sentinel, live_count
 ghost use Rattle.iddqd_keys.specs.KeyWalk.{IsFirstHit};
 ghost use Rattle.iddqd_keys.specs.OrderedQuery.{is_within};
 ghost use Rattle.iddqd_keys.specs.Scan.{AnswersScan, IsLive, HasNoHit, passes_by};
-ghost use Rattle.iddqd_map.specs.KeyIndex.{IndexesNone, IsNextOf, IsPlannedForOne, IndexesOneMore, IsRemapOfSome, IndexesCompacted, IndexesAllOf, IsNextReported, FindsSpot, PlansMove, TakesFound};
+ghost use Rattle.iddqd_map.specs.KeyIndex.{IndexesNone, IsNextOf, IsPlannedForOne, IndexesOneMore, IsRemapOfSome, IndexesCompacted, IndexesAllOf, IsNextReported, FindsSpot, FindsMove, TakesFound};
 
 use iddqd::index_remap::IndexRemap;
 use iddqd::internal::{ValidateCompact, ValidateRefusal, ValidationError};
@@ -170,8 +170,8 @@ pub trait Sizes<T, S>: KeyIndex<T, S> {
         ensures shrunk { OnOk result (Self.cells self.new
             ≤ Self.kept (max least (slot_count items.now.store)) (max least (live_count items.now.store))) }
         ensures refused { OnErr result (max least (live_count items.now.store) < Self.cells self.new) }
-        ensures succeeds { Self.kept (max least (slot_count items.now.store)) (max least (live_count items.now.store)) ≡ 0
-            → IsOk result };
+        ensures succeeds { Self.kept (max least (slot_count items.now.store))
+            (max least (live_count items.now.store)) ≡ 0 → IsOk result };
 }
 
 /// A key index into which an item's index can be inserted.
@@ -216,8 +216,7 @@ pub trait Inserts<T, S>: KeyIndex<T, S> {
     ) -> Result<Self::Spot, Self::Conflict>
         requires hashed { is_known state.now item.now known }
         requires indexed { Self.indexes self.now state.now items.now.store }
-        ensures { FindsSpot (Self.alike item.now) (is_spot self.now state.now items.now.store item.now)
-            (Self.conflicts items.now.store item.now) items.now.store result };
+        ensures { FindsSpot Self.alike (is_spot self.now state.now) Self.conflicts items.now.store item.now result };
 
     /// The position for an item under the next index.
     fn plan(
@@ -254,9 +253,8 @@ pub trait Inserts<T, S>: KeyIndex<T, S> {
         requires next { IsNextOf (Self.indexes self.old) ix }
         requires assigned { ix ≢ sentinel }
         requires planned { IsPlannedForOne (λ state s item. is_planned self.old state s item plan.now) }
-        ensures indexed { IndexesOneMore Self.alike (λ state item. is_known state item known)
-            (λ state s item. is_planned self.old state s item plan.now) (Self.indexes self.old) ix
-            (Self.indexes self.new) }
+        ensures indexed { IndexesOneMore Self.alike is_known known (is_planned self.old) plan.now
+            (Self.indexes self.old) ix (Self.indexes self.new) }
         ensures capacity { Self.capacity self.new ≡ Self.capacity self.old }
         ensures cells { Self.cells self.new ≡ Self.cells self.old };
 
@@ -347,9 +345,8 @@ pub trait Moves<T, S>: KeyIndex<T, S> {
     ) -> Result<Self::Move, Self::Conflict>
         requires live { IsLive items.now.store ix }
         requires indexed { Self.indexes self.now state.now items.now.store }
-        ensures { PlansMove (Self.alike item.now) (Self.same_keys item.now)
-            (is_move state.now items.now.store ix item.now)
-            moves (Self.taken items.now.store ix item.now) items.now.store ix result };
+        ensures { FindsMove Self.alike Self.same_keys (is_move state.now) moves Self.taken items.now.store ix item.now
+            result };
 
     /// Makes ready for a move. Up to the capacity it takes no memory, nor if all keys stay.
     fn ready_move(
@@ -436,6 +433,15 @@ pub struct Left<P> {
 pub struct Right<P> {
     of: PhantomData<P>,
 }
+
+/// The place of the first key of a key index that has several tables of its own: a `BiIndex` or a `TriIndex`.
+pub enum First {}
+
+/// The place of its second key.
+pub enum Second {}
+
+/// The place of its third key.
+pub enum Third {}
 
 /// A key index with a key by its hash at the place `P`.
 pub trait HashedAt<P, T, S>: KeyIndex<T, S> {

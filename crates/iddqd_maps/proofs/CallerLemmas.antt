@@ -1,6 +1,6 @@
--- For callers of maps: what a look-up found passes the test; what an item became that was replaced, changed or modified;
--- what each call of a closure leaves holds of an item that was modified by it; what a removal
--- leaves of the others; and `retain` leaves no more items than there were.
+-- For callers of maps: what a look-up found passes the test; what an item became that was replaced, changed or
+-- modified; what each call of a closure leaves holds of an item that was modified by it; what a removal leaves of the
+-- others; and `retain` leaves no more items than there were.
 use Rattle.std.proofs.Common.{◌≡◌, ◌∙◌, ◌≤◌, ℕ, zero, suc, Bool, true, false, List, [], ◌∷◌, slice_set, Option, Some, None, is_some, cond, refl, sym, subst, ap, arith}
 use Rattle.std.specs.Prelude.{Result, Ok, Err, IfOk, MatchOption}
 use Rattle.std.specs.Borrow.{MutBor}

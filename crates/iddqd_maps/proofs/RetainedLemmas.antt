@@ -1,5 +1,5 @@
--- For callers of `retain`, `retain_range_by` and `retain_group_by`: that exactly the items that pass a test stay, where the
--- closure's answers are that test; and that a closure may be asked which asks for something.
+-- For callers of `retain`, `retain_range_by` and `retain_group_by`: that exactly the items that pass a test stay, where
+-- the closure's answers are that test; and that a closure may be asked which asks for something.
 use Rattle.std.proofs.Common.{◌≡◌, ◌∙◌, inl, inr, ℕ, Bool, true, false, List, [], ◌∷◌, map, Some, None, refl, sym, ap, subst, Ordering}
 use Rattle.std.specs.List.{Contains, filter, FoldsTo}
 use Rattle.iddqd.specs.Store.{Store, get}

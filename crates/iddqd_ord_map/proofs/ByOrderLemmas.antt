@@ -65,12 +65,17 @@ module _ {T K : Type 0} (key_of : T → K) (compare : K → K → Ordering) (tot
 module _ {T K : Type 0} (key_of : T → K) (compare : K → K → Ordering) (total : IsTotalOrder compare) (s : Store T)
     (t : Order) (o : Sorts key_of compare s (order_of t)) (item : T) {F R : Type 0} (g : Mut F (ℕ × Unit {0}) R)
     (read : R → Ordering) (old new : Asking F)
-    (steady : IsSteady g (order_of t) None read (answer key_of compare s (order_of t) (compare (key_of item))) old) where
+    (steady :
+    IsSteady g (order_of t) None read (answer key_of compare s (order_of t) (compare (key_of item))) old) where
   pub LooksPlaceUp-found : (r : Result Gap ℕ) → FindsGap g read t old r new → LooksPlaceUp key_of compare s t item r
   LooksPlaceUp-found (Err ix) (asked, found) =
-      (LooksUp-stored key_of compare s (order_of t) (compare (key_of item)) o.held g read old new total (IsQuery-key compare total (key_of item)) steady ix found.stored found.hit).as_scan o.in_sync
+      (LooksUp-stored key_of compare s (order_of t) (compare (key_of item)) o.held g read old new total
+      (IsQuery-key compare total (key_of item)) steady ix found.stored found.hit).as_scan o.in_sync
   LooksPlaceUp-found (Ok gap) (asked, found) =
-      let vacant = IsVacantAt-placed key_of compare s (order_of t) (compare (key_of item)) o.held g read old new total (IsQuery-key compare total (key_of item)) steady (gap_place t gap) found.within found.place found.miss in
+      let query = IsQuery-key compare total (key_of item) in
+      let vacant =
+      IsVacantAt-placed key_of compare s (order_of t) (compare (key_of item)) o.held g read old new total query steady
+      (gap_place t gap) found.within found.place found.miss in
       (vacant.missed.as_scan o.in_sync, record { fits = found.fits; vacant = vacant })
 
 -- what a removal leaves
@@ -107,4 +112,5 @@ module _ {T K : Type 0} (key_of : T → K) (compare : K → K → Ordering) wher
   HasDistinctKeys-planned total s order o ix item was live Stays planned =
       (Sorts-kept key_of compare total s order o ix item was live planned).in_sync.apart
   HasDistinctKeys-planned total s order o ix item was live Moves planned =
-      HasDistinctKeys-moved key_of compare total s order (Sorts-scan key_of compare s order o) ix item was live o.in_sync.apart planned
+      HasDistinctKeys-moved key_of compare total s order (Sorts-scan key_of compare s order o) ix item was live
+      o.in_sync.apart planned

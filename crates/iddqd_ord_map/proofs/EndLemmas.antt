@@ -26,13 +26,21 @@ module _ {T : Type 0} (s : Store T) (order : List ℕ) (held : Holds s order) wh
 
 module _ {T K : Type 0} (key_of : T → K) (compare : K → K → Ordering) (beyond : Ordering) where
   -- an item beyond whose key no other lies
-  pub IsEnd-at : (s : Store T) (ix : ℕ) → (item : T) × (get s ix ≡ Some item) × ((j : ℕ) (other : T) → get s j ≡ Some other → compare (key_of other) (key_of item) ≢ beyond) → (item : T) × IsEnd key_of compare beyond s ix item
+  pub IsEnd-at :
+      (s : Store T) (ix : ℕ)
+      → (item : T) × (get s ix ≡ Some item)
+      × ((j : ℕ) (other : T) → get s j ≡ Some other → compare (key_of other) (key_of item) ≢ beyond)
+      → (item : T) × IsEnd key_of compare beyond s ix item
   IsEnd-at s ix (item, live, none) = (item, record { live = live; none_beyond = none })
 
   pub FindsEnd-none : (s : Store T) (r : Option T) → r ≡ None → live_count s ≡ 0 → FindsEnd key_of compare beyond s r
   FindsEnd-none s r is none = rw is none
 
-  pub FindsEnd-found : (s : Store T) (ix : ℕ) (r : Option T) → (item : T) × IsEnd key_of compare beyond s ix item → r ≡ get s ix → FindsEnd key_of compare beyond s r
+  pub FindsEnd-found :
+      (s : Store T) (ix : ℕ) (r : Option T)
+      → (item : T) × IsEnd key_of compare beyond s ix item
+      → r ≡ get s ix
+      → FindsEnd key_of compare beyond s r
   FindsEnd-found s ix r (item, end) is = rw (is ∙ end.live) (ix, end)
 
   pub PopsEnd-none :
@@ -51,4 +59,5 @@ module _ {T K : Type 0} (key_of : T → K) (compare : K → K → Ordering) (bey
       let one : Some other ≡ Some item = sym end.live ∙ live in
       let same : other ≡ item = cc in
       record { ix = ix; end = subst (IsEnd key_of compare beyond old.store ix) same end; left = left; memory = memory }
-  PopsEnd-removed old new ix None (other, end) (none, left) = absurd (let one : Some other ≡ None = sym end.live ∙ none in cc)
+  PopsEnd-removed old new ix None (other, end) (none, left) =
+      absurd (let one : Some other ≡ None = sym end.live ∙ none in cc)

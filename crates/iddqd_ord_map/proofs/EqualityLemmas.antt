@@ -26,9 +26,12 @@ module _ {X : Type 0} (before : X → X → Bool) where
       elim (before x y) as (λ b. Contains (cond b (x ∷ y ∷ ys) (y ∷ put_in_order before x ys)) z) [
         | true ↦ here
         | false ↦ elim (contains_cases x z (y ∷ ys) here) [
-          | inl same ↦ contains_tail y z (put_in_order before x ys) (put_in x ys z (subst (Contains (x ∷ ys)) same (contains_head x ys)))
+          | inl same ↦
+              contains_tail y z (put_in_order before x ys)
+              (put_in x ys z (subst (Contains (x ∷ ys)) same (contains_head x ys)))
           | inr there ↦ elim (contains_cases y z ys there) [
-            | inl same ↦ subst (Contains (y ∷ put_in_order before x ys)) same (contains_head y (put_in_order before x ys))
+            | inl same ↦
+                subst (Contains (y ∷ put_in_order before x ys)) same (contains_head y (put_in_order before x ys))
             | inr behind ↦ contains_tail y z (put_in_order before x ys) (put_in x ys z (contains_tail x z ys behind))
           ]
         ]
@@ -37,7 +40,8 @@ module _ {X : Type 0} (before : X → X → Bool) where
   put_out : (x : X) (ys : List X) (z : X) → Contains (put_in_order before x ys) z → Contains (x ∷ ys) z
   put_out x [] z here = here
   put_out x (y ∷ ys) z here =
-      elim (before x y) as (λ b. Contains (cond b (x ∷ y ∷ ys) (y ∷ put_in_order before x ys)) z → Contains (x ∷ y ∷ ys) z) [
+      elim (before x y) as (λ b. Contains (cond b (x ∷ y ∷ ys) (y ∷ put_in_order before x ys)) z
+      → Contains (x ∷ y ∷ ys) z) [
         | true ↦ λ found. found
         | false ↦ λ found. elim (contains_cases y z (put_in_order before x ys) found) [
           | inl same ↦ contains_tail x z (y ∷ ys) (subst (Contains (y ∷ ys)) same (contains_head y ys))
@@ -70,7 +74,8 @@ module _ {X Y : Type 0} (part : X → Y) (before : Y → Y → Bool) where
   map-put : (x : X) (ys : List X) → map part (put_in_order by_part x ys) ≡ put_in_order before (part x) (map part ys)
   map-put x [] = refl
   map-put x (y ∷ ys) =
-      elim (before (part x) (part y)) as (λ b. map part (cond b (x ∷ y ∷ ys) (y ∷ put_in_order by_part x ys)) ≡ cond b (part x ∷ part y ∷ map part ys) (part y ∷ put_in_order before (part x) (map part ys))) [
+      elim (before (part x) (part y)) as (λ b. map part (cond b (x ∷ y ∷ ys) (y ∷ put_in_order by_part x ys))
+      ≡ cond b (part x ∷ part y ∷ map part ys) (part y ∷ put_in_order before (part x) (map part ys))) [
         | true ↦ refl
         | false ↦ ap (λ l. part y ∷ l) (map-put x ys)
       ]
@@ -98,7 +103,10 @@ module _ {T K : Type 0} (key_of : T → K) (compare : K → K → Ordering) (tot
   Differ [] = Unit {0}
   Differ (p ∷ ps) = ((q : ℕ × T) → Contains ps q → by_key p q ≢ Equal) × Differ ps
 
-  rises_from : (ps : List (ℕ × T)) → ((i j : ℕ) (a b : ℕ × T) → i < j → slice_get ps i ≡ Some a → slice_get ps j ≡ Some b → by_key a b ≡ Less) → Rises ps
+  rises_from :
+      (ps : List (ℕ × T))
+      → ((i j : ℕ) (a b : ℕ × T) → i < j → slice_get ps i ≡ Some a → slice_get ps j ≡ Some b → by_key a b ≡ Less)
+      → Rises ps
   rises_from [] rising = tt
   rises_from (p ∷ ps) rising = (
     λ q here. let (k, at) = place_of ps q here in rising 0 (suc k) p q (omega arith) refl at,
@@ -109,16 +117,30 @@ module _ {T K : Type 0} (key_of : T → K) (compare : K → K → Ordering) (tot
   not_less_itself x less = let equal = tied_itself total (key_of x.1) in cc
 
   both_less : (p q : ℕ × T) → by_key p q ≡ Less → by_key q p ≡ Less → ⊥
-  both_less p q less turned = let greater : by_key p q ≡ Greater = total.antisymm (key_of p.1) (key_of q.1) ∙ ap ordering_reverse turned in cc
+  both_less p q less turned =
+      let greater : by_key p q ≡ Greater = total.antisymm (key_of p.1) (key_of q.1) ∙ ap ordering_reverse turned in cc
 
   -- what stands behind the first of one list stands behind the same first of another one
-  behind_first : (p q : ℕ × T) (ps qs : List (ℕ × T)) → Rises (p ∷ ps) → p ≡ q → (x : ℕ × T) → (Contains (p ∷ ps) x → Contains (q ∷ qs) x) → Contains ps x → Contains qs x
+  behind_first :
+      (p q : ℕ × T) (ps qs : List (ℕ × T))
+      → Rises (p ∷ ps)
+      → p ≡ q
+      → (x : ℕ × T)
+      → (Contains (p ∷ ps) x → Contains (q ∷ qs) x)
+      → Contains ps x
+      → Contains qs x
   behind_first p q ps qs rises first x to here = elim (contains_cases q x qs (to (contains_tail p x ps here))) [
     | inl same ↦ absurd (not_less_itself x (subst (λ z. by_key z x ≡ Less) (first ∙ same) (rises.0 x here)))
     | inr there ↦ there
   ]
 
-  first_of_both : (p q : ℕ × T) (ps qs : List (ℕ × T)) → Rises (p ∷ ps) → Rises (q ∷ qs) → Contains (q ∷ qs) p → Contains (p ∷ ps) q → p ≡ q
+  first_of_both :
+      (p q : ℕ × T) (ps qs : List (ℕ × T))
+      → Rises (p ∷ ps)
+      → Rises (q ∷ qs)
+      → Contains (q ∷ qs) p
+      → Contains (p ∷ ps) q
+      → p ≡ q
   first_of_both p q ps qs rp rq p_here q_here = elim (contains_cases q p qs p_here) [
     | inl same ↦ sym same
     | inr p_behind ↦ elim (contains_cases p q ps q_here) [
@@ -134,10 +156,17 @@ module _ {T K : Type 0} (key_of : T → K) (compare : K → K → Ordering) (tot
   one_list (p ∷ ps) [] rp rq same = absurd (contains_none p ((same p).0 (contains_head p ps)))
   one_list (p ∷ ps) (q ∷ qs) rp rq same =
       let first = first_of_both p q ps qs rp rq ((same p).0 (contains_head p ps)) ((same q).1 (contains_head q qs)) in
-      let rest = one_list ps qs rp.1 rq.1 (λ x. (behind_first p q ps qs rp first x (same x).0, behind_first q p qs ps rq (sym first) x (same x).1)) in
+      let rest = one_list ps qs rp.1 rq.1 (λ x. (
+        behind_first p q ps qs rp first x (same x).0,
+        behind_first q p qs ps rq (sym first) x (same x).1,
+      )) in
       ap (λ z. z ∷ ps) first ∙ ap (λ l. q ∷ l) rest
 
-  put_rises : (x : ℕ × T) (ys : List (ℕ × T)) → Rises ys → ((y : ℕ × T) → Contains ys y → by_key x y ≢ Equal) → Rises (put_in_order lesser x ys)
+  put_rises :
+      (x : ℕ × T) (ys : List (ℕ × T))
+      → Rises ys
+      → ((y : ℕ × T) → Contains ys y → by_key x y ≢ Equal)
+      → Rises (put_in_order lesser x ys)
   put_rises x [] rises differs = (λ q here. absurd (contains_none q here), tt)
   put_rises x (y ∷ ys) rises differs =
       elim (by_key x y) as (λ r. by_key x y ≡ r → Rises (cond (is_lt r) (x ∷ y ∷ ys) (y ∷ put_in_order lesser x ys))) [
@@ -151,7 +180,9 @@ module _ {T K : Type 0} (key_of : T → K) (compare : K → K → Ordering) (tot
         | Equal ↦ λ is. absurd (differs y (contains_head y ys) is)
         | Greater ↦ λ is. (
           λ q here. elim (contains_cases x q ys (put_out lesser x ys q here)) [
-            | inl same ↦ subst (λ z. by_key y z ≡ Less) same (total.antisymm (key_of y.1) (key_of x.1) ∙ ap ordering_reverse is)
+            | inl same ↦
+                subst (λ z. by_key y z ≡ Less) same
+                (total.antisymm (key_of y.1) (key_of x.1) ∙ ap ordering_reverse is)
             | inr there ↦ rises.0 q there
           ],
           put_rises x ys rises.1 (λ z here. differs z (contains_tail y z ys here)),
@@ -160,7 +191,8 @@ module _ {T K : Type 0} (key_of : T → K) (compare : K → K → Ordering) (tot
 
   order_rises : (xs : List (ℕ × T)) → Differ xs → Rises (sorted lesser xs)
   order_rises [] differ = tt
-  order_rises (x ∷ xs) differ = put_rises x (sorted lesser xs) (order_rises xs differ.1) (λ y here. differ.0 y (order_out lesser xs y here))
+  order_rises (x ∷ xs) differ =
+      put_rises x (sorted lesser xs) (order_rises xs differ.1) (λ y here. differ.0 y (order_out lesser xs y here))
 
   -- pairs of such a list that have one key are one
   one_pair : (ps : List (ℕ × T)) → Rises ps → (a b : ℕ × T) → Contains ps a → Contains ps b → by_key a b ≡ Equal → a ≡ b
@@ -168,19 +200,28 @@ module _ {T K : Type 0} (key_of : T → K) (compare : K → K → Ordering) (tot
   one_pair (p ∷ ps) rises a b a_here b_here equal = elim (contains_cases p a ps a_here) [
     | inl first ↦ elim (contains_cases p b ps b_here) [
       | inl other ↦ sym first ∙ other
-      | inr behind ↦ absurd (let less : by_key a b ≡ Less = subst (λ z. by_key z b ≡ Less) first (rises.0 b behind) in cc)
+      | inr behind ↦
+          let less : by_key a b ≡ Less = subst (λ z. by_key z b ≡ Less) first (rises.0 b behind) in
+          absurd (cc)
     ]
     | inr behind ↦ elim (contains_cases p b ps b_here) [
       | inl first ↦
           let less : by_key b a ≡ Less = subst (λ z. by_key z a ≡ Less) first (rises.0 a behind) in
-          absurd (let greater : by_key a b ≡ Greater = total.antisymm (key_of a.1) (key_of b.1) ∙ ap ordering_reverse less in cc)
+          let greater : by_key a b ≡ Greater = total.antisymm (key_of a.1) (key_of b.1) ∙ ap ordering_reverse less in
+          absurd (cc)
       | inr other ↦ one_pair ps rises.1 a b behind other equal
     ]
   ]
 
   module _ (s : Store T) where
     -- items at rising indexes have different keys, where there is such a walk
-    differ_from : (pairs : List (ℕ × T)) → IsKeyWalk key_of compare s pairs → (ps : List (ℕ × T)) → ((p : ℕ × T) → Contains ps p → get s p.0 ≡ Some p.1) → ((i j : ℕ) (a b : ℕ × T) → i < j → slice_get ps i ≡ Some a → slice_get ps j ≡ Some b → a.0 < b.0) → Differ ps
+    differ_from :
+        (pairs : List (ℕ × T))
+        → IsKeyWalk key_of compare s pairs
+        → (ps : List (ℕ × T))
+        → ((p : ℕ × T) → Contains ps p → get s p.0 ≡ Some p.1)
+        → ((i j : ℕ) (a b : ℕ × T) → i < j → slice_get ps i ≡ Some a → slice_get ps j ≡ Some b → a.0 < b.0)
+        → Differ ps
     differ_from pairs walk [] live rising = tt
     differ_from pairs walk (p ∷ ps) live rising = (
       λ q here equal.
@@ -190,19 +231,24 @@ module _ {T K : Type 0} (key_of : T → K) (compare : K → K → Ordering) (tot
           let q_there = (walk.live q.0 q.1).1 (live q (contains_tail p q ps here), refl) in
           let same = one_pair pairs (rises_from pairs walk.rising) p q p_there q_there equal in
           omega (arith, less, ap (λ (x : ℕ × T). x.0) same),
-      differ_from pairs walk ps (λ q here. live q (contains_tail p q ps here)) (λ i j a b before at_i at_j. rising (suc i) (suc j) a b (omega arith) at_i at_j),
+      differ_from pairs walk ps (λ q here. live q (contains_tail p q ps here))
+          (λ i j a b before at_i at_j. rising (suc i) (suc j) a b (omega arith) at_i at_j),
     )
 
     pairs_in_order : (pairs : List (ℕ × T)) → IsKeyWalk key_of compare s pairs → pairs ≡ sorted lesser (live_pairs s)
     pairs_in_order pairs walk =
         let all = IsWalkOf-live_pairs s in
         let differ = differ_from pairs walk (live_pairs s) (λ p here. (all.live p.0 p.1).0 here) all.rising in
-        one_list pairs (sorted lesser (live_pairs s)) (rises_from pairs walk.rising) (order_rises (live_pairs s) differ) (λ p. (
+        let order = sorted lesser (live_pairs s) in
+        one_list pairs order (rises_from pairs walk.rising) (order_rises (live_pairs s) differ) (λ p. (
           λ here. order_in lesser (live_pairs s) p ((all.live p.0 p.1).1 ((walk.live p.0 p.1).0 here).0),
           λ here. (walk.live p.0 p.1).1 ((all.live p.0 p.1).0 (order_out lesser (live_pairs s) p here), refl),
         ))
 
-    pub items_of_walk : (items : List T) → AreInKeyOrder key_of compare s items → items ≡ items_in_order key_of compare s
+    pub items_of_walk :
+        (items : List T)
+        → AreInKeyOrder key_of compare s items
+        → items ≡ items_in_order key_of compare s
     items_of_walk items (pairs, walk, is) =
         is ∙ ap (map (λ (p : ℕ × T). p.1)) (pairs_in_order pairs walk)
         ∙ map-order (λ (p : ℕ × T). p.1) (λ x y. is_lt (compare (key_of x) (key_of y))) (live_pairs s)

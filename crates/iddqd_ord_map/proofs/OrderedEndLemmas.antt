@@ -37,15 +37,28 @@ module _ {T : Type 0} (s : Store T) (order : List ℕ) (holds : Holds s order) w
       let there = slice_get-get_or order (length order - 1) 0 (omega (arith, within)) in
       cc
 
-  module _ {K : Type 0} (key_of : T → K) (compare : K → K → Ordering) (total : IsTotalOrder compare) (placed : IsInPlace key_of compare s order) where
+  module _ {K : Type 0} (key_of : T → K) (compare : K → K → Ordering) (total : IsTotalOrder compare)
+      (placed : IsInPlace key_of compare s order) where
     -- along the list keys don't fall
-    rises : (i j : ℕ) (x y : T) → i < j → j < length order → get s (get_or order i 0) ≡ Some x → get s (get_or order j 0) ≡ Some y → compare (key_of x) (key_of y) ≢ Greater
+    rises :
+        (i j : ℕ) (x y : T)
+        → i < j
+        → j < length order
+        → get s (get_or order i 0) ≡ Some x
+        → get s (get_or order j 0) ≡ Some y
+        → compare (key_of x) (key_of y) ≢ Greater
     rises i j x y before within p q =
-        let less : key_then_index (option_cmp compare) (key_at key_of s) (get_or order i 0) (get_or order j 0) ≡ Less = Less-from_sorted _ order i j 0 placed before within in
+        let less : key_then_index (option_cmp compare) (key_at key_of s) (get_or order i 0) (get_or order j 0) ≡ Less =
+        Less-from_sorted _ order i j 0 placed before within in
         not_greater _ _ (rw (p, q) at less)
 
     -- the item of the one index at a place
-    same_item : (i j : ℕ) (x y : T) → i ≡ j → get s (get_or order i 0) ≡ Some x → get s (get_or order j 0) ≡ Some y → compare (key_of x) (key_of y) ≡ Equal
+    same_item :
+        (i j : ℕ) (x y : T)
+        → i ≡ j
+        → get s (get_or order i 0) ≡ Some x
+        → get s (get_or order j 0) ≡ Some y
+        → compare (key_of x) (key_of y) ≡ Equal
     same_item i j x y same p q =
         let one : Some x ≡ Some y = sym p ∙ ap (λ k. get s (get_or order k 0)) same ∙ q in
         let is : x ≡ y = cc in
@@ -60,22 +73,31 @@ module _ {T : Type 0} (s : Store T) (order : List ℕ) (holds : Holds s order) w
     pub HasLeastKey-first : (ix : ℕ) → slice_get order 0 ≡ Some ix → HasLeastKey key_of compare s ix
     HasLeastKey-first ix is =
         let (item, live) = item_at s ix (live_at_place 0 ix is) in
-        let first : get s (get_or order 0 0) ≡ Some item = ap (get s) (get_or_from_slice_get order 0 ix 0 is) ∙ live in (
+        let first : get s (get_or order 0 0) ≡ Some item =
+        ap (get s) (get_or_from_slice_get order 0 ix 0 is) ∙ live in (
           item,
           live,
           λ j y there less.
               let (k, within, at) = at_place j y there in
               elim (cases_lt 0 k) [
-                | inl later ↦ rises 0 k item y later within first at (total.antisymm (key_of item) (key_of y) ∙ ap ordering_reverse less)
-                | inr none ↦ let equal = same_item k 0 y item (omega (arith, none)) at first in absurd (let never : Equal ≡ Less = sym equal ∙ less in cc)
+                | inl later ↦
+                    let turned = total.antisymm (key_of item) (key_of y) ∙ ap ordering_reverse less in
+                    rises 0 k item y later within first at turned
+                | inr none ↦
+                    let equal = same_item k 0 y item (omega (arith, none)) at first in
+                    absurd (let never : Equal ≡ Less = sym equal ∙ less in cc)
               ],
         )
 
-    pub HasGreatestKey-last : (ix : ℕ) → slice_get order (length order - 1) ≡ Some ix → HasGreatestKey key_of compare s ix
+    pub HasGreatestKey-last :
+        (ix : ℕ)
+        → slice_get order (length order - 1) ≡ Some ix
+        → HasGreatestKey key_of compare s ix
     HasGreatestKey-last ix is =
         let end = length order - 1 in
         let (item, live) = item_at s ix (live_at_place end ix is) in
-        let last : get s (get_or order end 0) ≡ Some item = ap (get s) (get_or_from_slice_get order end ix 0 is) ∙ live in
+        let last : get s (get_or order end 0) ≡ Some item =
+        ap (get s) (get_or_from_slice_get order end ix 0 is) ∙ live in
         let here = slice_get_within order end ix is in (
           item,
           live,
@@ -83,6 +105,8 @@ module _ {T : Type 0} (s : Store T) (order : List ℕ) (holds : Holds s order) w
               let (k, within, at) = at_place j y there in
               elim (cases_lt k end) [
                 | inl before ↦ rises k end y item before here at last greater
-                | inr none ↦ let equal = same_item k end y item (omega (arith, none, within)) at last in absurd (let never : Equal ≡ Greater = sym equal ∙ greater in cc)
+                | inr none ↦
+                    let equal = same_item k end y item (omega (arith, none, within)) at last in
+                    absurd (let never : Equal ≡ Greater = sym equal ∙ greater in cc)
               ],
         )

@@ -17,22 +17,35 @@ module _ {T K : Type 0} (key_of : T → K) (compare : K → K → Ordering) wher
 
   module _ (s : Store T) (order : List ℕ) (o : Sorts key_of compare s order) where
     pub Sorts-cleared : Sorts key_of compare (cleared s) []
-    Sorts-cleared = record { held = Holds-cleared s; in_sync = (Keeps-cleared key_of compare s order).in_sync o.in_sync }
+    Sorts-cleared = record {
+      held = Holds-cleared s;
+      in_sync = (Keeps-cleared key_of compare s order).in_sync o.in_sync;
+    }
 
     module _ (total : IsTotalOrder compare) where
-      pub Sorts-removed : (ix : ℕ) (item : T) → get s ix ≡ Some item → Sorts key_of compare (removed s ix) (without order ix)
+      pub Sorts-removed :
+          (ix : ℕ) (item : T)
+          → get s ix ≡ Some item
+          → Sorts key_of compare (removed s ix) (without order ix)
       Sorts-removed ix item live = record {
         held = Holds-removed s order o.held ix item live;
         in_sync = (Keeps-removed key_of compare total s order ix item live).in_sync o.in_sync;
       }
 
       -- an item whose key none has
-      pub Sorts-inserted : (item : T) (new : List ℕ) → IsValid s → HasNoHit s (has_key key_of compare (key_of item)) → AddsInPlace key_of compare s item order new → Sorts key_of compare (inserted s item) new
+      pub Sorts-inserted :
+          (item : T) (new : List ℕ)
+          → IsValid s
+          → HasNoHit s (has_key key_of compare (key_of item))
+          → AddsInPlace key_of compare s item order new
+          → Sorts key_of compare (inserted s item) new
       Sorts-inserted item new valid none adds = record {
         held = Holds-inserted s order o.held item valid new adds.adds;
         in_sync = record {
           placed = adds.placed o.in_sync.placed;
-          apart = AreApart-inserted _ s item valid (λ x y. (eq_by_cmp_equiv total).symm (key_of x) (key_of y)) none o.in_sync.apart;
+          apart =
+              AreApart-inserted _ s item valid (λ x y. (eq_by_cmp_equiv total).symm (key_of x) (key_of y)) none
+              o.in_sync.apart;
         };
       }
 

@@ -25,7 +25,7 @@ use Rattle.iddqd_keys.specs.Removals.{removed_all}
 use Rattle.iddqd_map.specs.Retain.{kept_of, removed_of}
 use Rattle.iddqd_map.proofs.RetainLemmas.{Contains-live}
 use Rattle.iddqd_ord_map.specs.KeyOrder.{IsKeyWalk}
-use Rattle.iddqd_keys.specs.KeyWalk.{pair_at, pairs_at}
+use Rattle.iddqd_keys.specs.KeyWalk.{index_with_item, pairs_at}
 use Rattle.iddqd_ord_map.specs.Retain.{RetainsAlongTo}
 use Rattle.iddqd_ord_map.proofs.WalkLemmas.{SortsWithin-all, IsWalkWithin-sorted, pairs_at-first, pairs_at-last}
 
@@ -38,12 +38,19 @@ contains_kept t (x ∷ xs) j here passes = elim (contains_cases x j xs here) [
       rw kept (subst (Contains (x ∷ filter t xs)) same (contains_head x (filter t xs)))
   | inr there ↦
       let later = contains_kept t xs j there passes in
-      cond_both (t x) (x ∷ filter t xs) (filter t xs) (λ l. Contains l j) (λ _. contains_tail x j (filter t xs) later) (λ _. later)
+      cond_both (t x) (x ∷ filter t xs) (filter t xs) (λ l. Contains l j)
+      (λ _. contains_tail x j (filter t xs) later) (λ _. later)
 ]
 
 -- what a table keeps of its indexes, where the closure answers by a test in each state that it comes to
-module _ {F : Type 0} (g : Mut F (ℕ × Unit {0}) Bool) (I : F → Type 0) (test : ℕ → Bool) (says : (f f' : F) (ix : ℕ) (b : Bool) → I f → Called g f (ix, tt) b f' → I f' × (b ≡ test ix)) where
-  kept_by_test : (asks : List (ℕ × Bool)) (f last : F) → I f → FoldsTo (λ p (a : ℕ × Bool) q. Called g p (a.0, tt) a.1 q) f asks last → map (λ (a : ℕ × Bool). a.0) (filter (λ (a : ℕ × Bool). a.1) asks) ≡ filter test (map (λ (a : ℕ × Bool). a.0) asks)
+module _ {F : Type 0} (g : Mut F (ℕ × Unit {0}) Bool) (I : F → Type 0) (test : ℕ → Bool)
+    (says : (f f' : F) (ix : ℕ) (b : Bool) → I f → Called g f (ix, tt) b f' → I f' × (b ≡ test ix)) where
+  kept_by_test :
+      (asks : List (ℕ × Bool)) (f last : F)
+      → I f
+      → FoldsTo (λ p (a : ℕ × Bool) q. Called g p (a.0, tt) a.1 q) f asks last
+      → map (λ (a : ℕ × Bool). a.0) (filter (λ (a : ℕ × Bool). a.1) asks)
+      ≡ filter test (map (λ (a : ℕ × Bool). a.0) asks)
   kept_by_test [] f last i steps = refl
   kept_by_test (a ∷ asks) f last i (next, asked, steps) =
       let (later, same) = says f next a.0 a.1 i asked in
@@ -61,15 +68,25 @@ module _ {F : Type 0} (g : Mut F (ℕ × Unit {0}) Bool) (I : F → Type 0) (tes
       r.kept.kept ∙ kept_by_test r.kept.asks f r.last i r.kept.were_asked ∙ ap (filter test) r.kept.each_once
 
 module _ {T : Type 0} where
-  removed_all-push : (s : Store T) (ixs : List ℕ) (ix : ℕ) → removed_all s (ixs ++ ix ∷ []) ≡ removed (removed_all s ixs) ix
+  removed_all-push :
+      (s : Store T) (ixs : List ℕ) (ix : ℕ)
+      → removed_all s (ixs ++ ix ∷ []) ≡ removed (removed_all s ixs) ix
   removed_all-push s [] ix = refl
   removed_all-push s (at ∷ ixs) ix = removed_all-push (removed s at) ixs ix
 
-  kept-push : (asks : List ((ℕ × T) × Bool)) (a : (ℕ × T) × Bool) → kept_of (asks ++ a ∷ []) ≡ kept_of asks ++ kept_of (a ∷ [])
-  kept-push asks a = ap (map (λ (a : (ℕ × T) × Bool). a.0)) (filter-append (λ (a : (ℕ × T) × Bool). a.1) asks (a ∷ [])) ∙ map-append (λ (a : (ℕ × T) × Bool). a.0) _ _
+  kept-push :
+      (asks : List ((ℕ × T) × Bool)) (a : (ℕ × T) × Bool)
+      → kept_of (asks ++ a ∷ []) ≡ kept_of asks ++ kept_of (a ∷ [])
+  kept-push asks a =
+      ap (map (λ (a : (ℕ × T) × Bool). a.0)) (filter-append (λ (a : (ℕ × T) × Bool). a.1) asks (a ∷ []))
+      ∙ map-append (λ (a : (ℕ × T) × Bool). a.0) _ _
 
-  refused-push : (asks : List ((ℕ × T) × Bool)) (a : (ℕ × T) × Bool) → removed_of (asks ++ a ∷ []) ≡ removed_of asks ++ removed_of (a ∷ [])
-  refused-push asks a = ap (map (λ (a : (ℕ × T) × Bool). a.0.0)) (filter-append (λ (a : (ℕ × T) × Bool). not a.1) asks (a ∷ [])) ∙ map-append (λ (a : (ℕ × T) × Bool). a.0.0) _ _
+  refused-push :
+      (asks : List ((ℕ × T) × Bool)) (a : (ℕ × T) × Bool)
+      → removed_of (asks ++ a ∷ []) ≡ removed_of asks ++ removed_of (a ∷ [])
+  refused-push asks a =
+      ap (map (λ (a : (ℕ × T) × Bool). a.0.0)) (filter-append (λ (a : (ℕ × T) × Bool). not a.1) asks (a ∷ []))
+      ∙ map-append (λ (a : (ℕ × T) × Bool). a.0.0) _ _
 
   -- what there is after a removal was there before
   from_removed : (s : Store T) (ix j : ℕ) (item : T) → get (removed s ix) j ≡ Some item → get s j ≡ Some item
@@ -80,22 +97,29 @@ module _ {T : Type 0} where
           | inl within ↦ let gone = get_or-set_same s.items ix None None within in absurd (cc)
           | inr past ↦
               let long = length-set s.items ix None in
-              let gone : get (removed s ix) ix ≡ None = get_or_past (removed s ix).items ix None (omega (arith, past, long)) in
+              let gone : get (removed s ix) ix ≡ None =
+              get_or_past (removed s ix).items ix None (omega (arith, past, long)) in
               absurd (cc)
         ]
     | inr other ↦ sym (get-removed_other s ix j other) ∙ is
   ]
 
-  was_there : (s : Store T) (ixs : List ℕ) (j : ℕ) (item : T) → get (removed_all s ixs) j ≡ Some item → get s j ≡ Some item
+  was_there :
+      (s : Store T) (ixs : List ℕ) (j : ℕ) (item : T)
+      → get (removed_all s ixs) j ≡ Some item
+      → get s j ≡ Some item
   was_there s [] j item is = is
   was_there s (ix ∷ ixs) j item is = from_removed s ix j item (was_there (removed s ix) ixs j item is)
 
   -- the same pairs, where the indexes have what they had
-  pairs_at-same : (s t : Store T) (xs : List ℕ) → ((j : ℕ) → Contains xs j → get t j ≡ get s j) → pairs_at t xs ≡ pairs_at s xs
+  pairs_at-same :
+      (s t : Store T) (xs : List ℕ)
+      → ((j : ℕ) → Contains xs j → get t j ≡ get s j)
+      → pairs_at t xs ≡ pairs_at s xs
   pairs_at-same s t [] same = refl
   pairs_at-same s t (x ∷ xs) same =
       let rest = pairs_at-same s t xs (λ j here. same j (contains_tail x j xs here)) in
-      rw (same x (contains_head x xs)) (ap (cons_option (pair_at s x)) rest)
+      rw (same x (contains_head x xs)) (ap (cons_option (index_with_item s x)) rest)
 
   -- indexes without an item give no pair
   pairs_at-live : (s : Store T) (xs : List ℕ) → pairs_at s (filter (λ ix. is_some (get s ix)) xs) ≡ pairs_at s xs
@@ -105,7 +129,11 @@ module _ {T : Type 0} where
       left : List ℕ
       left = filter (λ ix. is_some (get s ix)) xs
 
-      by : (o : Option T) → get s x ≡ o → pairs_at s left ≡ pairs_at s xs → pairs_at s (cond (is_some (get s x)) (x ∷ left) left) ≡ pairs_at s (x ∷ xs)
+      by :
+          (o : Option T)
+          → get s x ≡ o
+          → pairs_at s left ≡ pairs_at s xs
+          → pairs_at s (cond (is_some (get s x)) (x ∷ left) left) ≡ pairs_at s (x ∷ xs)
       by None is rest = rw is rest
       by (Some item) is rest =
           ap (λ o. pairs_at s (cond (is_some o) (x ∷ left) left)) is
@@ -129,7 +157,13 @@ module _ {F T : Type 0} (takes : F → T → Type 0) (ask : F → T → Bool →
     pub valid : IsValid now
     pub can : CanAsk takes ask state (live_items old)
 
-  pub Retaining-none : (f : F) (old : Store T) (order to_come : List ℕ) → to_come ≡ order → IsValid old → Holds old order → CanAsk takes ask f (live_items old) → Retaining f old old order to_come f
+  pub Retaining-none :
+      (f : F) (old : Store T) (order to_come : List ℕ)
+      → to_come ≡ order
+      → IsValid old
+      → Holds old order
+      → CanAsk takes ask f (live_items old)
+      → Retaining f old old order to_come f
   Retaining-none f old order to_come is valid held can = rw is (record {
     done = [];
     whole = refl;
@@ -147,7 +181,11 @@ module _ {F T : Type 0} (takes : F → T → Type 0) (ask : F → T → Bool →
   })
 
   -- all were asked about
-  pub Retaining-all : (f : F) (old now : Store T) (order to_come : List ℕ) (state : F) → Retaining f old now order to_come state → to_come ≡ [] → RetainsAlongTo (λ s pairs. pairs ≡ pairs_at s order) ask f old now state
+  pub Retaining-all :
+      (f : F) (old now : Store T) (order to_come : List ℕ) (state : F)
+      → Retaining f old now order to_come state
+      → to_come ≡ []
+      → RetainsAlongTo (λ s pairs. pairs ≡ pairs_at s order) ask f old now state
   Retaining-all f old now order to_come state w none =
       let all : order ≡ w.done = w.whole ∙ ap (λ l. w.done ++ l) none ∙ append-nil w.done in
       record {
@@ -158,7 +196,8 @@ module _ {F T : Type 0} (takes : F → T → Type 0) (ask : F → T → Bool →
         left = w.left;
       }
 
-  module _ (f : F) (old now : Store T) (order all to_come : List ℕ) (ix : ℕ) (state : F) (given : all ≡ ix ∷ to_come) (v : Retaining f old now order all state) where
+  module _ (f : F) (old now : Store T) (order all to_come : List ℕ) (ix : ℕ) (state : F)
+      (given : all ≡ ix ∷ to_come) (v : Retaining f old now order all state) where
     w : Retaining f old now order (ix ∷ to_come) state
     w = subst (λ l. Retaining f old now order l state) given v
 
@@ -191,19 +230,25 @@ module _ {F T : Type 0} (takes : F → T → Type 0) (ask : F → T → Bool →
       pub takes-next : takes state item
       takes-next = CanAsk-takes takes ask state (live_items old) item w.can (Contains-live old ix item was_here)
 
-      pairs-more : (s : Store T) → get s ix ≡ Some item → pairs_at s (w.done ++ ix ∷ []) ≡ pairs_at s w.done ++ (ix, item) ∷ []
+      pairs-more :
+          (s : Store T)
+          → get s ix ≡ Some item
+          → pairs_at s (w.done ++ ix ∷ []) ≡ pairs_at s w.done ++ (ix, item) ∷ []
       pairs-more s is = pairs_at-last s (w.done ++ ix ∷ []) w.done ix item refl is
 
       whole-more : order ≡ (w.done ++ ix ∷ []) ++ to_come
       whole-more = w.whole ∙ sym (append_assoc w.done (ix ∷ []) to_come)
 
-      each-more : (b : Bool) → map (λ (a : (ℕ × T) × Bool). a.0) (w.asks ++ ((ix, item), b) ∷ []) ≡ pairs_at old (w.done ++ ix ∷ [])
+      each-more :
+          (b : Bool)
+          → map (λ (a : (ℕ × T) × Bool). a.0) (w.asks ++ ((ix, item), b) ∷ []) ≡ pairs_at old (w.done ++ ix ∷ [])
       each-more b =
           map-append (λ (a : (ℕ × T) × Bool). a.0) w.asks (((ix, item), b) ∷ [])
           ∙ ap (λ l. l ++ (ix, item) ∷ []) w.each_once ∙ sym (pairs-more old was_here)
 
       can-more : (b : Bool) (next : F) → ask state item b next → CanAsk takes ask next (live_items old)
-      can-more b next asked = CanAsk-asked takes ask state (live_items old) item b next w.can (Contains-live old ix item was_here) asked
+      can-more b next asked =
+          CanAsk-asked takes ask state (live_items old) item b next w.can (Contains-live old ix item was_here) asked
 
       -- it was answered true
       pub Retaining-kept : (next : F) → ask state item true next → Retaining f old now order to_come next
@@ -214,7 +259,8 @@ module _ {F T : Type 0} (takes : F → T → Type 0) (ask : F → T → Bool →
         apart = done_apart;
         asks = w.asks ++ ((ix, item), true) ∷ [];
         each_once = each-more true;
-        were_asked = FoldsTo-push (λ p a q. ask p a.0.1 a.1 q) f w.asks state ((ix, item), true) next w.were_asked asked;
+        were_asked =
+            FoldsTo-push (λ p a q. ask p a.0.1 a.1 q) f w.asks state ((ix, item), true) next w.were_asked asked;
         kept = kept-push w.asks ((ix, item), true) ∙ ap (λ l. l ++ (ix, item) ∷ []) w.kept ∙ sym (pairs-more now here);
         left = w.left ∙ ap (removed_all old) (sym (refused-push w.asks ((ix, item), true) ∙ append-nil _));
         rest = λ j there. w.rest j (contains_tail ix j to_come there);
@@ -226,11 +272,16 @@ module _ {F T : Type 0} (takes : F → T → Type 0) (ask : F → T → Bool →
       left-removed : pairs_at (removed now ix) (w.done ++ ix ∷ []) ≡ pairs_at now w.done
       left-removed =
           let gone : pairs_at (removed now ix) (ix ∷ []) ≡ [] = rw (get-removed_at now ix item here) refl in
-          filter_map-append (pair_at (removed now ix)) w.done (ix ∷ []) ∙ ap (λ l. pairs_at (removed now ix) w.done ++ l) gone ∙ append-nil _
+          filter_map-append (index_with_item (removed now ix)) w.done (ix ∷ [])
+          ∙ ap (λ l. pairs_at (removed now ix) w.done ++ l) gone ∙ append-nil _
           ∙ pairs_at-same now (removed now ix) w.done (λ j there. get-removed_other now ix j (is_other j there))
 
       -- it was answered false, and removed
-      pub Retaining-removed : (after : Store T) (next : F) → after ≡ removed now ix → ask state item false next → Retaining f old after order to_come next
+      pub Retaining-removed :
+          (after : Store T) (next : F)
+          → after ≡ removed now ix
+          → ask state item false next
+          → Retaining f old after order to_come next
       Retaining-removed after next gone asked = rw gone (record {
         done = w.done ++ ix ∷ [];
         whole = whole-more;
@@ -238,7 +289,8 @@ module _ {F T : Type 0} (takes : F → T → Type 0) (ask : F → T → Bool →
         apart = done_apart;
         asks = w.asks ++ ((ix, item), false) ∷ [];
         each_once = each-more false;
-        were_asked = FoldsTo-push (λ p a q. ask p a.0.1 a.1 q) f w.asks state ((ix, item), false) next w.were_asked asked;
+        were_asked =
+            FoldsTo-push (λ p a q. ask p a.0.1 a.1 q) f w.asks state ((ix, item), false) next w.were_asked asked;
         kept = kept-push w.asks ((ix, item), false) ∙ append-nil _ ∙ w.kept ∙ sym left-removed;
         left =
             ap (λ s. removed s ix) w.left ∙ sym (removed_all-push old (removed_of w.asks) ix)
@@ -250,7 +302,9 @@ module _ {F T : Type 0} (takes : F → T → Type 0) (ask : F → T → Bool →
       })
 
 -- what is left where the items without which the table is were removed
-module _ {T K : Type 0} (key_of : T → K) (compare : K → K → Ordering) (total : IsTotalOrder compare) (old new : Store T) (order : List ℕ) (o : Sorts key_of compare old order) (were : (j : ℕ) (item : T) → get new j ≡ Some item → get old j ≡ Some item) where
+module _ {T K : Type 0} (key_of : T → K) (compare : K → K → Ordering) (total : IsTotalOrder compare)
+    (old new : Store T) (order : List ℕ) (o : Sorts key_of compare old order)
+    (were : (j : ℕ) (item : T) → get new j ≡ Some item → get old j ≡ Some item) where
   abbrev has_item : ℕ → Bool
   has_item ix = is_some (get new ix)
 
@@ -259,7 +313,8 @@ module _ {T K : Type 0} (key_of : T → K) (compare : K → K → Ordering) (tot
 
   listed_live : (ix : ℕ) → Contains left_over ix → Contains order ix × IsLive new ix
   listed_live ix here = (
-    All-contains (Contains order) left_over ix (All-filter has_item (Contains order) order (All-contains_itself order)) here,
+    All-contains (Contains order) left_over ix
+        (All-filter has_item (Contains order) order (All-contains_itself order)) here,
     All-contains (λ j. has_item j ≡ true) left_over ix (filter_passes has_item order) here,
   )
 
@@ -275,12 +330,15 @@ module _ {T K : Type 0} (key_of : T → K) (compare : K → K → Ordering) (tot
         λ here. (listed_live ix here).1,
         λ live.
             let (item, is) = item_at new ix live in
-            contains_kept has_item order ix ((o.held.each ix).1 (live_at old ix item (were ix item is))) (ap is_some is),
+            let listed = (o.held.each ix).1 (live_at old ix item (were ix item is)) in
+            contains_kept has_item order ix listed (ap is_some is),
       );
       once = IsDistinct-filter has_item order o.held.once;
     };
     in_sync = record {
-      placed = IsInPlace-alike key_of compare total old new left_over same_there (IsStrictlySortedBy-filter _ has_item order o.in_sync.placed);
+      placed =
+          IsInPlace-alike key_of compare total old new left_over same_there
+          (IsStrictlySortedBy-filter _ has_item order o.in_sync.placed);
       apart = λ i j x y p q same. o.in_sync.apart i j x y (were i x p) (were j y q) same;
     };
   }
@@ -289,10 +347,14 @@ module _ {T K : Type 0} (key_of : T → K) (compare : K → K → Ordering) (tot
   pub IsKeyWalk-left : (pairs : List (ℕ × T)) → pairs ≡ pairs_at new order → IsKeyWalk key_of compare new pairs
   IsKeyWalk-left pairs is =
       subst (IsKeyWalk key_of compare new) (pairs_at-live new order ∙ sym is)
-      (IsWalkWithin-sorted key_of compare new (λ _. true) left_over (SortsWithin-all key_of compare new left_over Sorts-left) Sorts-left.in_sync.apart)
+      (IsWalkWithin-sorted key_of compare new (λ _. true) left_over
+      (SortsWithin-all key_of compare new left_over Sorts-left) Sorts-left.in_sync.apart)
 
 -- asks along a table that sorts the items were asked in the order of the keys
-module _ {F T K : Type 0} (key_of : T → K) (compare : K → K → Ordering) (total : IsTotalOrder compare) (ask : F → T → Bool → F → Type 0) (f last : F) (old new : Store T) (order left : List ℕ) (o : Sorts key_of compare old order) (r : RetainsAlongTo (λ s pairs. pairs ≡ pairs_at s order) ask f old new last) where
+module _ {F T K : Type 0} (key_of : T → K) (compare : K → K → Ordering) (total : IsTotalOrder compare)
+    (ask : F → T → Bool → F → Type 0) (f last : F) (old new : Store T) (order left : List ℕ)
+    (o : Sorts key_of compare old order)
+    (r : RetainsAlongTo (λ s pairs. pairs ≡ pairs_at s order) ask f old new last) where
   were : (j : ℕ) (item : T) → get new j ≡ Some item → get old j ≡ Some item
   were j item is = was_there old (removed_of r.asks) j item (subst (λ s. get s j ≡ Some item) r.left is)
 
@@ -304,7 +366,8 @@ module _ {F T K : Type 0} (key_of : T → K) (compare : K → K → Ordering) (t
     asks = r.asks;
     each_once =
         subst (IsKeyWalk key_of compare old) (sym r.each_once)
-        (IsWalkWithin-sorted key_of compare old (λ _. true) order (SortsWithin-all key_of compare old order o) o.in_sync.apart);
+        (IsWalkWithin-sorted key_of compare old (λ _. true) order (SortsWithin-all key_of compare old order o)
+        o.in_sync.apart);
     were_asked = r.were_asked;
     kept = IsKeyWalk-left key_of compare total old new order o were (kept_of r.asks) r.kept;
     left = r.left;

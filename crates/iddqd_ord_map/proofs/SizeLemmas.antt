@@ -47,7 +47,8 @@ module _ {A E : Type 0} (old new : Order) (len additional : ℕ) (held : length 
       ]
 
 -- and a shrink leaves what so many need
-module _ (old new : Order) (len least : ℕ) (held : length (order_of old) ≡ len) (shrinks : Shrinks (max least len + 10) old new) where
+module _ (old new : Order) (len least : ℕ) (held : length (order_of old) ≡ len)
+    (shrinks : Shrinks (max least len + 10) old new) where
   left : capacity new ≡ min (capacity old) (most_cells (max least len) + 10)
   left =
       let wanted : max (max least len + 10) (length (order_of old)) ≡ max least len + 10 = omega (arith, held) in

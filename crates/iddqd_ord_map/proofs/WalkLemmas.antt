@@ -19,7 +19,7 @@ use Rattle.iddqd_by_order.specs.Ordered.{AreLive, key_at}
 use Rattle.iddqd_by_order.specs.OrderedWalk.{SortsWithin}
 use Rattle.iddqd_ord_map.specs.OrderedIndexing.{Sorts}
 use Rattle.iddqd_ord_map.specs.KeyOrder.{IsWalkWithin}
-use Rattle.iddqd_keys.specs.KeyWalk.{pair_at, pairs_at}
+use Rattle.iddqd_keys.specs.KeyWalk.{index_with_item, pairs_at}
 use Rattle.iddqd_ord_map.specs.Pairs.{items_of_slots}
 
 module _ {T : Type 0} (s : Store T) where
@@ -54,16 +54,27 @@ module _ {T : Type 0} (s : Store T) where
   pub AreLive-none : (left : List ℕ) → left ≡ [] → AreLive s left
   AreLive-none left is ix here = absurd (contains_none ix (subst (λ xs. Contains xs ix) is here))
 
-  pub pairs_at-first : (all left : List ℕ) (ix : ℕ) (item : T) → all ≡ ix ∷ left → get s ix ≡ Some item → pairs_at s all ≡ (ix, item) ∷ pairs_at s left
+  pub pairs_at-first :
+      (all left : List ℕ) (ix : ℕ) (item : T)
+      → all ≡ ix ∷ left
+      → get s ix ≡ Some item
+      → pairs_at s all ≡ (ix, item) ∷ pairs_at s left
   pairs_at-first all left ix item given is = ap (pairs_at s) given ∙ rw is refl
 
-  pub pairs_at-last : (all left : List ℕ) (ix : ℕ) (item : T) → all ≡ left ++ ix ∷ [] → get s ix ≡ Some item → pairs_at s all ≡ pairs_at s left ++ (ix, item) ∷ []
+  pub pairs_at-last :
+      (all left : List ℕ) (ix : ℕ) (item : T)
+      → all ≡ left ++ ix ∷ []
+      → get s ix ≡ Some item
+      → pairs_at s all ≡ pairs_at s left ++ (ix, item) ∷ []
   pairs_at-last all left ix item given is =
       let one : pairs_at s (ix ∷ []) ≡ (ix, item) ∷ [] = rw is refl in
-      ap (pairs_at s) given ∙ filter_map-append (pair_at s) left (ix ∷ []) ∙ ap (λ l. pairs_at s left ++ l) one
+      ap (pairs_at s) given ∙ filter_map-append (index_with_item s) left (ix ∷ []) ∙ ap (λ l. pairs_at s left ++ l) one
 
   -- so it has fewer left
-  pub pairs_at-fewer : (all : List (ℕ × T)) (left : List ℕ) (pair : ℕ × T) → all ≡ pairs_at s left ++ pair ∷ [] → length (pairs_at s left) < length all
+  pub pairs_at-fewer :
+      (all : List (ℕ × T)) (left : List ℕ) (pair : ℕ × T)
+      → all ≡ pairs_at s left ++ pair ∷ []
+      → length (pairs_at s left) < length all
   pairs_at-fewer all left pair is = omega (arith, ap length is, length_push (pairs_at s left) pair)
 
   pub length-pairs_at : (xs : List ℕ) → AreLive s xs → length (pairs_at s xs) ≡ length xs
@@ -73,10 +84,15 @@ module _ {T : Type 0} (s : Store T) where
       let rest = length-pairs_at xs (λ j here. live j (contains_tail x j xs here)) in
       ap length (pairs_at-first (x ∷ xs) xs x item refl is) ∙ omega (arith, rest)
 
-  listed : (xs : List ℕ) (ix : ℕ) (item : T) → Contains (pairs_at s xs) (ix, item) → Contains xs ix × (get s ix ≡ Some item)
+  listed :
+      (xs : List ℕ) (ix : ℕ) (item : T)
+      → Contains (pairs_at s xs) (ix, item)
+      → Contains xs ix × (get s ix ≡ Some item)
   listed [] ix item here = absurd (contains_none (ix, item) here)
   listed (x ∷ xs) ix item here =
-      elim (get s x) as (λ o. get s x ≡ o → Contains (cons_option (option_map (λ y. (x, y)) o) (pairs_at s xs)) (ix, item) → Contains (x ∷ xs) ix × (get s ix ≡ Some item)) [
+      elim (get s x) as (λ o. get s x ≡ o
+      → Contains (cons_option (option_map (λ y. (x, y)) o) (pairs_at s xs)) (ix, item)
+      → Contains (x ∷ xs) ix × (get s ix ≡ Some item)) [
         | Some y ↦ λ is found. elim (contains_cases (x, y) (ix, item) (pairs_at s xs) found) [
           | inl same ↦ (
             subst (Contains (x ∷ xs)) (ap (λ (p : ℕ × T). p.0) same) (contains_head x xs),
@@ -87,13 +103,17 @@ module _ {T : Type 0} (s : Store T) where
         | None ↦ λ is found. let later = listed xs ix item found in (contains_tail x ix xs later.0, later.1)
       ] refl here
 
-  lists : (xs : List ℕ) (ix : ℕ) (item : T) → Contains xs ix → get s ix ≡ Some item → Contains (pairs_at s xs) (ix, item)
+  lists :
+      (xs : List ℕ) (ix : ℕ) (item : T)
+      → Contains xs ix
+      → get s ix ≡ Some item
+      → Contains (pairs_at s xs) (ix, item)
   lists [] ix item here is = absurd (contains_none ix here)
   lists (x ∷ xs) ix item here is = elim (contains_cases x ix xs here) [
     | inl same ↦ rw (same, is) (contains_head (ix, item) (pairs_at s xs))
     | inr there ↦
         let later = lists xs ix item there is in
-        elim (pair_at s x) as (λ o. Contains (cons_option o (pairs_at s xs)) (ix, item)) [
+        elim (index_with_item s x) as (λ o. Contains (cons_option o (pairs_at s xs)) (ix, item)) [
           | Some p ↦ contains_tail p (ix, item) (pairs_at s xs) later
           | None ↦ later
         ]
@@ -105,11 +125,17 @@ module _ {T : Type 0} (s : Store T) where
     pub index : get_or xs i 0 ≡ pair.0
     pub item : get s pair.0 ≡ Some pair.1
 
-  place_of_pair : (xs : List ℕ) → AreLive s xs → (i : ℕ) (a : ℕ × T) → slice_get (pairs_at s xs) i ≡ Some a → StandsAt xs i a
+  place_of_pair :
+      (xs : List ℕ)
+      → AreLive s xs
+      → (i : ℕ) (a : ℕ × T)
+      → slice_get (pairs_at s xs) i ≡ Some a
+      → StandsAt xs i a
   place_of_pair [] live i a found = absurd (cc)
   place_of_pair (x ∷ xs) live zero a found =
       let (item, is) = item_at s x (live x (contains_head x xs)) in
-      let first : slice_get ((x, item) ∷ pairs_at s xs) 0 ≡ Some a = ap (λ l. slice_get l 0) (sym (pairs_at-first (x ∷ xs) xs x item refl is)) ∙ found in
+      let first : slice_get ((x, item) ∷ pairs_at s xs) 0 ≡ Some a =
+      ap (λ l. slice_get l 0) (sym (pairs_at-first (x ∷ xs) xs x item refl is)) ∙ found in
       let same : (x, item) ≡ a = cc in
       record {
         within = omega arith;
@@ -118,7 +144,8 @@ module _ {T : Type 0} (s : Store T) where
       }
   place_of_pair (x ∷ xs) live (suc i) a found =
       let (item, is) = item_at s x (live x (contains_head x xs)) in
-      let next : slice_get (pairs_at s xs) i ≡ Some a = ap (λ l. slice_get l (suc i)) (sym (pairs_at-first (x ∷ xs) xs x item refl is)) ∙ found in
+      let next : slice_get (pairs_at s xs) i ≡ Some a =
+      ap (λ l. slice_get l (suc i)) (sym (pairs_at-first (x ∷ xs) xs x item refl is)) ∙ found in
       let later = place_of_pair xs (λ j here. live j (contains_tail x j xs here)) i a next in
       record { within = omega (arith, later.within); index = later.index; item = later.item }
 
@@ -129,11 +156,14 @@ keys_differ Equal t less tied = let same = tied refl in cc
 keys_differ Greater t less tied = cc
 
 -- the items of pairs are those at their indexes
-pub items_of_pairs : {T : Type 0} (s : Store T) (xs : List ℕ) → map (λ pair. pair.1) (pairs_at s xs) ≡ items_of_slots s.items xs
+pub items_of_pairs :
+    {T : Type 0} (s : Store T) (xs : List ℕ)
+    → map (λ pair. pair.1) (pairs_at s xs) ≡ items_of_slots s.items xs
 items_of_pairs s [] = refl
 items_of_pairs s (x ∷ xs) =
     let rest = items_of_pairs s xs in
-    elim (get s x) as (λ o. map (λ pair. pair.1) (cons_option (option_map (λ item. (x, item)) o) (pairs_at s xs)) ≡ cons_option o (items_of_slots s.items xs)) [
+    elim (get s x) as (λ o. map (λ pair. pair.1) (cons_option (option_map (λ item. (x, item)) o) (pairs_at s xs))
+    ≡ cons_option o (items_of_slots s.items xs)) [
       | Some item ↦ ap (λ l. item ∷ l) rest
       | None ↦ rest
     ]
@@ -154,12 +184,19 @@ module _ {T K : Type 0} (key_of : T → K) (compare : K → K → Ordering) (s :
     AreLive-within ix here = let (item, is, passes) = (o.each ix).0 here in live_at s ix item is
 
     module _ (apart : HasDistinctKeys key_of (eq_by_cmp compare) s) where
-      rises : (i j : ℕ) (a b : ℕ × T) → i < j → slice_get (pairs_at s xs) i ≡ Some a → slice_get (pairs_at s xs) j ≡ Some b → compare (key_of a.1) (key_of b.1) ≡ Less
+      rises :
+          (i j : ℕ) (a b : ℕ × T)
+          → i < j
+          → slice_get (pairs_at s xs) i ≡ Some a
+          → slice_get (pairs_at s xs) j ≡ Some b
+          → compare (key_of a.1) (key_of b.1) ≡ Less
       rises i j a b before at_i at_j =
           let p = place_of_pair s xs AreLive-within i a at_i in
           let q = place_of_pair s xs AreLive-within j b at_j in
-          let less : key_then_index (option_cmp compare) (key_at key_of s) (get_or xs i 0) (get_or xs j 0) ≡ Less = Less-from_sorted _ xs i j 0 o.placed before q.within in
-          keys_differ (compare (key_of a.1) (key_of b.1)) (nat_cmp a.0 b.0) (rw (p.index, q.index, p.item, q.item) at less)
+          let less : key_then_index (option_cmp compare) (key_at key_of s) (get_or xs i 0) (get_or xs j 0) ≡ Less =
+          Less-from_sorted _ xs i j 0 o.placed before q.within in
+          keys_differ (compare (key_of a.1) (key_of b.1)) (nat_cmp a.0 b.0)
+          (rw (p.index, q.index, p.item, q.item) at less)
           (λ equal.
           let same : a.0 ≡ b.0 = apart a.0 b.0 a.1 b.1 p.item q.item (ap is_eq equal) in
           subst (λ k. nat_cmp a.0 k ≡ Equal) same (tied_itself nat_cmp_total a.0))

@@ -1,22 +1,19 @@
 -- The laws of an index by the order of a key: what keeps it so that it indexes a store.
-use Rattle.std.proofs.Common.{◌≡◌, ◌∙◌, ◌↔◌, ◌≤◌, ℕ, List, [], ◌∷◌, length, le_refl, Bool, true, Some, sym, subst, Ordering}
+use Rattle.std.proofs.Common.{◌≡◌, ◌∙◌, ℕ, List, true, Some, sym, subst, Ordering}
 use Rattle.std.specs.Cmp.{IsTotalOrder}
-use Rattle.std.specs.List.{Contains}
 use Rattle.std.specs.Ordering.{eq_by_cmp}
 use Rattle.iddqd.specs.Store.{Store, get, rebound}
-use Rattle.iddqd.proofs.StoreLemmas.{contains_head}
 use Rattle.iddqd_order.specs.MapBTreeTable.{Order, HasSameTree, order_of}
 use Rattle.iddqd_order.specs.declared.btree_table.gap.Gap.{Gap}
 use Rattle.iddqd_order.proofs.GapLemmas.{order-same, place-same, Fits-same}
 use Rattle.iddqd_by_order.specs.Ordered.{IsSortedScan}
-use Rattle.iddqd_keys.specs.Scan.{AnswersScan, AreApart, IsHit}
+use Rattle.iddqd_keys.specs.Scan.{AreApart, IsHit}
 use Rattle.iddqd_keys.specs.AnyTable.{HasDistinctKeys}
 use Rattle.iddqd_by_order.proofs.OrderedHoldsLemmas.{Holds-rebound}
 use Rattle.iddqd_by_order.proofs.OrderedPlaceLemmas.{Keeps-rebound}
 use Rattle.iddqd_map.specs.KeyIndex.{HaveSameKeys}
-use Rattle.iddqd_map.specs.Map.{shares}
 use Rattle.iddqd_ord_map.specs.ByOrder.{IsGapFor}
-use Rattle.iddqd_ord_map.specs.OrderedIndexing.{Sorts, has_key}
+use Rattle.iddqd_ord_map.specs.OrderedIndexing.{Sorts, has_key, alike_in_order}
 use Rattle.iddqd_ord_map.specs.SortedScanLaws.{shares_equivalence, unchanged, has_its_key, IsSortedScan-alike}
 
 module _ {T K : Type 0} (key_of : T → K) (compare : K → K → Ordering) where
@@ -49,9 +46,6 @@ module _ {T K : Type 0} (key_of : T → K) (compare : K → K → Ordering) wher
   Sorts-apart s order is apart = record { held = is.holds; in_sync = record { placed = is.placed; apart = apart } }
 
   module _ (total : IsTotalOrder compare) where
-    abbrev alike : T → T → Bool
-    alike = shares key_of (eq_by_cmp compare)
-
     -- the item at a live index is replaced by one with the same key
     pub Sorts-kept :
         (s : Store T) (order : List ℕ)
@@ -79,14 +73,15 @@ module _ {T K : Type 0} (key_of : T → K) (compare : K → K → Ordering) wher
         Sorts-kept s order is ix item was live (has_its_key key_of compare total s ix item was live same)
 
     -- another store whose items have the same keys
-    module _ (s t : Store T) (same : HaveSameKeys alike s t) where
-      apart_both : AreApart alike s → AreApart alike t
+    module _ (s t : Store T) (same : HaveSameKeys (alike_in_order key_of compare) s t) where
+      apart_both : AreApart (alike_in_order key_of compare) s → AreApart (alike_in_order key_of compare) t
       apart_both apart i j x y p q like =
           let e = shares_equivalence key_of compare total in
           let (u, p_there, u_like) = same.slots i x p in
           let (v, q_there, v_like) = same.slots j y q in
-          let first : alike u y ≡ true = e.congr u x y u_like ∙ like in
-          let second : alike u v ≡ true = e.symm u v ∙ e.congr v y u v_like ∙ e.symm y u ∙ first in
+          let first : alike_in_order key_of compare u y ≡ true = e.congr u x y u_like ∙ like in
+          let second : alike_in_order key_of compare u v ≡ true =
+          e.symm u v ∙ e.congr v y u v_like ∙ e.symm y u ∙ first in
           apart i j u v p_there q_there second
 
       pub Sorts-alike : (order : List ℕ) → Sorts key_of compare s order → Sorts key_of compare t order

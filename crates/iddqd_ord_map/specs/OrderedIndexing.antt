@@ -5,6 +5,7 @@ use Rattle.std.specs.declared.cmp.Ordering.{Ordering}
 use Rattle.iddqd.specs.Store.{Store}
 use Rattle.iddqd_keys.specs.Scan.{IsHit, HasNoHit, AnswersScan, passes_by}
 use Rattle.iddqd_by_order.specs.Ordered.{Holds, IsInSync}
+use Rattle.iddqd_map.specs.Map.{shares}
 use Rattle.iddqd_ord_map.specs.declared.ordered_move.Move.{Move}
 use Rattle.iddqd_ord_map.specs.declared.ordered_move.Move.TheVariants.{Stays, Moves}
 
@@ -12,6 +13,10 @@ module _ {T K : Type 0} (key_of : T → K) (compare : K → K → Ordering) wher
   -- the item has this key
   abbrev pub has_key : K → T → Bool
   has_key key = passes_by key_of (eq_by_cmp compare key)
+
+  -- the keys of the two items compare as equal
+  abbrev pub alike_in_order : T → T → Bool
+  alike_in_order = shares key_of (eq_by_cmp compare)
 
   -- The list has exactly the live indexes, each once, sorted by the keys of their items as they are now, and no two
   -- items share a key.

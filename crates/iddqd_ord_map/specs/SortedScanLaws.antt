@@ -1,6 +1,6 @@
 -- The laws of an index by the order of a key, whether several items may have one key or not: what keeps its list
 -- sorted.
-use Rattle.std.proofs.Common.{◌≡◌, ◌∙◌, ◌↔◌, ℕ, List, Bool, true, not, Some, sym, subst, Ordering}
+use Rattle.std.proofs.Common.{◌≡◌, ◌∙◌, ◌↔◌, ℕ, List, true, Some, sym, subst, Ordering}
 use Rattle.std.specs.Cmp.{IsTotalOrder, IsEquivalence, Equal-is, eq_by_cmp_equiv}
 use Rattle.std.specs.Option.{option_cmp}
 use Rattle.std.specs.Ordering.{eq_by_cmp}
@@ -9,15 +9,14 @@ use Rattle.iddqd.specs.Store.{Store, get, rebound}
 use Rattle.iddqd.proofs.LiveLemmas.{item_at, live_at}
 use Rattle.iddqd_order.specs.MapBTreeTable.{Order, HasSameTree, order_of}
 use Rattle.iddqd_order.proofs.GapLemmas.{order-same}
-use Rattle.iddqd_by_order.specs.Ordered.{Holds, IsSortedScan, key_at}
+use Rattle.iddqd_by_order.specs.Ordered.{IsSortedScan, key_at}
 use Rattle.iddqd_keys.specs.Scan.{IsHit, IsLive}
 use Rattle.iddqd_keys.specs.AnyTable.{ChangesAt}
 use Rattle.iddqd_by_order.proofs.OrderedHoldsLemmas.{Holds-rebound}
 use Rattle.iddqd_by_order.proofs.OrderedPlaceLemmas.{Keeps-rebound}
 use Rattle.iddqd_keys.proofs.KeyWalkLemmas.{IsInPlace-tied}
 use Rattle.iddqd_map.specs.KeyIndex.{HaveSameKeys}
-use Rattle.iddqd_map.specs.Map.{shares}
-use Rattle.iddqd_ord_map.specs.OrderedIndexing.{has_key}
+use Rattle.iddqd_ord_map.specs.OrderedIndexing.{has_key, alike_in_order}
 
 module _ {T K : Type 0} (key_of : T → K) (compare : K → K → Ordering) where
   pub IsSortedScan-same_tree :
@@ -28,10 +27,7 @@ module _ {T K : Type 0} (key_of : T → K) (compare : K → K → Ordering) wher
   IsSortedScan-same_tree s t u same is = subst (IsSortedScan key_of compare s) (sym (order-same t u same)) is
 
   module _ (total : IsTotalOrder compare) where
-    abbrev alike : T → T → Bool
-    alike = shares key_of (eq_by_cmp compare)
-
-    pub shares_equivalence : IsEquivalence alike
+    pub shares_equivalence : IsEquivalence (alike_in_order key_of compare)
     shares_equivalence =
         let e = eq_by_cmp_equiv total in
         record {
@@ -88,7 +84,7 @@ module _ {T K : Type 0} (key_of : T → K) (compare : K → K → Ordering) wher
         IsSortedScan-kept s order is ix item was live (has_its_key s ix item was live same)
 
     -- another store whose items have the same keys
-    module _ (s t : Store T) (same : HaveSameKeys alike s t) where
+    module _ (s t : Store T) (same : HaveSameKeys (alike_in_order key_of compare) s t) where
       live_both : (ix : ℕ) → IsLive s ix ↔ IsLive t ix
       live_both ix = (
         λ here. let (x, is) = item_at s ix here in let (y, there, like) = same.items ix x is in live_at t ix y there,

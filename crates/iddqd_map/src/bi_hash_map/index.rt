@@ -1,14 +1,14 @@
 //! The key index of a map whose items have two keys: a table by each of them.
 //!
-//! A look-up by one key goes to the table by that key, and a call that can't fail to both. The others go to a pair, which
-//! puts the tables' answers together. A caller's proof sees two keys, and neither the pair nor the tables: each of these
-//! would cost proof time in every function that calls the map.
+//! A look-up by one key goes to the table by that key, and a call that can't fail to both. The others go to a pair,
+//! which puts the tables' answers together. A caller's proof sees two keys, and neither the pair nor the tables: each
+//! of these would cost proof time in every function that calls the map.
 use super::clash::BiClash;
-use super::item::{BiHashItem, First, Second};
+use super::item::{BiHashItem, Key1, Key2};
 use crate::by_hash::ByHash;
 use crate::key_index::{
-    Checks, FindsSame, FindsWithHashAt, HashedAt, Here, Inserts, KeyIndex, Left, Moves, Removes,
-    Right, Sizes, TakesAt,
+    Checks, FindsSame, FindsWithHashAt, First, HashedAt, Inserts, KeyIndex, Moves, Removes, Second,
+    Sizes, TakesAt,
 };
 use crate::pair::Pair;
 use iddqd::index_remap::IndexRemap;
@@ -21,9 +21,9 @@ use iddqd_keys::hash_query::HashQuery;
 use std::alloc::{AllocError, Global};
 use std::hash::BuildHasher;
 
-type FirstTable<T> = ByHash<First, <T as BiHashItem>::Key1>;
+type FirstTable<T> = ByHash<Key1, <T as BiHashItem>::Key1>;
 
-type SecondTable<T> = ByHash<Second, <T as BiHashItem>::Key2>;
+type SecondTable<T> = ByHash<Key2, <T as BiHashItem>::Key2>;
 
 type Tables<T> = Pair<FirstTable<T>, SecondTable<T>, BiClash>;
 

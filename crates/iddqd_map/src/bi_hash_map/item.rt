@@ -28,9 +28,9 @@ pub trait BiHashItem: Drop {
 }
 
 /// Names the first key.
-pub enum First {}
+pub enum Key1 {}
 
-impl<T: BiHashItem> KeyOf<T> for First {
+impl<T: BiHashItem> KeyOf<T> for Key1 {
     type Key = T::Key1;
 
     ghost key_of = { T.BiHashItem.first_key };
@@ -41,9 +41,9 @@ impl<T: BiHashItem> KeyOf<T> for First {
 }
 
 /// Names the second key.
-pub enum Second {}
+pub enum Key2 {}
 
-impl<T: BiHashItem> KeyOf<T> for Second {
+impl<T: BiHashItem> KeyOf<T> for Key2 {
     type Key = T::Key2;
 
     ghost key_of = { T.BiHashItem.second_key };

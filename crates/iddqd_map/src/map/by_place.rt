@@ -2,11 +2,10 @@
 //!
 //! A map with a name of its own has the same calls under the names of its keys.
 ghost use Rattle.std.specs.Prelude.{◌≡◌, ◌↔◌, ◌≤◌, false, option_copied};
-ghost use Rattle.std.specs.Fn.{FnOnceReturnsAt};
 ghost use Rattle.iddqd_keys.specs.Scan.{HasNoHit, AnswersScan, passes_by};
 ghost use Rattle.iddqd_keys.specs.KeyKeeping.{KeepsKey};
 ghost use Rattle.iddqd_map.specs.Map.{room, FindsItem, Removes};
-ghost use Rattle.iddqd_map.specs.Calls.{MayChange, Replaces, Changes};
+ghost use Rattle.iddqd_map.specs.Calls.{MayChange, Replaces, ChangesByCall};
 ghost use Rattle.iddqd_map.specs.Modify.{Modifies};
 
 use super::Map;
@@ -117,7 +116,7 @@ impl<T, X: KeyIndex<T, S>, S> Map<T, X, S> {
         X: FindsWithHashAt<P, T, S> + Moves<T, S>,
         Q: HashQuery<X::Key>,
         requires { MayChange F.FnOnce f self.old.store (passes_by X.key_at (Q.stands_for query)) }
-        ensures changes { Changes X.alike X.same_keys X.may_need_memory X.taken (FnOnceReturnsAt F.FnOnce f) self.old
+        ensures changes { ChangesByCall X.alike X.same_keys X.may_need_memory X.taken F.FnOnce f self.old
             (passes_by X.key_at (Q.stands_for query)) result self.new }
         ensures room { room self.old ≤ room self.new }
     {

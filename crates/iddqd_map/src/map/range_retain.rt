@@ -41,11 +41,10 @@ impl<T, X: KeyIndex<T, S>, S> Map<T, X, S> {
         X: NextAt<P, T, S> + Removes<T, S>,
         Q: OrdQuery<X::Key>,
         requires { MayAsk (TakesAt F.FnMut) (CalledAt F.FnMut) f (live_items self.old.store) }
-        ensures asked { let within = is_within Q.compare lower upper in
-            (last : F) × RetainsWithin X.key_at X.Key.cmp within (CalledAt F.FnMut) f self.old.store self.new.store
-            last }
-        ensures others { let within = is_within Q.compare lower upper in
-            KeepsMisses self.old.store (passes_by X.key_at within) self.new.store }
+        ensures asked { (last : F) × RetainsWithin X.key_at X.Key.cmp (is_within Q.compare lower upper)
+            (CalledAt F.FnMut) f self.old.store self.new.store last }
+        ensures others { KeepsMisses self.old.store (passes_by X.key_at (is_within Q.compare lower upper))
+            self.new.store }
         ensures memory { self.new.memory ≡ self.old.memory }
         ensures room { room self.old ≤ room self.new }
         ensures count { result + live_count self.new.store ≡ live_count self.old.store }

@@ -33,11 +33,10 @@ impl<T, X: KeyIndex<T, S>, S> Map<T, X, S> {
         X: OrderedAt<P, T, S> + Removes<T, S>,
         Q: OrdQuery<X::Key>,
         requires { MayGive F.FnMut f (live_items self.old.store) }
-        ensures left { let within = is_within Q.compare lower upper in
-            LeavesOthers self.old.store (passes_by X.key_at within) self.new.store }
-        ensures handed { let within = is_within Q.compare lower upper in
-            (last : F) × RemovesAlong X.key_at X.Key.cmp within (GivesItem F.FnMut) f self.old.store self.new.store
-            last }
+        ensures left { LeavesOthers self.old.store (passes_by X.key_at (is_within Q.compare lower upper))
+            self.new.store }
+        ensures handed { (last : F) × RemovesAlong X.key_at X.Key.cmp (is_within Q.compare lower upper)
+            (GivesItem F.FnMut) f self.old.store self.new.store last }
         ensures memory { self.new.memory ≡ self.old.memory }
         ensures room { room self.old ≤ room self.new }
         ensures count { result + live_count self.new.store ≡ live_count self.old.store }

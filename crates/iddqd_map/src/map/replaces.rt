@@ -22,7 +22,8 @@ impl<T, X: Moves<T, S>, S> Map<T, X, S> {
         ix: ItemIndex,
         item: T,
     ) -> Result<T, ReplaceRefusal<T, X::Conflict>>
-        ensures replaces { ReplacesIfLive X.alike X.same_keys X.may_need_memory X.taken self.old ix item result self.new }
+        ensures replaces { ReplacesIfLive X.alike X.same_keys X.may_need_memory X.taken self.old ix item result
+            self.new }
         ensures room { room self.old ≤ room self.new }
     {
         if self.items.get(ix).is_none() {

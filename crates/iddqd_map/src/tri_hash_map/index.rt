@@ -1,14 +1,14 @@
 //! The key index of a map whose items have three keys: a table by each of them.
 //!
-//! A look-up by one key goes to the table by that key, and a call that can't fail to each of the three. The others go to
-//! two nested pairs, which put the tables' answers together. A caller's proof sees three keys, and neither the pairs nor
-//! the tables: each of these would cost proof time in every function that calls the map.
+//! A look-up by one key goes to the table by that key, and a call that can't fail to each of the three. The others go
+//! to two nested pairs, which put the tables' answers together. A caller's proof sees three keys, and neither the pairs
+//! nor the tables: each of these would cost proof time in every function that calls the map.
 use super::clash::TriClash;
-use super::item::{First, Second, Third, TriHashItem};
+use super::item::{Key1, Key2, Key3, TriHashItem};
 use crate::by_hash::ByHash;
 use crate::key_index::{
-    Checks, FindsSame, FindsWithHashAt, HashedAt, Here, Inserts, KeyIndex, Left, Moves, Removes,
-    Right, Sizes, TakesAt,
+    Checks, FindsSame, FindsWithHashAt, First, HashedAt, Inserts, KeyIndex, Moves, Removes, Second,
+    Sizes, TakesAt, Third,
 };
 use crate::pair::Pair;
 use iddqd::index_remap::IndexRemap;
@@ -21,11 +21,11 @@ use iddqd_keys::hash_query::HashQuery;
 use std::alloc::{AllocError, Global};
 use std::hash::BuildHasher;
 
-type FirstTable<T> = ByHash<First, <T as TriHashItem>::Key1>;
+type FirstTable<T> = ByHash<Key1, <T as TriHashItem>::Key1>;
 
-type SecondTable<T> = ByHash<Second, <T as TriHashItem>::Key2>;
+type SecondTable<T> = ByHash<Key2, <T as TriHashItem>::Key2>;
 
-type ThirdTable<T> = ByHash<Third, <T as TriHashItem>::Key3>;
+type ThirdTable<T> = ByHash<Key3, <T as TriHashItem>::Key3>;
 
 type Tables<T> = Pair<FirstTable<T>, Pair<SecondTable<T>, ThirdTable<T>>, TriClash>;
 

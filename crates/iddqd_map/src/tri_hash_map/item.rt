@@ -36,9 +36,9 @@ pub trait TriHashItem: Drop {
 }
 
 /// Names the first key.
-pub enum First {}
+pub enum Key1 {}
 
-impl<T: TriHashItem> KeyOf<T> for First {
+impl<T: TriHashItem> KeyOf<T> for Key1 {
     type Key = T::Key1;
 
     ghost key_of = { T.TriHashItem.first_key };
@@ -49,9 +49,9 @@ impl<T: TriHashItem> KeyOf<T> for First {
 }
 
 /// Names the second key.
-pub enum Second {}
+pub enum Key2 {}
 
-impl<T: TriHashItem> KeyOf<T> for Second {
+impl<T: TriHashItem> KeyOf<T> for Key2 {
     type Key = T::Key2;
 
     ghost key_of = { T.TriHashItem.second_key };
@@ -62,9 +62,9 @@ impl<T: TriHashItem> KeyOf<T> for Second {
 }
 
 /// Names the third key.
-pub enum Third {}
+pub enum Key3 {}
 
-impl<T: TriHashItem> KeyOf<T> for Third {
+impl<T: TriHashItem> KeyOf<T> for Key3 {
     type Key = T::Key3;
 
     ghost key_of = { T.TriHashItem.third_key };

@@ -1,12 +1,10 @@
 //! An item is replaced by one that may have another key.
 ghost use Rattle.std.specs.Fn.{FnOnceReturnsAt};
-ghost use Rattle.std.specs.Ordering.{eq_by_cmp};
 ghost use Rattle.std.specs.Borrow.{Bor};
-ghost use Rattle.std.specs.Prelude.{◌≡◌, true, Some};
+ghost use Rattle.std.specs.Prelude.{◌≡◌, Some};
 ghost use Rattle.iddqd.specs.{get};
-ghost use Rattle.iddqd_map.specs.Calls.{ReplacesIfLive, Replaces, Changes, MayChange};
-ghost use Rattle.iddqd_map.specs.Map.{shares};
-ghost use Rattle.iddqd_ord_map.specs.OrdMap.{IsTakenAt};
+ghost use Rattle.iddqd_map.specs.Calls.{MayChange};
+ghost use Rattle.iddqd_ord_map.specs.OrdMap.{ReplacesInOrder, ReplacesInOrderIfLive, ChangesInOrder};
 ghost use Rattle.iddqd_by_order.specs.Ordered.{is_equal};
 ghost use Rattle.iddqd_keys.specs.Scan.{IsLive, passes_by};
 
@@ -27,8 +25,7 @@ impl<T: IdOrdItem> IdOrdMap<T> {
         query: Q,
         item: T,
     ) -> Result<T, ReplaceRefusal<T, ItemIndex>>
-        ensures { let alike = shares T.key_of (eq_by_cmp T.Key.cmp) in
-            Replaces alike alike true (IsTakenAt alike) self.old
+        ensures { ReplacesInOrder T.key_of T.Key.cmp self.old
             (passes_by T.key_of (is_equal (Q.compare query))) item result self.new }
     {
         let Some(ix) = self.find(query) else {
@@ -41,8 +38,7 @@ impl<T: IdOrdItem> IdOrdMap<T> {
     ///
     /// If there is none it refuses with `Missing`. Otherwise it behaves as `replace`.
     pub fn replace_at(&mut self, ix: ItemIndex, item: T) -> Result<T, ReplaceRefusal<T, ItemIndex>>
-        ensures { let alike = shares T.key_of (eq_by_cmp T.Key.cmp) in
-            ReplacesIfLive alike alike true (IsTakenAt alike) self.old ix item result self.new }
+        ensures { ReplacesInOrderIfLive T.key_of T.Key.cmp self.old ix item result self.new }
     {
         self.map.replace_at(ix, item)
     }
@@ -57,8 +53,7 @@ impl<T: IdOrdItem> IdOrdMap<T> {
         f: F,
     ) -> Result<Option<T>, ReplaceRefusal<T, ItemIndex>>
         requires { MayChange F.FnOnce f self.old.store (passes_by T.key_of (is_equal (Q.compare query))) }
-        ensures { let alike = shares T.key_of (eq_by_cmp T.Key.cmp) in
-            Changes alike alike true (IsTakenAt alike) (FnOnceReturnsAt F.FnOnce f) self.old
+        ensures { ChangesInOrder T.key_of T.Key.cmp (FnOnceReturnsAt F.FnOnce f) self.old
             (passes_by T.key_of (is_equal (Q.compare query))) result self.new }
     {
         let Some(ix) = self.find(query) else {

@@ -14,7 +14,8 @@ invariant-loop-ix g l =
     let test = passes_by g.X.GroupedAt.key_at (g.Q.HashQuery.stands_for l.fn.query) in
     record {
       kept : IsIndexed (g.X.KeyIndex.indexes l.indexes) l.fn.state l.items.store;
-      can : CanAsk (TakesItem g.F.FnMut) (λ p x (b : Bool) q. GivesItem g.F.FnMut p x q) l.f (live_items l.fn.items.store);
+      can : CanAsk (TakesItem g.F.FnMut) (λ p x (b : Bool) q. GivesItem g.F.FnMut p x q) l.f
+          (live_items l.fn.items.store);
       among : (j : ℕ) (x : _) → get l.items.store j ≡ Some x → get l.fn.items.store j ≡ Some x;
       leaves : (new : Store _) → LeavesOthers l.items.store test new → LeavesOthers l.fn.items.store test new;
       removes : (new : Store _) (last : _)

@@ -8,7 +8,8 @@ abbrev pub invariant-loop-next : goal.invariant-loop-next
 invariant-loop-next g l = record {
   map : IsIndexed (g.X.KeyIndex.indexes l.indexes) l.state l.items.store;
   ready : g.X.Inserts.is_ready_after l.indexes;
-  taking : Taking (g.X.KeyIndex.reports l.at) (length l.fn.places) l.fn.items.store l.places l.items.store l.next l.count;
+  taking : Taking (g.X.KeyIndex.reports l.at) (length l.fn.places) l.fn.items.store l.places l.items.store l.next
+      l.count;
   within : l.count ≤ length l.fn.places;
   slots : l.items.capacity ≡ l.fn.items.capacity;
   room : l.count ≤ room l.items;

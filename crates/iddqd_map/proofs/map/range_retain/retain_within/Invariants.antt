@@ -23,7 +23,8 @@ invariant-loop-next g l =
       among : (j : ℕ) (x : _) → get l.items.store j ≡ Some x → get l.fn.items.store j ≡ Some x;
       passing : (n : ℕ) → l.next ≡ Some n → IsHit l.items.store (passes_by key_at within) n;
       retains : (new : Store _) (last : _)
-          → RetainsFrom key_at compare g.met.X.Key.Ord.total within (CalledAt g.F.FnMut) l.f l.items.store l.next new last
+          → RetainsFrom key_at compare g.met.X.Key.Ord.total within (CalledAt g.F.FnMut) l.f l.items.store l.next new
+          last
           → RetainsWithin key_at compare within (CalledAt g.F.FnMut) l.fn.f l.fn.items.store new last;
       others : KeepsMisses l.fn.items.store (passes_by key_at within) l.items.store;
       fewer : live_count l.items.store ≤ live_count l.fn.items.store;

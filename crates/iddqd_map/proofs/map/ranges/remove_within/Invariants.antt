@@ -17,7 +17,8 @@ invariant-loop-ix g l =
     let within = is_between (bound_map g.Q.OrdQuery.compare l.fn.lower) (bound_map g.Q.OrdQuery.compare l.fn.upper) in
     record {
       kept : IsIndexed (g.X.KeyIndex.indexes l.indexes) l.fn.state l.items.store;
-      can : CanAsk (TakesItem g.F.FnMut) (λ p x (b : Bool) q. GivesItem g.F.FnMut p x q) l.f (live_items l.fn.items.store);
+      can : CanAsk (TakesItem g.F.FnMut) (λ p x (b : Bool) q. GivesItem g.F.FnMut p x q) l.f
+          (live_items l.fn.items.store);
       among : (j : ℕ) (x : _) → get l.items.store j ≡ Some x → get l.fn.items.store j ≡ Some x;
       leaves : (new : Store _) → LeavesOthers l.items.store (passes_by key_at within) new
           → LeavesOthers l.fn.items.store (passes_by key_at within) new;

@@ -11,12 +11,16 @@ use Rattle.iddqd_ord_map.proofs.id_ord_map.IdOrdMap.iter.Goals as goal
 use Rattle.iddqd_ord_map.proofs.id_ord_map.IdOrdMap.iter.Goals.{After-iter}
 
 -- the indexes that are listed are all
-all_listed : (g : _) (c : After-iter g) → SortsWithin g.T.IdOrdItem.key_of g.T.Key.Ord.cmp (λ _. true) c.parts.result.0.now.store (indexes_left c.iter.result)
+all_listed :
+    (g : _) (c : After-iter g)
+    → SortsWithin g.T.IdOrdItem.key_of g.T.Key.Ord.cmp (λ _. true) c.parts.result.0.now.store
+    (indexes_left c.iter.result)
 all_listed g c =
     let key_of = g.T.IdOrdItem.key_of in
     let compare = g.T.Key.Ord.cmp in
     let s = c.parts.result.0.now.store in
-    subst (SortsWithin key_of compare (λ _. true) s) (sym c.iter.ensures.left) (SortsWithin-all key_of compare s (order_of c.parts.result.1.now) c.parts.ensures.sorted)
+    subst (SortsWithin key_of compare (λ _. true) s) (sym c.iter.ensures.left)
+    (SortsWithin-all key_of compare s (order_of c.parts.result.1.now) c.parts.ensures.sorted)
 
 pub returns-clause-walk : goal.returns-clause-walk
 returns-clause-walk g c =
@@ -31,5 +35,6 @@ pub returns-clause-len : goal.returns-clause-len
 returns-clause-len g c =
     let s = c.parts.result.0.now.store in
     let xs = indexes_left c.iter.result in
-    length-pairs_at s xs (AreLive-within g.T.IdOrdItem.key_of g.T.Key.Ord.cmp s (λ _. true) xs (all_listed g c)) ∙ ap length c.iter.ensures.left
-    ∙ length-held s (order_of c.parts.result.1.now) c.parts.ensures.sorted.held ∙ ap (λ s. live_count s) c.parts.ensures.items
+    length-pairs_at s xs (AreLive-within g.T.IdOrdItem.key_of g.T.Key.Ord.cmp s (λ _. true) xs (all_listed g c))
+    ∙ ap length c.iter.ensures.left ∙ length-held s (order_of c.parts.result.1.now) c.parts.ensures.sorted.held
+    ∙ ap (λ s. live_count s) c.parts.ensures.items

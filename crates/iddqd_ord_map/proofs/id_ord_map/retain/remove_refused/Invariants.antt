@@ -8,6 +8,8 @@ use Rattle.iddqd_ord_map.proofs.id_ord_map.retain.remove_refused.Given as goal
 -- the items at the indexes to come are as they were
 abbrev pub invariant-loop-ix : goal.invariant-loop-ix
 invariant-loop-ix g l = record {
-  retaining : Retaining (TakesAt g.F.FnMut) (CalledAt g.F.FnMut) l.fn.f l.fn.items.store l.items.store (order_of l.table) (indexes_left l.ix-iterator) l.f;
+  retaining :
+      Retaining (TakesAt g.F.FnMut) (CalledAt g.F.FnMut) l.fn.f l.fn.items.store l.items.store (order_of l.table)
+      (indexes_left l.ix-iterator) l.f;
   slots : l.items.capacity ≡ l.fn.items.capacity;
 }

@@ -1,0 +1,279 @@
+//! Calls that name a hashed key by its number: `find1(query)`.
+//!
+//! They are those of a map that has a key at the place `First`, and so on: of a `BiHashMap` and of a `TriHashMap`.
+ghost use Rattle.std.specs.Prelude.{◌≡◌, ◌↔◌, ◌≤◌, false, option_copied};
+ghost use Rattle.iddqd_keys.specs.Scan.{HasNoHit, AnswersScan, passes_by};
+ghost use Rattle.iddqd_keys.specs.KeyKeeping.{KeepsKey};
+ghost use Rattle.iddqd_map.specs.Map.{room, FindsItem, Removes};
+ghost use Rattle.iddqd_map.specs.Calls.{MayChange, Replaces, ChangesByCall};
+ghost use Rattle.iddqd_map.specs.Modify.{Modifies};
+
+use super::Map;
+use crate::key_index::{FindsWithHashAt, First, HashedAt, KeyIndex, Moves, Second, TakesAt, Third};
+use crate::refusal::ReplaceRefusal;
+use iddqd::item_index::ItemIndex;
+use iddqd_keys::hash_query::HashQuery;
+
+impl<T, X: KeyIndex<T, S>, S> Map<T, X, S> {
+    /// The index of the item that has the first key for which the query stands.
+    ///
+    /// The query is a `&T::Key1`, or another query that stands for such a key. Only keys of the same hash are compared
+    /// with it.
+    pub fn find1<Q>(&self, query: Q) -> Option<ItemIndex>
+    where
+        X: HashedAt<First, T, S>,
+        Q: HashQuery<X::Key>,
+        ensures { AnswersScan self.now.store (passes_by X.key_at (Q.stands_for query)) result }
+    {
+        self.find_by::<First, Q>(query)
+    }
+
+    /// Whether an item has the first key.
+    pub fn contains_key1<Q>(&self, query: Q) -> bool
+    where
+        X: HashedAt<First, T, S>,
+        Q: HashQuery<X::Key>,
+        ensures { (result ≡ false) ↔ HasNoHit self.now.store (passes_by X.key_at (Q.stands_for query)) }
+    {
+        self.contains_by::<First, Q>(query)
+    }
+
+    /// The item that has the first key.
+    pub fn get1<Q>(&self, query: Q) -> Option<&T>
+    where
+        X: HashedAt<First, T, S>,
+        Q: HashQuery<X::Key>,
+        ensures { FindsItem self.now.store (passes_by X.key_at (Q.stands_for query)) (option_copied result) }
+    {
+        self.get_by::<First, Q>(query)
+    }
+
+    /// Removes the item that has the first key, and returns it. It takes no memory.
+    pub fn remove1<Q>(&mut self, query: Q) -> Option<T>
+    where
+        X: TakesAt<First, T, S>,
+        Q: HashQuery<X::Key>,
+        ensures removes { Removes self.old (passes_by X.key_at (Q.stands_for query)) result self.new }
+        ensures gone { HasNoHit self.new.store (passes_by X.key_at (Q.stands_for query)) }
+        ensures room { room self.old ≤ room self.new }
+    {
+        self.remove_by::<First, Q>(query)
+    }
+
+    /// Replaces the item that has the first key, and returns the old one.
+    ///
+    /// The new item may have other keys. It gets the same index. If other items have a key of it, it comes back, and
+    /// nothing changes. It touches no table whose key stays, and takes no memory if all keys go by their hashes.
+    pub fn replace1<Q>(&mut self, query: Q, item: T) -> Result<T, ReplaceRefusal<T, X::Conflict>>
+    where
+        X: FindsWithHashAt<First, T, S> + Moves<T, S>,
+        Q: HashQuery<X::Key>,
+        ensures replaces { Replaces X.alike X.same_keys X.may_need_memory X.taken self.old
+            (passes_by X.key_at (Q.stands_for query)) item result self.new }
+        ensures room { room self.old ≤ room self.new }
+    {
+        self.replace_by::<First, Q>(query, item)
+    }
+
+    /// Replaces the item that has the first key by what the closure makes of it, and returns the old item; `None` if no
+    /// item has the key.
+    ///
+    /// The closure is called at most once, and not at all if no item has the key. Otherwise it behaves as `replace1`.
+    pub fn change1<Q, F: FnOnce(&T) -> T>(
+        &mut self,
+        query: Q,
+        f: F,
+    ) -> Result<Option<T>, ReplaceRefusal<T, X::Conflict>>
+    where
+        X: FindsWithHashAt<First, T, S> + Moves<T, S>,
+        Q: HashQuery<X::Key>,
+        requires { MayChange F.FnOnce f self.old.store (passes_by X.key_at (Q.stands_for query)) }
+        ensures changes { ChangesByCall X.alike X.same_keys X.may_need_memory X.taken F.FnOnce f self.old
+            (passes_by X.key_at (Q.stands_for query)) result self.new }
+        ensures room { room self.old ≤ room self.new }
+    {
+        self.change_by::<First, Q, F>(query, f)
+    }
+
+    /// Calls the closure with a `&mut` to the item that has the first key, as `modify_at` does; if no item has the key,
+    /// it returns `None` and doesn't call the closure. It is one look-up.
+    pub fn modify1<Q, R, F: FnOnce(&mut T) -> R>(&mut self, query: Q, f: F) -> Option<R>
+    where
+        X: HashedAt<First, T, S>,
+        Q: HashQuery<X::Key>,
+        requires { let named = passes_by X.key_at (Q.stands_for query) in
+            KeepsKey F.FnOnce f X.keys (λ item. FindsItem self.old.store named (Some item)) }
+        ensures modifies { Modifies F.FnOnce f self.old (passes_by X.key_at (Q.stands_for query)) result self.new }
+        ensures room { room self.old ≤ room self.new }
+    {
+        self.modify_by::<First, Q, R, F>(query, f)
+    }
+
+    /// The index of the item that has the second key for which the query stands, found as `find1` finds it.
+    pub fn find2<Q>(&self, query: Q) -> Option<ItemIndex>
+    where
+        X: HashedAt<Second, T, S>,
+        Q: HashQuery<X::Key>,
+        ensures { AnswersScan self.now.store (passes_by X.key_at (Q.stands_for query)) result }
+    {
+        self.find_by::<Second, Q>(query)
+    }
+
+    /// Whether an item has the second key.
+    pub fn contains_key2<Q>(&self, query: Q) -> bool
+    where
+        X: HashedAt<Second, T, S>,
+        Q: HashQuery<X::Key>,
+        ensures { (result ≡ false) ↔ HasNoHit self.now.store (passes_by X.key_at (Q.stands_for query)) }
+    {
+        self.contains_by::<Second, Q>(query)
+    }
+
+    /// The item that has the second key.
+    pub fn get2<Q>(&self, query: Q) -> Option<&T>
+    where
+        X: HashedAt<Second, T, S>,
+        Q: HashQuery<X::Key>,
+        ensures { FindsItem self.now.store (passes_by X.key_at (Q.stands_for query)) (option_copied result) }
+    {
+        self.get_by::<Second, Q>(query)
+    }
+
+    /// Removes the item that has the second key, and returns it. It takes no memory.
+    pub fn remove2<Q>(&mut self, query: Q) -> Option<T>
+    where
+        X: TakesAt<Second, T, S>,
+        Q: HashQuery<X::Key>,
+        ensures removes { Removes self.old (passes_by X.key_at (Q.stands_for query)) result self.new }
+        ensures gone { HasNoHit self.new.store (passes_by X.key_at (Q.stands_for query)) }
+        ensures room { room self.old ≤ room self.new }
+    {
+        self.remove_by::<Second, Q>(query)
+    }
+
+    /// Replaces the item that has the second key, as `replace1` does.
+    pub fn replace2<Q>(&mut self, query: Q, item: T) -> Result<T, ReplaceRefusal<T, X::Conflict>>
+    where
+        X: FindsWithHashAt<Second, T, S> + Moves<T, S>,
+        Q: HashQuery<X::Key>,
+        ensures replaces { Replaces X.alike X.same_keys X.may_need_memory X.taken self.old
+            (passes_by X.key_at (Q.stands_for query)) item result self.new }
+        ensures room { room self.old ≤ room self.new }
+    {
+        self.replace_by::<Second, Q>(query, item)
+    }
+
+    /// Replaces the item that has the second key by what the closure makes of it, as `change1` does.
+    pub fn change2<Q, F: FnOnce(&T) -> T>(
+        &mut self,
+        query: Q,
+        f: F,
+    ) -> Result<Option<T>, ReplaceRefusal<T, X::Conflict>>
+    where
+        X: FindsWithHashAt<Second, T, S> + Moves<T, S>,
+        Q: HashQuery<X::Key>,
+        requires { MayChange F.FnOnce f self.old.store (passes_by X.key_at (Q.stands_for query)) }
+        ensures changes { ChangesByCall X.alike X.same_keys X.may_need_memory X.taken F.FnOnce f self.old
+            (passes_by X.key_at (Q.stands_for query)) result self.new }
+        ensures room { room self.old ≤ room self.new }
+    {
+        self.change_by::<Second, Q, F>(query, f)
+    }
+
+    /// Calls the closure with a `&mut` to the item that has the second key, as `modify1` does.
+    pub fn modify2<Q, R, F: FnOnce(&mut T) -> R>(&mut self, query: Q, f: F) -> Option<R>
+    where
+        X: HashedAt<Second, T, S>,
+        Q: HashQuery<X::Key>,
+        requires { let named = passes_by X.key_at (Q.stands_for query) in
+            KeepsKey F.FnOnce f X.keys (λ item. FindsItem self.old.store named (Some item)) }
+        ensures modifies { Modifies F.FnOnce f self.old (passes_by X.key_at (Q.stands_for query)) result self.new }
+        ensures room { room self.old ≤ room self.new }
+    {
+        self.modify_by::<Second, Q, R, F>(query, f)
+    }
+
+    /// The index of the item that has the third key for which the query stands, found as `find1` finds it.
+    pub fn find3<Q>(&self, query: Q) -> Option<ItemIndex>
+    where
+        X: HashedAt<Third, T, S>,
+        Q: HashQuery<X::Key>,
+        ensures { AnswersScan self.now.store (passes_by X.key_at (Q.stands_for query)) result }
+    {
+        self.find_by::<Third, Q>(query)
+    }
+
+    /// Whether an item has the third key.
+    pub fn contains_key3<Q>(&self, query: Q) -> bool
+    where
+        X: HashedAt<Third, T, S>,
+        Q: HashQuery<X::Key>,
+        ensures { (result ≡ false) ↔ HasNoHit self.now.store (passes_by X.key_at (Q.stands_for query)) }
+    {
+        self.contains_by::<Third, Q>(query)
+    }
+
+    /// The item that has the third key.
+    pub fn get3<Q>(&self, query: Q) -> Option<&T>
+    where
+        X: HashedAt<Third, T, S>,
+        Q: HashQuery<X::Key>,
+        ensures { FindsItem self.now.store (passes_by X.key_at (Q.stands_for query)) (option_copied result) }
+    {
+        self.get_by::<Third, Q>(query)
+    }
+
+    /// Removes the item that has the third key, and returns it. It takes no memory.
+    pub fn remove3<Q>(&mut self, query: Q) -> Option<T>
+    where
+        X: TakesAt<Third, T, S>,
+        Q: HashQuery<X::Key>,
+        ensures removes { Removes self.old (passes_by X.key_at (Q.stands_for query)) result self.new }
+        ensures gone { HasNoHit self.new.store (passes_by X.key_at (Q.stands_for query)) }
+        ensures room { room self.old ≤ room self.new }
+    {
+        self.remove_by::<Third, Q>(query)
+    }
+
+    /// Replaces the item that has the third key, as `replace1` does.
+    pub fn replace3<Q>(&mut self, query: Q, item: T) -> Result<T, ReplaceRefusal<T, X::Conflict>>
+    where
+        X: FindsWithHashAt<Third, T, S> + Moves<T, S>,
+        Q: HashQuery<X::Key>,
+        ensures replaces { Replaces X.alike X.same_keys X.may_need_memory X.taken self.old
+            (passes_by X.key_at (Q.stands_for query)) item result self.new }
+        ensures room { room self.old ≤ room self.new }
+    {
+        self.replace_by::<Third, Q>(query, item)
+    }
+
+    /// Replaces the item that has the third key by what the closure makes of it, as `change1` does.
+    pub fn change3<Q, F: FnOnce(&T) -> T>(
+        &mut self,
+        query: Q,
+        f: F,
+    ) -> Result<Option<T>, ReplaceRefusal<T, X::Conflict>>
+    where
+        X: FindsWithHashAt<Third, T, S> + Moves<T, S>,
+        Q: HashQuery<X::Key>,
+        requires { MayChange F.FnOnce f self.old.store (passes_by X.key_at (Q.stands_for query)) }
+        ensures changes { ChangesByCall X.alike X.same_keys X.may_need_memory X.taken F.FnOnce f self.old
+            (passes_by X.key_at (Q.stands_for query)) result self.new }
+        ensures room { room self.old ≤ room self.new }
+    {
+        self.change_by::<Third, Q, F>(query, f)
+    }
+
+    /// Calls the closure with a `&mut` to the item that has the third key, as `modify1` does.
+    pub fn modify3<Q, R, F: FnOnce(&mut T) -> R>(&mut self, query: Q, f: F) -> Option<R>
+    where
+        X: HashedAt<Third, T, S>,
+        Q: HashQuery<X::Key>,
+        requires { let named = passes_by X.key_at (Q.stands_for query) in
+            KeepsKey F.FnOnce f X.keys (λ item. FindsItem self.old.store named (Some item)) }
+        ensures modifies { Modifies F.FnOnce f self.old (passes_by X.key_at (Q.stands_for query)) result self.new }
+        ensures room { room self.old ≤ room self.new }
+    {
+        self.modify_by::<Third, Q, R, F>(query, f)
+    }
+}
