@@ -1,13 +1,13 @@
 //! Callers of the table of indexes in an order.
-ghost use Rattle.std.specs.Prelude.{◌≡◌, ◌≢◌, ℕ, ◌<◌, None, Some, All, Contains, MatchOption, IfSome, IsNone, IfOk, OnOk, OnErr, insert, length, slice_index, IsTrue, false};
+ghost use Rattle.std.specs.Prelude.{◌≡◌, ◌≢◌, ℕ, ◌<◌, None, Some, All, Contains, IfNone, IfSome, IsNone, IfOk, OnOk, OnErr, insert, length, slice_index, IsTrue, false};
 ghost use Rattle.std.specs.Ordering.{nat_cmp};
-ghost use Rattle.std.specs.declared.cmp.Ordering.{Ordering};
-ghost use Rattle.std.specs.declared.cmp.Ordering.TheVariants.{Less, Equal};
+ghost use Rattle.std.specs.declared.cmp.Ordering.TheVariants.{Less};
 ghost use Rattle.iddqd.specs.Compaction.{CanRemap, remapped};
 ghost use Rattle.iddqd_order.specs.KeyOrder.{IsInKeyOrder};
 ghost use Rattle.iddqd_order.specs.MapBTreeTable.{order_of, capacity, without, sentinel};
 ghost use Rattle.iddqd_order.specs.PreparedBTreeMove.{PutsIn};
-ghost use Rattle.iddqd_order.specs.Search.{CanSearch, IsSteady, IsSteadyRising, with_ties, IsPlace};
+ghost use Rattle.iddqd_order.specs.Search.{CanSearch};
+ghost use Rattle.table_uses.specs.Ordered.{IfRising, KeepsKeyOrder, MeetsEqual, PutsInGap};
 
 use iddqd::index_remap::IndexRemap;
 use iddqd::item_index::ItemIndex;
@@ -43,12 +43,9 @@ pub fn add_by<F: FnMut(ItemIndex) -> Ordering>(
     requires assigned { ix ≢ sentinel }
     requires absent { Contains (order_of table.old) ix → ⊥ }
     requires can_ask { CanSearch F.FnMut (order_of table.old) (Some ix) asking.old }
-    ensures added { OnOk result ((at : ℕ) × (order_of table.new ≡ insert (order_of table.old) at ix)) }
+    ensures added { OnOk result
+        (PutsIn F.FnMut (λ r. r) (order_of table.old) ix asking.old (order_of table.new)) }
     ensures refused { OnErr result (order_of table.new ≡ order_of table.old) }
-    ensures place { (answer : ℕ → Ordering) →
-        IsSteadyRising F.FnMut (order_of table.old) (Some ix) (λ r. r) answer asking.old →
-        OnOk result ((at : ℕ) × IsPlace (with_ties (Some ix) answer) (order_of table.old) at
-        × (order_of table.new ≡ insert (order_of table.old) at ix)) }
 {
     table.prepare_insert_by(ix, asking)?.insert();
     Ok(())
@@ -85,17 +82,11 @@ pub fn add_if_new<F: FnMut(ItemIndex) -> Ordering>(
     requires absent { Contains (order_of table.old) ix → ⊥ }
     requires can_ask { CanSearch F.FnMut (order_of table.old) None asking.old }
     ensures added { IfOk result (λ is_new. IsTrue is_new →
-        (at : ℕ) × (order_of table.new ≡ insert (order_of table.old) at ix)) }
+        PutsInGap F.FnMut (order_of table.old) ix asking.old (order_of table.new)) }
+    ensures met { IfOk result (λ is_new. is_new ≡ false →
+        MeetsEqual F.FnMut (order_of table.old) asking.old) }
     ensures kept { IfOk result (λ is_new. is_new ≡ false → table.new ≡ table.old) }
     ensures refused { OnErr result (order_of table.new ≡ order_of table.old) }
-    ensures met { (answer : ℕ → Ordering) →
-        IsSteady F.FnMut (order_of table.old) None (λ r. r) answer asking.old →
-        IfOk result (λ is_new. is_new ≡ false →
-        (met : ℕ) × Contains (order_of table.old) met × (answer met ≡ Equal)) }
-    ensures place { (answer : ℕ → Ordering) →
-        IsSteadyRising F.FnMut (order_of table.old) None (λ r. r) answer asking.old →
-        IfOk result (λ is_new. IsTrue is_new → (at : ℕ) × IsPlace answer (order_of table.old) at
-        × (order_of table.new ≡ insert (order_of table.old) at ix)) }
 {
     match table.entry_by(asking) {
         Entry::Occupied(_entry) => Ok(false),
@@ -158,9 +149,8 @@ pub fn take_by<F: FnMut(ItemIndex) -> Ordering>(
     ensures stored { IsTrue result → Contains (order_of table.old) ix }
     ensures taken { IsTrue result → order_of table.new ≡ without (order_of table.old) ix }
     ensures kept { result ≡ false → order_of table.new ≡ order_of table.old }
-    ensures rising { (answer : ℕ → Ordering) →
-        IsSteadyRising F.FnMut (order_of table.old) (Some ix) (λ r. r) answer asking.old →
-        Contains (order_of table.old) ix → IsTrue result }
+    ensures rising { IfRising F.FnMut (order_of table.old) (Some ix) asking.old
+        (λ _. Contains (order_of table.old) ix → IsTrue result) }
 {
     table.prepare_remove_by(ix, asking).remove()
 }
@@ -170,9 +160,7 @@ pub fn rename_in_order(table: &mut MapBTreeTable, remap: &IndexRemap)
     requires named { (ix : ℕ) → Contains (order_of table.old) ix → CanRemap remap.now ix }
     requires rising { (i j : ℕ) → Contains (order_of table.old) i → Contains (order_of table.old) j →
         i < j → remapped remap.now i < remapped remap.now j }
-    ensures { (key new_key : ℕ → ℕ) →
-        ((ix : ℕ) → Contains (order_of table.old) ix → new_key (remapped remap.now ix) ≡ key ix) →
-        IsInKeyOrder nat_cmp key (order_of table.old) → IsInKeyOrder nat_cmp new_key (order_of table.new) }
+    ensures { KeepsKeyOrder remap.now (order_of table.old) (order_of table.new) }
 {
     table.remap_indexes(remap);
 }
@@ -183,9 +171,10 @@ pub fn first_after<F: FnMut(ItemIndex) -> Ordering>(
     asking: &mut Asking<F>,
 ) -> Option<ItemIndex>
     requires { CanSearch F.FnMut (order_of table.now) None asking.old }
-    ensures { (answer : ℕ → Ordering) →
-        IsSteadyRising F.FnMut (order_of table.now) None (λ r. r) answer asking.old →
-        MatchOption result (All (λ ix. answer ix ≢ Less) (order_of table.now)) (λ ix. answer ix ≡ Less) }
+    ensures found { IfRising F.FnMut (order_of table.now) None asking.old
+        (λ answer. IfSome result (λ ix. answer ix ≡ Less)) }
+    ensures none { IfRising F.FnMut (order_of table.now) None asking.old
+        (λ answer. IfNone result (All (λ ix. answer ix ≢ Less) (order_of table.now))) }
 {
     table.iter_after_by(asking).next()
 }

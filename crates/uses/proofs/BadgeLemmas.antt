@@ -4,12 +4,12 @@ use Rattle.std.specs.String.{string_bytes}
 use Rattle.iddqd_maps.specs.Map.{MapState}
 use Rattle.iddqd_maps.specs.OneKey.{IsReported, IsTaken}
 use Rattle.iddqd_maps.specs.PairConflict.{ReportBoth, ReportBothOther}
-use Rattle.iddqd_maps.specs.Scan.{AnswersScan, IsHit}
+use Rattle.iddqd_maps.specs.Scan.{IsHit}
 use Rattle.iddqd_maps.specs.Store.{Store}
 use Rattle.iddqd_maps.specs.declared.refusal.ReplaceRefusal.{ReplaceRefusal}
 use Rattle.iddqd_maps.specs.declared.refusal.ReplaceRefusal.TheVariants.{Missing, Duplicate, Memory}
 use Rattle.uses.specs.Badges.{has_number, is_held_by, same_holder, same_number, taken_keys, IsWhyNotHandedOut}
-use Rattle.uses.specs.Exchanges.{HitsOther, IsWhyNotChanged}
+use Rattle.uses.specs.Exchanges.{HitsBeside, HitsOther, IsWhyNotChanged}
 use Rattle.uses.specs.declared.badges.Badge.{Badge}
 
 module _ (old : MapState Badge) (badge : Badge) where
@@ -53,7 +53,7 @@ pub not_renumbered :
     → HitsOther old.store (has_number badge.number) ix)
     → (refusal : ReplaceRefusal Badge C)
     → IsWhyNotChanged taken false (is_held_by holder) (λ was. badge) old refusal
-    → (ix : ℕ) × AnswersScan old.store (is_held_by holder) (Some ix) × HitsOther old.store (has_number badge.number) ix
+    → HitsBeside old.store (is_held_by holder) (has_number badge.number)
 not_renumbered taken old holder badge same says (Missing back) (ix, was, only, (given, vacant)) = absurd (let live = only.live in cc)
 not_renumbered taken old holder badge same says (Duplicate back at) (ix, was, only, (given, reports)) =
     let hit = subst (λ text. IsHit old.store (is_held_by text) ix) (sym same) ((only.only ix).1 refl) in

@@ -6,7 +6,7 @@ use Rattle.std.proofs.lemmas.Bool.Decides.{nat_tests}
 use Rattle.iddqd_keyed.specs.Store.{Store}
 use Rattle.iddqd_keyed.specs.Scan.{HasNoHit}
 use Rattle.uses.specs.declared.calendar.Appointment.{Appointment}
-use Rattle.uses.specs.Calendar.{IsBooked, HasNone, IsTaken}
+use Rattle.uses.specs.Calendar.{IsBooked, HasConflict, HasNone}
 
 module _ (s : Store Appointment) where
   -- where no appointment passes the test of a number, none has it
@@ -39,7 +39,7 @@ module _ (s : Store Appointment) where
       (a : Appointment)
       → HasNoHit s (λ other. a.number == other.number)
       → HasNoHit s (λ other. eq_by_cmp nat_cmp a.start other.start)
-      → IsTaken s a
+      → HasConflict s a
       → ⊥
   free a numbered starting taken =
       elim taken.shares [

@@ -53,13 +53,20 @@ module _ {T : Type 0} (old new : Store T) where
       }
 
 -- a filtered list has exactly those that pass
-contained : {X : Type 0} (test : X → Bool) (xs : List X) (x : X) → Contains (filter test xs) x → Contains xs x × (test x ≡ true)
+contained :
+    {X : Type 0} (test : X → Bool) (xs : List X) (x : X)
+    → Contains (filter test xs) x
+    → Contains xs x × (test x ≡ true)
 contained test xs x here = (
   All-contains (Contains xs) (filter test xs) x (All-filter test (Contains xs) xs (All-contains_itself xs)) here,
   All-contains (λ y. test y ≡ true) (filter test xs) x (filter_passes test xs) here,
 )
 
-kept : {X : Type 0} (test : X → Bool) (xs : List X) (x : X) → Contains xs x → test x ≡ true → Contains (filter test xs) x
+kept :
+    {X : Type 0} (test : X → Bool) (xs : List X) (x : X)
+    → Contains xs x
+    → test x ≡ true
+    → Contains (filter test xs) x
 kept test [] x here passes = here
 kept test (y ∷ xs) x here passes =
     elim (Contains-append_cases (y ∷ []) xs x here) [
@@ -86,7 +93,8 @@ module _ {T K : Type 0} (key_of : T → K) (compare : K → K → Ordering) (old
     pub walked : (ix : ℕ) (item : T) → (get new ix ≡ Some item) ↔ ((get old ix ≡ Some item) × (test item ≡ true))
     walked ix item = (
       λ live.
-          let (there, passes) = contained (λ (p : ℕ × T). test p.1) walk (ix, item) ((after.live ix item).1 (live, refl)) in
+          let here = (after.live ix item).1 (live, refl) in
+          let (there, passes) = contained (λ (p : ℕ × T). test p.1) walk (ix, item) here in
           (((before.live ix item).0 there).0, passes),
       λ (live, passes).
           let there = kept (λ (p : ℕ × T). test p.1) walk (ix, item) ((before.live ix item).1 (live, refl)) passes in

@@ -1,17 +1,16 @@
 -- What callers say of an exchange, and of an item that takes over, follows from what a map promises.
-use Rattle.std.proofs.Common.{◌≡◌, ◌∙◌, inl, inr, ℕ, Bool, true, false, List, Option, Some, None, MatchOption, sym, ap, subst}
+use Rattle.std.proofs.Common.{◌≡◌, ◌∙◌, inl, inr, ℕ, Bool, false, List, Option, Some, None, sym, ap, subst}
 use Rattle.std.specs.Prelude.{Result, Ok, Err, IfOk, IfErr, OnErr}
 use Rattle.iddqd_maps.specs.Calls.{Changes, Overwrites, Replaces, ReplacesAt, ReplacesIfLive}
-use Rattle.iddqd_maps.specs.Map.{MapState, IsOnly}
+use Rattle.iddqd_maps.specs.Map.{MapState}
 use Rattle.iddqd_maps.specs.OneKey.{OverwritesOne}
-use Rattle.iddqd_maps.specs.Scan.{HasNoHit}
 use Rattle.iddqd_maps.specs.Several.{HasNoOther}
-use Rattle.iddqd_maps.specs.Store.{Store, inserted, next_index, rebound}
+use Rattle.iddqd_maps.specs.Store.{Store, rebound}
 use Rattle.iddqd_maps.specs.declared.refusal.OverwriteRefusal.{OverwriteRefusal}
 use Rattle.iddqd_maps.specs.declared.refusal.OverwriteRefusal.TheVariants.{Full as NoSlot, Memory as NoMemory}
 use Rattle.iddqd_maps.specs.declared.refusal.ReplaceRefusal.{ReplaceRefusal}
 use Rattle.iddqd_maps.specs.declared.refusal.ReplaceRefusal.TheVariants.{Missing, Duplicate, Memory}
-use Rattle.uses.specs.Exchanges.{Exchanges, IsWhyNot, IsWhyNotAt, IsWhyNotChanged, IsWhyNotTakenOver, TakesOver}
+use Rattle.uses.specs.Exchanges.{Exchanges, ExchangesIfFound, IsWhyNot, IsWhyNotAt, IsWhyNotChanged, IsWhyNotTakenOver, TakesOver, TakesOverOne}
 
 module _ {T : Type 0} (alike : T → T → Bool) (most : ℕ → ℕ) (places : ℕ) (item : T) (old new : MapState T) where
   pub takes_over :
@@ -91,8 +90,7 @@ module _
         (gives : T → T → Type 0) (becomes : T → T) (test : T → Bool) (result : Result (Option T) (ReplaceRefusal T C))
         → Changes alike same may_need_memory taken gives old test result new
         → ((was item : T) → gives was item → item ≡ becomes was)
-        → IfOk result (λ found. MatchOption found (HasNoHit old.store test × (new ≡ old))
-        (λ was. Exchanges alike test (becomes was) old was new))
+        → IfOk result (λ found. ExchangesIfFound alike test becomes old found new)
     changes gives becomes test (Ok None) none makes = none
     changes gives becomes test (Ok (Some was)) (ix, only, (one, item, live, gave, stands)) makes =
         let here : Some one ≡ Some was = sym live ∙ stands.live in
@@ -134,11 +132,9 @@ module _ {T : Type 0} (alike : T → T → Bool) (most : ℕ → ℕ) (item : T)
   pub sets :
       (result : Result (ℕ × Option T) (OverwriteRefusal T))
       → OverwritesOne alike most old item result new
-      → IfOk result (λ set. MatchOption set.1
-      (HasNoHit old.store (alike item) × (set.0 ≡ next_index old.store) × (new.store ≡ inserted old.store item))
-      (λ was. IsOnly old.store (alike item) set.0 was × (new.store ≡ rebound old.store set.0 item)))
+      → IfOk result (λ set. TakesOverOne alike item old set.0 set.1 new)
   sets (Ok (ix, None)) out = (out.no_conflict, out.index, out.stored)
-  sets (Ok (ix, Some was)) (only, left, memory) = (only, left)
+  sets (Ok (ix, Some was)) (only, left, memory) = (only, left, memory)
   sets (Err refusal) out = tt
 
   pub not_set :

@@ -8,3 +8,6 @@ pub mod ExchangeLemmas
 pub mod WordLemmas
 pub mod BadgeLemmas
 pub mod StockLemmas
+pub mod UpdateLemmas
+pub mod LeaseLemmas
+pub mod GuestLemmas

@@ -1,12 +1,13 @@
 -- Badges by their keys, and why one isn't handed out or changed.
-use Rattle.std.specs.Prelude.{◌≡◌, ◌==◌, ℕ, Bool, List, Option, Some, None}
+use Rattle.std.specs.Prelude.{◌≡◌, ◌==◌, ℕ, Bool, List, Option, Some, None, String}
 use Rattle.std.specs.Str.{bytes_eq}
 use Rattle.std.specs.String.{string_bytes}
+use Rattle.std.specs.declared.alloc.Global.{Global}
 use Rattle.iddqd_maps.specs.Map.{MapState, room}
-use Rattle.iddqd_maps.specs.Scan.{AnswersScan, HasNoHit}
+use Rattle.iddqd_maps.specs.Scan.{HasNoHit}
 use Rattle.iddqd_maps.specs.Several.{either_key}
 use Rattle.iddqd_maps.specs.Store.{IsFull, Store}
-use Rattle.uses.specs.Exchanges.{HasHit, HitsOther}
+use Rattle.uses.specs.Exchanges.{Exchanges, HasHit, HitsBeside}
 use Rattle.uses.specs.declared.badges.Badge.{Badge}
 use Rattle.uses.specs.declared.badges.HandOutError.{HandOutError}
 use Rattle.uses.specs.declared.badges.HandOutError.TheVariants.{NumberTaken, HolderTaken, BothTaken, Full, Memory}
@@ -53,8 +54,23 @@ IsWhyNotHandedOut number holder old Memory =
     HasNoHit old.store (has_number number) × HasNoHit old.store (is_held_by holder) × (IsFull old.store → ⊥)
     × (room old ≡ 0)
 
+-- The badge of this number has this holder now, and told is who had it. It is `None` if and only if there is no such
+-- badge, and then nothing changes.
+abbrev pub HandsOn : ℕ → String Global → MapState Badge → Option (String Global) → MapState Badge → Type 0
+HandsOn number holder old (Some before) new =
+    (was : Badge) × (was.holder ≡ before)
+    × Exchanges share_key (has_number number) (record { number = number; holder = holder }) old was new
+HandsOn number holder old None new = HasNoHit old.store (has_number number) × (new ≡ old)
+
+-- This person's badge has this number now, and told is which it had. It is `None` if and only if the person holds none,
+-- and then nothing changes.
+abbrev pub Renumbers : List ℕ → ℕ → MapState Badge → Option ℕ → MapState Badge → Type 0
+Renumbers holder number old (Some before) new =
+    (was is : Badge) × (was.number ≡ before) × (is.number ≡ number) × (string_bytes is.holder ≡ holder)
+    × Exchanges share_key (is_held_by holder) is old was new
+Renumbers holder number old None new = HasNoHit old.store (is_held_by holder) × (new ≡ old)
+
 -- why this person's badge didn't get the number
 abbrev pub IsWhyNotRenumbered : List ℕ → ℕ → Store Badge → RenumberError → Type 0
-IsWhyNotRenumbered holder number s Taken =
-    (ix : ℕ) × AnswersScan s (is_held_by holder) (Some ix) × HitsOther s (has_number number) ix
+IsWhyNotRenumbered holder number s Taken = HitsBeside s (is_held_by holder) (has_number number)
 IsWhyNotRenumbered holder number s NoMemory = Unit {0}

@@ -12,7 +12,7 @@ abbrev pub HasNone : Store Appointment → (Appointment → Type 0) → Type 0
 HasNone s IsThis = (a : Appointment) → IsBooked s a → IsThis a → ⊥
 
 -- it has one with this one's number, or with its start
-pub record IsTaken (s : Store Appointment) (a : Appointment) : Type 0 where
+pub record HasConflict (s : Store Appointment) (a : Appointment) : Type 0 where
   pub other : Appointment
   pub booked : IsBooked s other
   pub shares : (other.number ≡ a.number) ⊎ (other.start ≡ a.start)

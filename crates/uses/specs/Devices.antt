@@ -1,9 +1,7 @@
--- Devices by their four keys, and what calls leave of them.
-use Rattle.std.specs.Prelude.{◌≡◌, ◌==◌, ◌||◌, ℕ, Bool, List}
+-- Devices by their four keys.
+use Rattle.std.specs.Prelude.{◌==◌, ◌||◌, ℕ, Bool, List}
 use Rattle.std.specs.Str.{bytes_eq}
 use Rattle.std.specs.String.{string_bytes}
-use Rattle.iddqd_maps.specs.Map.{MapState, IsOnly}
-use Rattle.iddqd_maps.specs.Store.{rebound}
 use Rattle.uses.specs.declared.devices.Device.{Device}
 
 -- the device has this name
@@ -23,10 +21,6 @@ abbrev pub share_key : Device → Device → Bool
 share_key x y =
     (x.serial == y.serial || x.address == y.address) || (x.tag == y.tag || is_named (string_bytes x.name) y)
 
--- the one device that passes the test has so many ports, and all else stays
-pub record SetsPorts (test : Device → Bool) (ports : ℕ) (old new : MapState Device) : Type 0 where
-  pub ix : ℕ
-  pub was : Device
-  pub found : IsOnly old.store test ix was
-  pub left : new.store ≡ rebound old.store ix (record was { ports = ports })
-  pub memory : new.memory ≡ old.memory
+-- the device, with so many ports
+abbrev pub with_ports : ℕ → Device → Device
+with_ports ports device = record device { ports = ports }

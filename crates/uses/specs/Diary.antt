@@ -1,8 +1,17 @@
--- What calls leave of a diary.
-use Rattle.std.specs.Prelude.{◌≡◌, ℕ, Some}
+-- Appointments by their starts, and what calls leave of a diary.
+use Rattle.std.specs.Prelude.{◌≡◌, ℕ, Bool, Some}
+use Rattle.std.specs.Ordering.{nat_cmp, eq_by_cmp}
 use Rattle.iddqd_keyed.specs.State.{State, unbound}
 use Rattle.iddqd_keyed.specs.Store.{get, rebound}
 use Rattle.uses.specs.declared.calendar.Appointment.{Appointment}
+
+-- the appointment starts then
+abbrev pub starts_at : ℕ → Appointment → Bool
+starts_at start a = eq_by_cmp nat_cmp start a.start
+
+-- the appointment, but it takes so many minutes
+abbrev pub lasting : ℕ → Appointment → Appointment
+lasting minutes a = record a { minutes = minutes }
 
 -- one appointment, of which this holds, takes so many minutes, and all else stays
 pub record Extends
@@ -12,7 +21,7 @@ pub record Extends
   pub was : Appointment
   pub live : get old.store ix ≡ Some was
   pub is_this : IsThis was
-  pub left : new ≡ record old { store = rebound old.store ix (record was { minutes = minutes }) }
+  pub left : new ≡ record old { store = rebound old.store ix (lasting minutes was) }
 
 -- this appointment, which starts then, was at this index and was removed, and all else stays
 pub record Cancels

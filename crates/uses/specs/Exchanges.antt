@@ -21,6 +21,10 @@ HasHit s test = (ix : ℕ) × IsHit s test ix
 abbrev pub HitsOther : {T : Type 0} → Store T → (T → Bool) → ℕ → Type 0
 HitsOther s test ix = (j : ℕ) × (j ≢ ix) × IsHit s test j
 
+-- just one item passes the first test, and another one passes the second
+abbrev pub HitsBeside : {T : Type 0} → Store T → (T → Bool) → (T → Bool) → Type 0
+HitsBeside s test other = (ix : ℕ) × AnswersScan s test (Some ix) × HitsOther s other ix
+
 -- `alike x y` says that the items share a key
 module _ {T : Type 0} (alike : T → T → Bool) where
   -- The one item that passes the test was replaced by this one, which shares no key with any other. All else stays.
@@ -30,6 +34,20 @@ module _ {T : Type 0} (alike : T → T → Bool) where
     pub unlike : HasNoOther old.store (alike item) ix
     pub left : new.store ≡ rebound old.store ix item
     pub memory : new.memory ≡ old.memory
+
+  -- What a call may return and leave that puts what `becomes` makes of the item that passes the test in its place. It
+  -- returns `None` if and only if no item passes, and then nothing changes.
+  abbrev pub ExchangesIfFound : (T → Bool) → (T → T) → MapState T → Option T → MapState T → Type 0
+  ExchangesIfFound test becomes old (Some was) new = Exchanges test (becomes was) old was new
+  ExchangesIfFound test becomes old None new = HasNoHit old.store test × (new ≡ old)
+
+  -- Where items have one key: this one replaced the item with its key, which comes back, and no memory was taken; or no
+  -- item had its key, and it was stored at the next index. All others stay.
+  abbrev pub TakesOverOne : T → MapState T → ℕ → Option T → MapState T → Type 0
+  TakesOverOne item old ix (Some was) new =
+      IsOnly old.store (alike item) ix was × (new.store ≡ rebound old.store ix item) × (new.memory ≡ old.memory)
+  TakesOverOne item old ix None new =
+      HasNoHit old.store (alike item) × (ix ≡ next_index old.store) × (new.store ≡ inserted old.store item)
 
   -- The items that share a key with this one were removed, and come back by rising index, at most so many. This one is
   -- stored, and all others stay. If one was removed, no memory was taken.

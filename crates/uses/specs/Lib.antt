@@ -1,4 +1,8 @@
 pub mod Users
+pub mod Updates
+pub mod Routes
+pub mod Leases
+pub mod Guests
 pub mod RouteLaws
 pub mod Registry
 pub mod Calendar

@@ -11,6 +11,10 @@ has_number number locker = number == locker.number
 abbrev pub has_holder : ℕ → Locker → Bool
 has_holder holder locker = holder == locker.holder
 
+-- the locker, opened then
+abbrev pub opened_at : ℕ → Locker → Locker
+opened_at time locker = record locker { opened = time }
+
 -- the lockers have one number
 abbrev pub same_number : Locker → Locker → Bool
 same_number x y = has_number x.number y

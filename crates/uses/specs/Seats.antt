@@ -1,5 +1,5 @@
 -- Seats by their keys.
-use Rattle.std.specs.Prelude.{◌==◌, ℕ, Bool}
+use Rattle.std.specs.Prelude.{◌==◌, ℕ, Bool, true}
 use Rattle.iddqd_maps.specs.ThreeKeys.{any_key}
 use Rattle.uses.specs.declared.seats.Seat.{Seat}
 
@@ -14,6 +14,22 @@ has_guest guest seat = guest == seat.guest
 -- it has this ticket
 abbrev pub has_ticket : ℕ → Seat → Bool
 has_ticket ticket seat = ticket == seat.ticket
+
+-- the seat, but it has this place
+abbrev pub with_place : ℕ → Seat → Seat
+with_place place seat = record seat { place = place }
+
+-- this guest
+abbrev pub with_guest : ℕ → Seat → Seat
+with_guest guest seat = record seat { guest = guest }
+
+-- this ticket
+abbrev pub with_ticket : ℕ → Seat → Seat
+with_ticket ticket seat = record seat { ticket = ticket }
+
+-- the seat, but it is paid
+abbrev pub with_payment : Seat → Seat
+with_payment seat = record seat { is_paid = true }
 
 -- the seats have one place, one guest, or one ticket
 abbrev pub same_place : Seat → Seat → Bool

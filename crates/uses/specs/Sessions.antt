@@ -1,6 +1,7 @@
--- Sessions by their keys.
-use Rattle.std.specs.Prelude.{◌==◌, ◌||◌, ℕ, Bool}
+-- Sessions by their keys, and which ends next.
+use Rattle.std.specs.Prelude.{◌≡◌, ◌==◌, ◌||◌, ◌≤◌, ℕ, Bool, Some}
 use Rattle.std.specs.Ordering.{nat_cmp, eq_by_cmp}
+use Rattle.iddqd_maps.specs.Store.{Store, get}
 use Rattle.uses.specs.declared.sessions.Session.{Session}
 
 -- the session has this id
@@ -10,6 +11,11 @@ has_id id session = id == session.id
 -- the sessions share a key
 abbrev pub share_key : Session → Session → Bool
 share_key x y = (x.id == y.id || x.token == y.token) || eq_by_cmp nat_cmp x.ends y.ends
+
+-- the session stands at the index, and none ends before it
+abbrev pub EndsFirst : Store Session → ℕ → Session → Type 0
+EndsFirst s ix session =
+    (get s ix ≡ Some session) × ((j : ℕ) (other : Session) → get s j ≡ Some other → session.ends ≤ other.ends)
 
 -- the session, but it ends then
 abbrev pub ending : ℕ → Session → Session

@@ -1,11 +1,11 @@
 -- Users by their names, and why one isn't signed up or renamed.
-use Rattle.std.specs.Prelude.{◌≡◌, ◌+◌, ◌-◌, ◌^◌, ◌==◌, ℕ, Bool, not, List, Some, min}
+use Rattle.std.specs.Prelude.{◌≡◌, ◌+◌, ◌-◌, ◌^◌, ◌==◌, ℕ, Bool, not, List, min}
 use Rattle.std.specs.Str.{bytes_eq}
 use Rattle.std.specs.String.{string_bytes}
 use Rattle.iddqd_maps.specs.Map.{MapState, IsOnly, room}
-use Rattle.iddqd_maps.specs.Scan.{AnswersScan, HasNoHit}
+use Rattle.iddqd_maps.specs.Scan.{HasNoHit}
 use Rattle.iddqd_maps.specs.Store.{IsFull, Store, rebound}
-use Rattle.uses.specs.Exchanges.{HasHit, HitsOther}
+use Rattle.uses.specs.Exchanges.{HasHit, HitsBeside}
 use Rattle.uses.specs.declared.users.User.{User}
 use Rattle.uses.specs.declared.users.RenameError.{RenameError}
 use Rattle.uses.specs.declared.users.RenameError.TheVariants.{Missing, Taken as NewNameTaken}
@@ -41,5 +41,4 @@ IsWhyNotSignedUp name old Memory = HasNoHit old.store (is_named name) × (IsFull
 -- why a user of one name didn't get another
 abbrev pub IsWhyNotRenamed : List ℕ → List ℕ → Store User → RenameError → Type 0
 IsWhyNotRenamed from to s Missing = HasNoHit s (is_named from)
-IsWhyNotRenamed from to s NewNameTaken =
-    (ix : ℕ) × AnswersScan s (is_named from) (Some ix) × HitsOther s (is_named to) ix
+IsWhyNotRenamed from to s NewNameTaken = HitsBeside s (is_named from) (is_named to)

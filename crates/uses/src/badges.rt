@@ -1,12 +1,11 @@
 //! Two unique keys, each found by its hash.
-ghost use Rattle.std.specs.Prelude.{◌≡◌, ℕ, Some, MatchOption, IfOk, IfErr, OnOk, OnErr};
+ghost use Rattle.std.specs.Prelude.{◌≡◌, IfOk, IfErr, OnOk, OnErr};
 ghost use Rattle.std.specs.String.{string_bytes};
-ghost use Rattle.iddqd_maps.specs.Map.{IsOnly};
-ghost use Rattle.iddqd_maps.specs.Scan.{AnswersScan, HasNoHit};
+ghost use Rattle.iddqd_maps.specs.Scan.{HasNoHit};
 ghost use Rattle.iddqd_maps.specs.Store.{inserted};
-ghost use Rattle.uses.specs.Badges.{has_number, is_held_by, share_key, taken_keys, IsWhyNotHandedOut, IsWhyNotRenumbered};
-ghost use Rattle.uses.specs.Exchanges.{Exchanges, HitsOther};
-ghost use Rattle.uses.specs.declared.badges.Badge.{Badge};
+ghost use Rattle.uses.specs.Badges.{has_number, is_held_by, taken_keys, HandsOn, IsWhyNotHandedOut, IsWhyNotRenumbered, Renumbers};
+ghost use Rattle.uses.specs.Exchanges.{HitsBeside};
+ghost use Rattle.uses.specs.Updates.{FindsField};
 
 use iddqd_maps::bi_hash_map::{BiClash, BiHashItem, BiHashMap};
 use iddqd_maps::refusal::{InsertRefusal, ReplaceRefusal};
@@ -99,8 +98,7 @@ fn taken(at: &BiClash) -> HandOutError
 
 /// The number of the badge that somebody holds; none exactly where the person holds none.
 pub fn number(badges: &BiHashMap<Badge>, holder: &str) -> Option<u32>
-    ensures { let held = is_held_by holder.now in MatchOption result (HasNoHit badges.now.store held)
-        (λ number. (ix : ℕ) × (badge : Badge) × IsOnly badges.now.store held ix badge × (badge.number ≡ number)) }
+    ensures { FindsField badges.now.store (is_held_by holder.now) (λ badge. badge.number) result }
 {
     match badges.get2(holder) {
         Some(badge) => Some(badge.number),
@@ -115,13 +113,10 @@ pub fn hand_on(
     number: u32,
     holder: String,
 ) -> Result<Option<String>, String>
-    ensures handed_on { IfOk result (λ found. MatchOption found
-        (HasNoHit badges.old.store (has_number number) × (badges.new ≡ badges.old))
-        (λ before. (was : Badge) × (was.holder ≡ before) × Exchanges share_key (has_number number)
-        (record { number = number; holder = holder }) badges.old was badges.new)) }
-    ensures refused { IfErr result (λ back. (back ≡ holder)
-        × ((ix : ℕ) × AnswersScan badges.old.store (has_number number) (Some ix)
-        × HitsOther badges.old.store (is_held_by (string_bytes holder)) ix)) }
+    ensures handed_on { IfOk result (λ found. HandsOn number holder badges.old found badges.new) }
+    ensures given_back { IfErr result (λ back. back ≡ holder) }
+    ensures refused { OnErr result
+        (HitsBeside badges.old.store (has_number number) (is_held_by (string_bytes holder))) }
     ensures unchanged { OnErr result (badges.new ≡ badges.old) }
 {
     match badges.change1(&number, |_| Badge { number, holder }) {
@@ -140,11 +135,7 @@ pub fn renumber(
     holder: &str,
     number: u32,
 ) -> Result<Option<u32>, RenumberError>
-    ensures renumbered { IfOk result (λ found. MatchOption found
-        (HasNoHit badges.old.store (is_held_by holder.now) × (badges.new ≡ badges.old))
-        (λ before. (was is : Badge) × (was.number ≡ before)
-        × (is.number ≡ number) × (string_bytes is.holder ≡ holder.now)
-        × Exchanges share_key (is_held_by holder.now) is badges.old was badges.new)) }
+    ensures renumbered { IfOk result (λ found. Renumbers holder.now number badges.old found badges.new) }
     ensures refused { IfErr result (IsWhyNotRenumbered holder.now number badges.old.store) }
     ensures unchanged { OnErr result (badges.new ≡ badges.old) }
 {

@@ -1,18 +1,18 @@
 //! A board of scores: the calls of a map in order that `scores` and `words` don't make, and what each promises.
-ghost use Rattle.std.specs.Prelude.{◌≡◌, ◌⊎◌, ◌≤◌, ◌↔◌, ℕ, false, true, length, min, Some, None, IfOk, IfErr, MatchOption, OnOk, OnErr};
+ghost use Rattle.std.specs.Prelude.{◌≡◌, ◌⊎◌, ◌≤◌, ◌↔◌, false, true, length, min, Some, IfOk, IfErr, OnOk, OnErr};
 ghost use Rattle.std.specs.Ordering.{nat_cmp, eq_by_cmp};
 ghost use Rattle.std.specs.declared.cmp.Ordering.TheVariants.{Less, Greater};
 ghost use Rattle.iddqd_maps.specs.Compaction.{compacted};
 ghost use Rattle.iddqd_maps.specs.KeyOrder.{AreInKeyOrder, FindsEnd, IsKeyWalk, PopsEnd};
-ghost use Rattle.iddqd_maps.specs.Map.{FindsItem, IsOnly, Removes, RemovesAt, capacity, empty_map, room};
+ghost use Rattle.iddqd_maps.specs.Map.{FindsItem, Removes, RemovesAt, capacity, empty_map, room};
 ghost use Rattle.iddqd_maps.specs.OrdMap.{IsTakenAt};
 ghost use Rattle.iddqd_maps.specs.Scan.{AnswersScan, HasNoHit};
 ghost use Rattle.iddqd_maps.specs.Sizes.{insertable};
-ghost use Rattle.iddqd_maps.specs.Store.{cleared, get, inserted, next_index, rebound, slot_count, slot_limit};
+ghost use Rattle.iddqd_maps.specs.Store.{cleared, get, rebound, slot_count, slot_limit};
 ghost use Rattle.iddqd_maps.specs.Validation.{Tells, Validates, not_compact_text};
-ghost use Rattle.uses.specs.Exchanges.{Exchanges, IsWhyNot, IsWhyNotAt, IsWhyNotChanged, IsWhyNotTakenOver};
-ghost use Rattle.uses.specs.Scores.{has_hour, same_hour};
-ghost use Rattle.uses.specs.declared.scores.Score.{Score};
+ghost use Rattle.uses.specs.Exchanges.{Exchanges, ExchangesIfFound, IsWhyNot, IsWhyNotAt, IsWhyNotChanged, IsWhyNotTakenOver, TakesOverOne};
+ghost use Rattle.uses.specs.Scores.{has_hour, same_hour, with_hour, with_points};
+ghost use Rattle.uses.specs.Updates.{Updates, UpdatesAt};
 
 use crate::scores::Score;
 use iddqd_maps::id_ord_map::{IdOrdMap, IntoValues, Iter, Values};
@@ -147,11 +147,7 @@ pub fn set(
     board: &mut Board,
     score: Score,
 ) -> Result<(ItemIndex, Option<Score>), OverwriteRefusal<Score>>
-    ensures set { IfOk result (λ set. MatchOption set.1
-        (HasNoHit board.old.store (same_hour score) × (set.0 ≡ next_index board.old.store)
-        × (board.new.store ≡ inserted board.old.store score))
-        (λ was. IsOnly board.old.store (same_hour score) set.0 was
-        × (board.new.store ≡ rebound board.old.store set.0 score))) }
+    ensures set { IfOk result (λ set. TakesOverOne same_hour score board.old set.0 set.1 board.new) }
     ensures refused { IfErr result (IsWhyNotTakenOver same_hour score board.old) }
     ensures unchanged { OnErr result (board.new.store ≡ board.old.store) }
 {
@@ -160,18 +156,14 @@ pub fn set(
 
 /// Gives the score of an hour so many points; none exactly where there is none.
 pub fn mark(board: &mut Board, hour: u32, points: u32) -> Option<()>
-    ensures { MatchOption result (HasNoHit board.old.store (has_hour hour) × (board.new ≡ board.old))
-        (λ _. (ix : ℕ) × (was : Score) × IsOnly board.old.store (has_hour hour) ix was
-        × (board.new.store ≡ rebound board.old.store ix (record was { points = points }))) }
+    ensures { Updates board.old (has_hour hour) (with_points points) result board.new }
 {
     board.modify(&hour, |score| score.points = points)
 }
 
 /// The same of the score at an index.
 pub fn mark_at(board: &mut Board, ix: ItemIndex, points: u32) -> Option<()>
-    ensures { MatchOption result ((get board.old.store ix ≡ None) × (board.new ≡ board.old))
-        (λ _. (was : Score) × (get board.old.store ix ≡ Some was)
-        × (board.new.store ≡ rebound board.old.store ix (record was { points = points }))) }
+    ensures { UpdatesAt board.old ix (with_points points) result board.new }
 {
     board.modify_at(ix, |score| score.points = points)
 }
@@ -203,12 +195,10 @@ pub fn move_to(
     hour: u32,
     other: u32,
 ) -> Result<Option<Score>, ReplaceRefusal<Score, ItemIndex>>
-    ensures moved { IfOk result (λ found. MatchOption found
-        (HasNoHit board.old.store (has_hour hour) × (board.new ≡ board.old))
-        (λ was. Exchanges same_hour (has_hour hour) (record was { hour = other }) board.old was board.new)) }
+    ensures moved { IfOk result
+        (λ found. ExchangesIfFound same_hour (has_hour hour) (with_hour other) board.old found board.new) }
     ensures refused { IfErr result
-        (IsWhyNotChanged (IsTakenAt same_hour) true
-        (has_hour hour) (λ score. record score { hour = other }) board.old) }
+        (IsWhyNotChanged (IsTakenAt same_hour) true (has_hour hour) (with_hour other) board.old) }
     ensures unchanged { OnErr result (board.new ≡ board.old) }
 {
     board.change(

@@ -1,13 +1,13 @@
-//! Keyed items whose tables are always in order, as two ghost fields say, so that no clause has to ask for it.
+//! Keyed items whose tables are always in sync, as two ghost fields say, so that no clause has to ask for it.
 //!
 //! `KeyedItems` promises exact answers only while no `overwrite` has changed a key. `Calendar` never calls `overwrite`.
-//! Its ghost fields say that both tables are in order: `new` starts so, and each call keeps it. So a look-up here finds
+//! Its ghost fields say that both tables are in sync: `new` starts so, and each call keeps it. So a look-up here finds
 //! an appointment exactly where there is one, and a booking is refused exactly where a key is taken.
 ghost use Rattle.std.specs.Prelude.{◌≡◌, ◌≢◌, ◌↔◌, Some, Err, OnOk, OnErr};
 ghost use Rattle.std.proofs.Props.{props};
 ghost use Rattle.iddqd_keyed.specs.Store.{inserted};
 ghost use Rattle.iddqd_keyed.specs.{IsInSync, first_key_index, second_key_index, items_at};
-ghost use Rattle.uses.specs.Calendar.{IsBooked, IsTaken};
+ghost use Rattle.uses.specs.Calendar.{IsBooked, HasConflict};
 ghost use Rattle.uses.specs.declared.calendar.Appointment.{Appointment};
 ghost use Rattle.uses.specs.declared.calendar.BookingError.TheVariants.{Taken};
 
@@ -76,7 +76,7 @@ impl Calendar {
 
     /// Books an appointment, unless its number or its start is taken.
     pub fn book(&mut self, appointment: Appointment) -> Result<(), BookingError>
-        ensures taken { (result ≡ Err Taken) ↔ IsTaken self.old.booked.state.store appointment }
+        ensures taken { (result ≡ Err Taken) ↔ HasConflict self.old.booked.state.store appointment }
         ensures booked { OnOk result (self.new.booked.state.store ≡ inserted self.old.booked.state.store appointment) }
         ensures unchanged { OnErr result (self.new.booked.state ≡ self.old.booked.state) }
     {

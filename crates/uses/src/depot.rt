@@ -1,15 +1,15 @@
 //! A depot of parts: the calls of a map with one key that `users` and `stock` don't make, and what each promises.
-ghost use Rattle.std.specs.Prelude.{◌≡◌, ◌⊎◌, ◌≤◌, ◌==◌, ◌↔◌, false, true, min, Some, None, IfOk, IfErr, MatchOption, OnOk, OnErr};
+ghost use Rattle.std.specs.Prelude.{◌≡◌, ◌⊎◌, ◌≤◌, ◌==◌, ◌↔◌, false, true, min, Some, IfOk, IfErr, OnOk, OnErr};
 ghost use Rattle.iddqd_maps.specs.Compaction.{compacted};
 ghost use Rattle.iddqd_maps.specs.LiveItems.{live_items, live_pairs};
-ghost use Rattle.iddqd_maps.specs.Map.{IsOnly, RemovesAt, empty_map, room};
+ghost use Rattle.iddqd_maps.specs.Map.{RemovesAt, empty_map, room};
 ghost use Rattle.iddqd_maps.specs.OneKey.{IsTaken};
 ghost use Rattle.iddqd_maps.specs.Scan.{HasNoHit};
 ghost use Rattle.iddqd_maps.specs.Sizes.{insertable};
-ghost use Rattle.iddqd_maps.specs.Store.{cleared, get, inserted, next_index, rebound, slot_limit};
-ghost use Rattle.uses.specs.Exchanges.{IsWhyNotAt, IsWhyNotTakenOver};
-ghost use Rattle.uses.specs.Stock.{same_kind};
-ghost use Rattle.uses.specs.declared.stock.Part.{Part};
+ghost use Rattle.iddqd_maps.specs.Store.{cleared, get, rebound, slot_limit};
+ghost use Rattle.uses.specs.Exchanges.{IsWhyNotAt, IsWhyNotTakenOver, TakesOverOne};
+ghost use Rattle.uses.specs.Stock.{same_kind, with_count};
+ghost use Rattle.uses.specs.Updates.{UpdatesAt};
 
 use crate::hashers::Base31;
 use crate::stock::Part;
@@ -96,11 +96,7 @@ pub fn set(
     depot: &mut Depot,
     part: Part,
 ) -> Result<(ItemIndex, Option<Part>), OverwriteRefusal<Part>>
-    ensures set { IfOk result (λ set. MatchOption set.1
-        (HasNoHit depot.old.store (same_kind part) × (set.0 ≡ next_index depot.old.store)
-        × (depot.new.store ≡ inserted depot.old.store part))
-        (λ was. IsOnly depot.old.store (same_kind part) set.0 was
-        × (depot.new.store ≡ rebound depot.old.store set.0 part))) }
+    ensures set { IfOk result (λ set. TakesOverOne same_kind part depot.old set.0 set.1 depot.new) }
     ensures refused { IfErr result (IsWhyNotTakenOver same_kind part depot.old) }
     ensures unchanged { OnErr result (depot.new.store ≡ depot.old.store) }
 {
@@ -109,9 +105,7 @@ pub fn set(
 
 /// Sets how many parts there are at an index; none exactly where there are none.
 pub fn count_at(depot: &mut Depot, ix: ItemIndex, count: u32) -> Option<()>
-    ensures { MatchOption result ((get depot.old.store ix ≡ None) × (depot.new ≡ depot.old))
-        (λ _. (was : Part) × (get depot.old.store ix ≡ Some was)
-        × (depot.new.store ≡ rebound depot.old.store ix (record was { count = count }))) }
+    ensures { UpdatesAt depot.old ix (with_count count) result depot.new }
 {
     depot.modify_at(ix, |part| part.count = count)
 }

@@ -2,13 +2,13 @@
 //!
 //! A type without values names each key, and pairs of key indexes put the four together. The place of a key in them is
 //! the type that a look-up names.
-ghost use Rattle.std.specs.Prelude.{◌≡◌, ◌==◌, false, ◌↔◌, option_copied, IfOk, IfErr, OnOk, OnErr, MatchOption};
+ghost use Rattle.std.specs.Prelude.{◌≡◌, ◌==◌, false, ◌↔◌, option_copied, IfOk, IfErr, OnOk, OnErr};
 ghost use Rattle.iddqd_maps.specs.Map.{FindsItem, Removes};
 ghost use Rattle.iddqd_maps.specs.Scan.{AnswersScan, HasNoHit};
 ghost use Rattle.iddqd_maps.specs.Store.{inserted, next_index};
-ghost use Rattle.uses.specs.Devices.{has_address, has_serial, is_named, share_key, SetsPorts};
+ghost use Rattle.uses.specs.Devices.{has_address, has_serial, is_named, share_key, with_ports};
 ghost use Rattle.uses.specs.Exchanges.{Exchanges, IsKeyTaken, IsWhyNot, IsWhyNotAdded, IsWhyNotTakenOver, TakesOver};
-ghost use Rattle.uses.specs.declared.devices.Device.{Device};
+ghost use Rattle.uses.specs.Updates.{Updates};
 
 use iddqd_maps::by_hash::ByHash;
 use iddqd_maps::item_index::ItemIndex;
@@ -155,8 +155,7 @@ pub fn named<'a>(devices: &'a Devices, name: &str) -> Option<&'a Device>
 /// Notes how many ports the device at this address has; none exactly where there is no such device. It keeps its keys,
 /// and no table is touched.
 pub fn set_ports(devices: &mut Devices, address: u32, ports: u32) -> Option<()>
-    ensures { MatchOption result (HasNoHit devices.old.store (has_address address) × (devices.new ≡ devices.old))
-        (λ _. SetsPorts (has_address address) ports devices.old devices.new) }
+    ensures { Updates devices.old (has_address address) (with_ports ports) result devices.new }
 {
     devices.modify_by::<ByAddress, _, _, _>(&address, |device| device.ports = ports)
 }

@@ -1,15 +1,14 @@
 //! A diary of appointments: the calls of keyed items that `calendar` and `guests` don't make, and what each promises.
-ghost use Rattle.std.specs.Prelude.{◌≡◌, ◌↔◌, ◌≤◌, ◌+◌, ℕ, IsTrue, Some, None, IfSome, IfOk, OnOk, MatchOption, filter, min, nat_le};
+ghost use Rattle.std.specs.Prelude.{◌≡◌, ◌↔◌, ◌≤◌, ◌+◌, IsTrue, None, IfNone, IfSome, OnSome, IfOk, OnOk, MatchOption, filter, min, nat_le};
 ghost use Rattle.std.specs.Bool.{OnTrue, OnFalse};
-ghost use Rattle.std.specs.Ordering.{nat_cmp, eq_by_cmp};
 ghost use Rattle.iddqd_maps.specs.LiveItems.{live_pairs};
 ghost use Rattle.iddqd_keyed.specs.Scan.{AnswersScan, IsHit};
-ghost use Rattle.iddqd_keyed.specs.Store.{get, inserted, live_count, rebound};
+ghost use Rattle.iddqd_keyed.specs.Store.{get, inserted, live_count};
 ghost use Rattle.iddqd_keyed.specs.{capacity, empty_state, empty_state_within, no_memory, room, reservable};
 ghost use Rattle.iddqd_keyed.specs.{IsInSync, first_key_index, second_key_index};
 ghost use Rattle.uses.specs.Calendar.{IsBooked, HasNone};
-ghost use Rattle.uses.specs.Diary.{Cancels, Extends};
-ghost use Rattle.uses.specs.declared.calendar.Appointment.{Appointment};
+ghost use Rattle.uses.specs.Diary.{lasting, starts_at, Cancels, Extends};
+ghost use Rattle.uses.specs.Updates.{UpdatesItem};
 
 use crate::calendar::Appointment;
 use iddqd_keyed::keyed_items::{InsertRefusal, Keyed, KeyedItems};
@@ -41,17 +40,17 @@ pub fn pages(diary: &Diary) -> Iter<'_, Appointment>
     diary.iter()
 }
 
-/// The index of an appointment that starts then. While the table of starts is in order, it is the one, and none exactly
+/// The index of an appointment that starts then. While the table of starts is in sync, it is the one, and none exactly
 /// where no appointment does.
 pub fn page(diary: &Diary, start: u32) -> Option<ItemIndex>
-    ensures found { IfSome result (IsHit diary.now.state.store (λ a. eq_by_cmp nat_cmp start a.start)) }
+    ensures found { IfSome result (IsHit diary.now.state.store (starts_at start)) }
     ensures in_order { IsInSync (second_key_index ⟦<Diary as Keyed>⟧.keys) diary.now.state →
-        AnswersScan diary.now.state.store (λ a. eq_by_cmp nat_cmp start a.start) result }
+        AnswersScan diary.now.state.store (starts_at start) result }
 {
     diary.find2_by(&start)
 }
 
-/// An appointment that starts then. While the table of starts is in order, it is none only where no appointment does.
+/// An appointment that starts then. While the table of starts is in sync, it is none only where no appointment does.
 pub fn starting(diary: &Diary, start: u32) -> Option<Appointment>
     ensures found { IfSome result (λ a. IsBooked diary.now.state.store a × (a.start ≡ start)) }
     ensures missed { IsInSync (second_key_index ⟦<Diary as Keyed>⟧.keys) diary.now.state →
@@ -72,7 +71,7 @@ pub fn cancel(diary: &mut Diary, start: u32) -> Option<(ItemIndex, Appointment)>
     diary.remove2_by(&start)
 }
 
-/// Lets the appointment with this number take so long, if it is found. While the table of numbers is in order, it is
+/// Lets the appointment with this number take so long, if it is found. While the table of numbers is in sync, it is
 /// none only where no appointment has the number. It takes no memory.
 pub fn extend(diary: &mut Diary, number: u32, minutes: u32) -> Option<()>
     ensures extended { MatchOption result (diary.new.state ≡ diary.old.state)
@@ -97,10 +96,10 @@ pub fn extend_starting(diary: &mut Diary, start: u32, minutes: u32) -> Option<()
 
 /// The same of the one at an index; none exactly where there is none.
 pub fn extend_at(diary: &mut Diary, ix: ItemIndex, minutes: u32) -> Option<()>
-    ensures extended { MatchOption result
-        ((get diary.old.state.store ix ≡ None) × (diary.new.state ≡ diary.old.state))
-        (λ _. (was : Appointment) × (get diary.old.state.store ix ≡ Some was)
-        × (diary.new.state.store ≡ rebound diary.old.state.store ix (record was { minutes = minutes }))) }
+    ensures extended { OnSome result
+        (UpdatesItem diary.old.state.store ix (lasting minutes) diary.new.state.store) }
+    ensures none { IfNone result (get diary.old.state.store ix ≡ None) }
+    ensures unchanged { IfNone result (diary.new.state ≡ diary.old.state) }
     ensures memory { diary.new.memory ≡ diary.old.memory }
 {
     diary.modify_at(ix, |appointment| appointment.minutes = minutes)

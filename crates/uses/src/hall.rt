@@ -1,16 +1,16 @@
 //! A hall of seats: the calls of a map with three keys that `seats` and `leases` don't make, and what each promises.
-ghost use Rattle.std.specs.Prelude.{◌≡◌, ◌⊎◌, ◌≤◌, ◌==◌, ◌↔◌, ℕ, false, true, length, min, filter, Some, None, MatchOption, IfOk, IfErr, OnOk, OnErr};
+ghost use Rattle.std.specs.Prelude.{◌≡◌, ◌⊎◌, ◌≤◌, ◌==◌, ◌↔◌, false, true, length, min, filter, Some, IfOk, IfErr, OnOk, OnErr};
 ghost use Rattle.iddqd_maps.specs.Compaction.{compacted};
 ghost use Rattle.iddqd_maps.specs.LiveItems.{live_items, live_pairs};
-ghost use Rattle.iddqd_maps.specs.Map.{FindsItem, IsOnly, Removes, RemovesAt, empty_map, room};
+ghost use Rattle.iddqd_maps.specs.Map.{FindsItem, Removes, RemovesAt, empty_map, room};
 ghost use Rattle.iddqd_maps.specs.Scan.{AnswersScan, HasNoHit};
 ghost use Rattle.iddqd_maps.specs.Sizes.{insertable};
 ghost use Rattle.iddqd_maps.specs.Store.{cleared, get, live_count, rebound, slot_limit};
 ghost use Rattle.iddqd_maps.specs.Validation.{Tells, Validates, not_compact_text};
 ghost use Rattle.iddqd_maps.specs.ThreeKeys.{AreTaken};
 ghost use Rattle.uses.specs.Exchanges.{Exchanges, IsWhyNot, IsWhyNotAt};
-ghost use Rattle.uses.specs.Seats.{has_guest, has_place, has_ticket, same_guest, same_place, same_ticket, share_key};
-ghost use Rattle.uses.specs.declared.seats.Seat.{Seat};
+ghost use Rattle.uses.specs.Seats.{has_guest, has_place, has_ticket, same_guest, same_place, same_ticket, share_key, with_payment};
+ghost use Rattle.uses.specs.Updates.{Updates, UpdatesAt};
 
 use crate::hashers::Base31;
 use crate::seats::Seat;
@@ -173,36 +173,28 @@ pub fn into_all(hall: Hall) -> IntoValues<Seat>
 
 /// Notes that the seat at a place is paid; none exactly where there is none.
 pub fn pay(hall: &mut Hall, place: u32) -> Option<()>
-    ensures { MatchOption result (HasNoHit hall.old.store (has_place place) × (hall.new ≡ hall.old))
-        (λ _. (ix : ℕ) × (was : Seat) × IsOnly hall.old.store (has_place place) ix was
-        × (hall.new.store ≡ rebound hall.old.store ix (record was { is_paid = true }))) }
+    ensures { Updates hall.old (has_place place) with_payment result hall.new }
 {
     hall.modify1(&place, |seat| seat.is_paid = true)
 }
 
 /// The same of the seat of a guest.
 pub fn pay_for(hall: &mut Hall, guest: u32) -> Option<()>
-    ensures { MatchOption result (HasNoHit hall.old.store (has_guest guest) × (hall.new ≡ hall.old))
-        (λ _. (ix : ℕ) × (was : Seat) × IsOnly hall.old.store (has_guest guest) ix was
-        × (hall.new.store ≡ rebound hall.old.store ix (record was { is_paid = true }))) }
+    ensures { Updates hall.old (has_guest guest) with_payment result hall.new }
 {
     hall.modify2(&guest, |seat| seat.is_paid = true)
 }
 
 /// The same of the seat of a ticket.
 pub fn pay_ticket(hall: &mut Hall, ticket: u32) -> Option<()>
-    ensures { MatchOption result (HasNoHit hall.old.store (has_ticket ticket) × (hall.new ≡ hall.old))
-        (λ _. (ix : ℕ) × (was : Seat) × IsOnly hall.old.store (has_ticket ticket) ix was
-        × (hall.new.store ≡ rebound hall.old.store ix (record was { is_paid = true }))) }
+    ensures { Updates hall.old (has_ticket ticket) with_payment result hall.new }
 {
     hall.modify3(&ticket, |seat| seat.is_paid = true)
 }
 
 /// The same of the seat at an index.
 pub fn pay_at(hall: &mut Hall, ix: ItemIndex) -> Option<()>
-    ensures { MatchOption result ((get hall.old.store ix ≡ None) × (hall.new ≡ hall.old))
-        (λ _. (was : Seat) × (get hall.old.store ix ≡ Some was)
-        × (hall.new.store ≡ rebound hall.old.store ix (record was { is_paid = true }))) }
+    ensures { UpdatesAt hall.old ix with_payment result hall.new }
 {
     hall.modify_at(ix, |seat| seat.is_paid = true)
 }

@@ -2,11 +2,9 @@
 //!
 //! The map's own hasher is quick, and its seed is fixed. Keys that strangers choose want one whose seed is drawn anew,
 //! as std's `RandomState`. A hasher of one's own is two traits, and its ghost members say what it computes.
-ghost use Rattle.std.specs.Prelude.{◌≡◌, ◌==◌, ◌+◌, ◌*◌, ◌%◌, ◌^◌, ℕ, MatchOption};
+ghost use Rattle.std.specs.Prelude.{◌≡◌, ◌==◌, ◌+◌, ◌*◌, ◌%◌, ◌^◌};
 ghost use Rattle.std.specs.List.{fold};
-ghost use Rattle.iddqd_maps.specs.Map.{IsOnly};
-ghost use Rattle.iddqd_maps.specs.Scan.{HasNoHit};
-ghost use Rattle.uses.specs.declared.hashers.Ticket.{Ticket};
+ghost use Rattle.uses.specs.Updates.{FindsField};
 
 use iddqd_maps::id_hash_map::{IdHashItem, IdHashMap};
 use std::alloc::{AllocError, Global};
@@ -71,9 +69,7 @@ pub fn guarded(
 
 /// The row of the ticket with this number, under any hasher; none exactly where there is no such ticket.
 pub fn row<S: BuildHasher>(tickets: &IdHashMap<Ticket, S>, number: u64) -> Option<u32>
-    ensures { let numbered = λ (ticket : Ticket). number == ticket.number in
-        MatchOption result (HasNoHit tickets.now.store numbered)
-        (λ row. (ix : ℕ) × (ticket : Ticket) × IsOnly tickets.now.store numbered ix ticket × (ticket.row ≡ row)) }
+    ensures { FindsField tickets.now.store (λ ticket. number == ticket.number) (λ ticket. ticket.row) result }
 {
     match tickets.get(&number) {
         Some(ticket) => Some(ticket.row),

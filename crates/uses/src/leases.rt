@@ -1,10 +1,7 @@
 //! Three unique keys: a new item displaces each that shares one of its keys, so up to three.
-ghost use Rattle.std.specs.Prelude.{◌≡◌, ℕ, MatchOption};
-ghost use Rattle.std.specs.Str.{bytes_eq};
-ghost use Rattle.std.specs.String.{string_bytes};
-ghost use Rattle.iddqd_maps.specs.Map.{IsOnly};
-ghost use Rattle.iddqd_maps.specs.Scan.{HasNoHit};
-ghost use Rattle.uses.specs.declared.leases.Lease.{Lease};
+ghost use Rattle.std.specs.Prelude.{◌≡◌, IfOk, IfErr, OnErr, count_by, is_some};
+ghost use Rattle.uses.specs.Leases.{has_name, Grants, IsWhyNotGranted};
+ghost use Rattle.uses.specs.Updates.{FindsField};
 
 use iddqd_maps::refusal::OverwriteRefusal;
 use iddqd_maps::tri_hash_map::{TriHashItem, TriHashMap};
@@ -44,25 +41,39 @@ impl TriHashItem for Lease {
     }
 }
 
-/// Grants a lease, which ends those of its address, of its device and of its name: how many they were.
-pub fn grant(leases: &mut TriHashMap<Lease>, lease: Lease) -> Result<usize, &'static str> {
+/// Why a lease wasn't granted.
+#[derive(Clone, Copy, Debug, PartialEq, Eq)]
+pub enum GrantError {
+    /// There are as many leases as the limit allows, and none would end.
+    Full,
+    /// There was no room for another lease, none would end, and memory ran out.
+    Memory,
+}
+
+/// Grants a lease, which ends those of its address, of its device and of its name, and returns how many they were. It
+/// is refused only where there are none.
+pub fn grant(leases: &mut TriHashMap<Lease>, lease: Lease) -> Result<usize, GrantError>
+    ensures granted { IfOk result (λ count. Grants lease count leases.old leases.new) }
+    ensures refused { IfErr result (IsWhyNotGranted lease leases.old) }
+    ensures unchanged { OnErr result (leases.new.store ≡ leases.old.store) }
+{
     match leases.insert_overwrite(lease) {
         Ok(granted) => Ok(count_of(&granted.1)),
-        Err(OverwriteRefusal::Full(_)) => Err("there are too many leases"),
-        Err(OverwriteRefusal::Memory(_)) => Err("no memory"),
+        Err(OverwriteRefusal::Full(_)) => Err(GrantError::Full),
+        Err(OverwriteRefusal::Memory(_)) => Err(GrantError::Memory),
     }
 }
 
 // How many leases there are.
-fn count_of(leases: &[Option<Lease>; 3]) -> usize {
+fn count_of(leases: &[Option<Lease>; 3]) -> usize
+    ensures { result ≡ count_by is_some leases.now }
+{
     leases.iter().filter(|lease| lease.is_some()).count()
 }
 
 /// The device that has the lease of this name; none exactly where there is no such lease.
 pub fn device(leases: &TriHashMap<Lease>, name: &str) -> Option<u64>
-    ensures { let named = λ (lease : Lease). bytes_eq name.now (string_bytes lease.name) in
-        MatchOption result (HasNoHit leases.now.store named)
-        (λ device. (ix : ℕ) × (lease : Lease) × IsOnly leases.now.store named ix lease × (lease.device ≡ device)) }
+    ensures { FindsField leases.now.store (has_name name.now) (λ lease. lease.device) result }
 {
     match leases.get3(name) {
         Some(lease) => Some(lease.device),
@@ -74,7 +85,7 @@ fn granted(
     alloc: Global,
     leases: &mut TriHashMap<Lease>,
     (address, device, name): (u32, u64, &str),
-) -> Result<Result<usize, &'static str>, AllocError> {
+) -> Result<Result<usize, GrantError>, AllocError> {
     let name = String::from_str(alloc, name)?;
     Ok(grant(
         leases,

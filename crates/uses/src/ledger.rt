@@ -9,7 +9,8 @@ ghost use Rattle.iddqd_maps.specs.Range.{indexes_ahead};
 ghost use Rattle.iddqd_maps.specs.Scan.{HasNoHit};
 ghost use Rattle.iddqd_maps.specs.Store.{inserted, live_count, next_index};
 ghost use Rattle.uses.specs.Drops.{Drops};
-ghost use Rattle.uses.specs.Ledger.{IsWhyRefused};
+ghost use Rattle.uses.specs.Exchanges.{IsWhyNotAdded};
+ghost use Rattle.uses.specs.Ledger.{shares_number};
 ghost use Rattle.uses.specs.declared.ledger.Order.{Order};
 
 use iddqd_maps::btree_table::Range;
@@ -97,9 +98,9 @@ pub type Ledger = Map<Order, Pair<ByHash<Number, u64>, Shared, Taken>>;
 /// Adds an order, unless another one has its number.
 pub fn add(ledger: &mut Ledger, order: Order) -> Result<ItemIndex, InsertRefusal<Order, Taken>>
     ensures index { IfOk result (λ ix. ix ≡ next_index ledger.old.store) }
-    ensures unlike { OnOk result (HasNoHit ledger.old.store (λ other. order.number == other.number)) }
+    ensures unlike { OnOk result (HasNoHit ledger.old.store (shares_number order)) }
     ensures stored { OnOk result (ledger.new.store ≡ inserted ledger.old.store order) }
-    ensures refused { IfErr result (IsWhyRefused ledger.old order) }
+    ensures refused { IfErr result (IsWhyNotAdded shares_number order ledger.old) }
     ensures unchanged { OnErr result (ledger.new.store ≡ ledger.old.store) }
 {
     ledger.insert_unique(order)

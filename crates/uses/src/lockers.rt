@@ -1,16 +1,16 @@
 //! Lockers and their holders: the calls of a map with two keys that `badges` doesn't make, and what each promises.
-ghost use Rattle.std.specs.Prelude.{◌≡◌, ◌⊎◌, ◌≤◌, ◌==◌, ◌↔◌, ℕ, false, true, length, min, not, filter, Some, None, MatchOption, IfOk, IfErr, OnOk, OnErr};
+ghost use Rattle.std.specs.Prelude.{◌≡◌, ◌⊎◌, ◌≤◌, ◌==◌, ◌↔◌, false, true, length, min, not, filter, Some, IfOk, IfErr, OnOk, OnErr};
 ghost use Rattle.iddqd_maps.specs.Compaction.{compacted};
 ghost use Rattle.iddqd_maps.specs.LiveItems.{live_items, live_pairs};
-ghost use Rattle.iddqd_maps.specs.Map.{FindsItem, IsOnly, Removes, RemovesAt, empty_map, room};
+ghost use Rattle.iddqd_maps.specs.Map.{FindsItem, Removes, RemovesAt, empty_map, room};
 ghost use Rattle.iddqd_maps.specs.Scan.{AnswersScan, HasNoHit};
 ghost use Rattle.iddqd_maps.specs.Sizes.{insertable};
 ghost use Rattle.iddqd_maps.specs.Store.{cleared, get, live_count, rebound, slot_limit};
 ghost use Rattle.iddqd_maps.specs.Validation.{Tells, Validates, not_compact_text};
 ghost use Rattle.iddqd_maps.specs.TwoKeys.{AreTaken};
 ghost use Rattle.uses.specs.Exchanges.{Exchanges, IsWhyNot, IsWhyNotAt, IsWhyNotTakenOver, TakesOver};
-ghost use Rattle.uses.specs.Lockers.{has_holder, has_number, same_holder, same_number, share_key};
-ghost use Rattle.uses.specs.declared.lockers.Locker.{Locker};
+ghost use Rattle.uses.specs.Lockers.{has_holder, has_number, opened_at, same_holder, same_number, share_key};
+ghost use Rattle.uses.specs.Updates.{Updates, UpdatesAt};
 
 use crate::hashers::Base31;
 use iddqd_maps::bi_hash_map::{BiClash, BiHashItem, BiHashMap};
@@ -209,27 +209,21 @@ pub fn hand_over(
 
 /// Notes when the locker of this number was opened; none exactly where there is none.
 pub fn open(lockers: &mut Lockers, number: u32, time: u32) -> Option<()>
-    ensures { MatchOption result (HasNoHit lockers.old.store (has_number number) × (lockers.new ≡ lockers.old))
-        (λ _. (ix : ℕ) × (was : Locker) × IsOnly lockers.old.store (has_number number) ix was
-        × (lockers.new.store ≡ rebound lockers.old.store ix (record was { opened = time }))) }
+    ensures { Updates lockers.old (has_number number) (opened_at time) result lockers.new }
 {
     lockers.modify1(&number, |locker| locker.opened = time)
 }
 
 /// The same of the locker that somebody has.
 pub fn open_by(lockers: &mut Lockers, holder: u32, time: u32) -> Option<()>
-    ensures { MatchOption result (HasNoHit lockers.old.store (has_holder holder) × (lockers.new ≡ lockers.old))
-        (λ _. (ix : ℕ) × (was : Locker) × IsOnly lockers.old.store (has_holder holder) ix was
-        × (lockers.new.store ≡ rebound lockers.old.store ix (record was { opened = time }))) }
+    ensures { Updates lockers.old (has_holder holder) (opened_at time) result lockers.new }
 {
     lockers.modify2(&holder, |locker| locker.opened = time)
 }
 
 /// The same of the locker at an index.
 pub fn open_at(lockers: &mut Lockers, ix: ItemIndex, time: u32) -> Option<()>
-    ensures { MatchOption result ((get lockers.old.store ix ≡ None) × (lockers.new ≡ lockers.old))
-        (λ _. (was : Locker) × (get lockers.old.store ix ≡ Some was)
-        × (lockers.new.store ≡ rebound lockers.old.store ix (record was { opened = time }))) }
+    ensures { UpdatesAt lockers.old ix (opened_at time) result lockers.new }
 {
     lockers.modify_at(ix, |locker| locker.opened = time)
 }

@@ -1,12 +1,11 @@
 //! A query type of one's own: a key of two texts, looked up by two texts that are lent.
-ghost use Rattle.std.specs.Prelude.{◌≡◌, ◌&&◌, ◌++◌, ℕ, MatchOption};
+ghost use Rattle.std.specs.Prelude.{◌≡◌, ◌&&◌, ◌++◌};
 ghost use Rattle.std.specs.Hash as fed;
 ghost use Rattle.std.specs.Str.{bytes_eq};
 ghost use Rattle.std.specs.String.{string_bytes};
-ghost use Rattle.iddqd_maps.specs.Map.{IsOnly};
-ghost use Rattle.iddqd_maps.specs.Scan.{HasNoHit};
 ghost use Rattle.uses.specs.RouteLaws.{same_texts, same_answer};
-ghost use Rattle.uses.specs.declared.routes.Route.{Route};
+ghost use Rattle.uses.specs.Routes.{runs_between};
+ghost use Rattle.uses.specs.Updates.{FindsField};
 
 use iddqd_maps::hash_query::HashQuery;
 use iddqd_maps::id_hash_map::{IdHashItem, IdHashMap};
@@ -61,10 +60,7 @@ impl HashQuery<Ends> for Between<'_> {
 
 /// How long the route between two places is; none exactly where there is no such route.
 pub fn miles(routes: &IdHashMap<Route>, from: &str, to: &str) -> Option<u32>
-    ensures { let between = λ (route : Route).
-        bytes_eq from.now (string_bytes route.ends.from) && bytes_eq to.now (string_bytes route.ends.to) in
-        MatchOption result (HasNoHit routes.now.store between)
-        (λ miles. (ix : ℕ) × (route : Route) × IsOnly routes.now.store between ix route × (route.miles ≡ miles)) }
+    ensures { FindsField routes.now.store (runs_between from.now to.now) (λ route. route.miles) result }
 {
     match routes.get(Between { from, to }) {
         Some(route) => Some(route.miles),

@@ -1,9 +1,8 @@
 //! Three unique keys of plain numbers: an item that is found by one of them gets another one, and keeps its index.
-ghost use Rattle.std.specs.Prelude.{◌≡◌, false, IfOk, IfErr, MatchOption, OnErr};
-ghost use Rattle.iddqd_maps.specs.Scan.{HasNoHit};
+ghost use Rattle.std.specs.Prelude.{◌≡◌, false, IfOk, IfErr, OnErr};
 ghost use Rattle.iddqd_maps.specs.ThreeKeys.{AreTaken};
-ghost use Rattle.uses.specs.Exchanges.{Exchanges, IsWhyNotChanged};
-ghost use Rattle.uses.specs.Seats.{has_guest, has_place, has_ticket, same_guest, same_place, same_ticket, share_key};
+ghost use Rattle.uses.specs.Exchanges.{ExchangesIfFound, IsWhyNotChanged};
+ghost use Rattle.uses.specs.Seats.{has_guest, has_place, has_ticket, same_guest, same_place, same_ticket, share_key, with_guest, with_place, with_ticket};
 
 use iddqd_maps::refusal::ReplaceRefusal;
 use iddqd_maps::tri_hash_map::{TriClash, TriHashItem, TriHashMap};
@@ -53,12 +52,11 @@ pub fn give_to(
     place: u32,
     guest: u32,
 ) -> Result<Option<Seat>, Refusal>
-    ensures given { IfOk result (λ found. MatchOption found
-        (HasNoHit seats.old.store (has_place place) × (seats.new ≡ seats.old))
-        (λ was. Exchanges share_key (has_place place) (record was { guest = guest }) seats.old was seats.new)) }
+    ensures given { IfOk result
+        (λ found. ExchangesIfFound share_key (has_place place) (with_guest guest) seats.old found seats.new) }
     ensures refused { IfErr result
         (IsWhyNotChanged (AreTaken same_place same_guest same_ticket) false
-        (has_place place) (λ seat. record seat { guest = guest }) seats.old) }
+        (has_place place) (with_guest guest) seats.old) }
     ensures unchanged { OnErr result (seats.new ≡ seats.old) }
 {
     seats.change1(&place, |seat| Seat { guest, ..*seat })
@@ -71,12 +69,11 @@ pub fn reissue(
     guest: u32,
     ticket: u32,
 ) -> Result<Option<Seat>, Refusal>
-    ensures reissued { IfOk result (λ found. MatchOption found
-        (HasNoHit seats.old.store (has_guest guest) × (seats.new ≡ seats.old))
-        (λ was. Exchanges share_key (has_guest guest) (record was { ticket = ticket }) seats.old was seats.new)) }
+    ensures reissued { IfOk result
+        (λ found. ExchangesIfFound share_key (has_guest guest) (with_ticket ticket) seats.old found seats.new) }
     ensures refused { IfErr result
         (IsWhyNotChanged (AreTaken same_place same_guest same_ticket) false
-        (has_guest guest) (λ seat. record seat { ticket = ticket }) seats.old) }
+        (has_guest guest) (with_ticket ticket) seats.old) }
     ensures unchanged { OnErr result (seats.new ≡ seats.old) }
 {
     seats.change2(&guest, |seat| Seat { ticket, ..*seat })
@@ -89,12 +86,11 @@ pub fn move_to(
     ticket: u32,
     place: u32,
 ) -> Result<Option<Seat>, Refusal>
-    ensures moved { IfOk result (λ found. MatchOption found
-        (HasNoHit seats.old.store (has_ticket ticket) × (seats.new ≡ seats.old))
-        (λ was. Exchanges share_key (has_ticket ticket) (record was { place = place }) seats.old was seats.new)) }
+    ensures moved { IfOk result
+        (λ found. ExchangesIfFound share_key (has_ticket ticket) (with_place place) seats.old found seats.new) }
     ensures refused { IfErr result
         (IsWhyNotChanged (AreTaken same_place same_guest same_ticket) false
-        (has_ticket ticket) (λ seat. record seat { place = place }) seats.old) }
+        (has_ticket ticket) (with_place place) seats.old) }
     ensures unchanged { OnErr result (seats.new ≡ seats.old) }
 {
     seats.change3(&ticket, |seat| Seat { place, ..*seat })

@@ -1,11 +1,11 @@
 //! A mix of hashes and an order: sessions by their ids and tokens, and in the order in which they end.
-ghost use Rattle.std.specs.Prelude.{◌≡◌, ◌==◌, ◌≤◌, ◌+◌, ℕ, true, Some, MatchOption, IfOk, IfErr, OnOk, OnErr, filter, nat_lt};
+ghost use Rattle.std.specs.Prelude.{◌≡◌, ◌==◌, ◌+◌, ℕ, true, IfNone, IfSome, IfOk, IfErr, OnOk, OnErr, filter, nat_lt};
 ghost use Rattle.iddqd_maps.specs.LiveItems.{live_pairs};
 ghost use Rattle.iddqd_maps.specs.Map.{FindsItem, Removes};
 ghost use Rattle.iddqd_maps.specs.Scan.{HasNoHit};
-ghost use Rattle.iddqd_maps.specs.Store.{get, inserted, live_count, next_index};
-ghost use Rattle.uses.specs.Exchanges.{Exchanges, IsKeyTaken, IsWhyNotAdded, IsWhyNotChanged};
-ghost use Rattle.uses.specs.Sessions.{ending, has_id, share_key};
+ghost use Rattle.iddqd_maps.specs.Store.{inserted, live_count, next_index};
+ghost use Rattle.uses.specs.Exchanges.{ExchangesIfFound, IsKeyTaken, IsWhyNotAdded, IsWhyNotChanged};
+ghost use Rattle.uses.specs.Sessions.{ending, has_id, share_key, EndsFirst};
 ghost use Rattle.uses.specs.declared.sessions.Session.{Session};
 
 use iddqd_maps::by_hash::ByHash;
@@ -114,9 +114,8 @@ pub fn extend(
     id: u64,
     ends: u64,
 ) -> Result<Option<Session>, ReplaceRefusal<Session, Taken>>
-    ensures extended { IfOk result (λ found. MatchOption found
-        (HasNoHit sessions.old.store (has_id id) × (sessions.new ≡ sessions.old))
-        (λ was. Exchanges share_key (has_id id) (ending ends was) sessions.old was sessions.new)) }
+    ensures extended { IfOk result
+        (λ found. ExchangesIfFound share_key (has_id id) (ending ends) sessions.old found sessions.new) }
     ensures refused { IfErr result
         (IsWhyNotChanged (IsKeyTaken share_key) true (has_id id) (ending ends) sessions.old) }
     ensures unchanged { OnErr result (sessions.new ≡ sessions.old) }
@@ -126,9 +125,8 @@ pub fn extend(
 
 // The index of the session that ends next.
 fn first_to_end(sessions: &Sessions) -> Option<ItemIndex>
-    ensures { MatchOption result (live_count sessions.now.store ≡ 0) (λ ix. (session : Session)
-        × (get sessions.now.store ix ≡ Some session)
-        × ((j : ℕ) (other : Session) → get sessions.now.store j ≡ Some other → session.ends ≤ other.ends)) }
+    ensures next { IfSome result (λ ix. (session : Session) × EndsFirst sessions.now.store ix session) }
+    ensures none { IfNone result (live_count sessions.now.store ≡ 0) }
 {
     let Parts {
         items,
@@ -140,9 +138,8 @@ fn first_to_end(sessions: &Sessions) -> Option<ItemIndex>
 
 /// The session that ends next; none exactly where there is no session.
 pub fn next_to_end(sessions: &Sessions) -> Option<Session>
-    ensures { MatchOption result (live_count sessions.now.store ≡ 0) (λ session. (ix : ℕ)
-        × (get sessions.now.store ix ≡ Some session)
-        × ((j : ℕ) (other : Session) → get sessions.now.store j ≡ Some other → session.ends ≤ other.ends)) }
+    ensures next { IfSome result (λ session. (ix : ℕ) × EndsFirst sessions.now.store ix session) }
+    ensures none { IfNone result (live_count sessions.now.store ≡ 0) }
 {
     sessions.get_at(first_to_end(sessions)?).copied()
 }

@@ -1,12 +1,12 @@
 //! Refusals, by what they mean to a caller: a duplicate is merged, and where room was taken ahead memory isn't refused.
-ghost use Rattle.std.specs.Prelude.{◌≡◌, ◌≤◌, ◌==◌, ◌⊎◌, ◌+◌, ◌-◌, ◌^◌, ℕ, Some, length, min, IsOk, IfOk, IfErr, IfSome, OnOk, OnErr};
+ghost use Rattle.std.specs.Prelude.{◌≡◌, ◌≤◌, ◌==◌, ◌⊎◌, ℕ, Some, length, IsOk, IfOk, IfErr, IfSome, OnOk, OnErr};
 ghost use Rattle.std.specs.Bool.{OnTrue, OnFalse};
 ghost use Rattle.iddqd_maps.specs.Map.{FindsItem, IsOnly, room};
 ghost use Rattle.iddqd_maps.specs.Scan.{HasNoHit};
 ghost use Rattle.iddqd_maps.specs.Store.{IsFull, get, inserted, next_index, rebound};
 ghost use Rattle.iddqd_maps.specs.Validation.{Tells, Validates, not_compact_text};
 ghost use Rattle.uses.specs.Exchanges.{Exchanges};
-ghost use Rattle.uses.specs.Stock.{has_kind, same_kind, with_one_less, IsWhyRefused};
+ghost use Rattle.uses.specs.Stock.{has_kind, same_kind, sum_of, with_one_less, IsWhyNotStored};
 ghost use Rattle.uses.specs.declared.stock.Part.{Part};
 
 use iddqd_maps::id_hash_map::{IdHashItem, IdHashMap};
@@ -46,7 +46,7 @@ pub fn add(stock: &mut IdHashMap<Part>, part: Part) -> Result<ItemIndex, Refused
     requires { 1 ≤ room stock.old }
     ensures index { IfOk result (λ ix. ix ≡ next_index stock.old.store) }
     ensures stored { OnOk result (stock.new.store ≡ inserted stock.old.store part) }
-    ensures refused { IfErr result (IsWhyRefused part stock.old.store) }
+    ensures refused { IfErr result (IsWhyNotStored part stock.old.store) }
     ensures unchanged { OnErr result (stock.new.store ≡ stock.old.store) }
 {
     match stock.insert_unique(part) {
@@ -62,9 +62,9 @@ pub fn add(stock: &mut IdHashMap<Part>, part: Part) -> Result<ItemIndex, Refused
 pub fn merge(stock: &mut IdHashMap<Part>, part: Part) -> Result<(), Part>
     ensures added { HasNoHit stock.old.store (same_kind part) → OnOk result
         (stock.new.store ≡ inserted stock.old.store part) }
-    ensures merged { (ix : ℕ) (was : Part) → IsOnly stock.old.store (same_kind part) ix was → IsOk result
-        × (stock.new.store ≡ rebound stock.old.store ix
-        (record was { count = min (was.count + part.count) (2 ^ 32 - 1) })) }
+    ensures taken { (ix : ℕ) (was : Part) → IsOnly stock.old.store (same_kind part) ix was → IsOk result }
+    ensures merged { (ix : ℕ) (was : Part) → IsOnly stock.old.store (same_kind part) ix was →
+        stock.new.store ≡ rebound stock.old.store ix (sum_of part was) }
     ensures refused { IfErr result (λ back. (back ≡ part) × HasNoHit stock.old.store (same_kind part)
         × (IsFull stock.old.store ⊎ (room stock.old ≡ 0))) }
     ensures unchanged { OnErr result (stock.new.store ≡ stock.old.store) }

@@ -1,11 +1,12 @@
 //! Items whose key is a text of their own. A text that is lent looks them up, so none is copied for it.
-ghost use Rattle.std.specs.Prelude.{◌≡◌, ◌≤◌, ℕ, MatchOption, IfOk, IfErr, OnOk, OnErr, filter};
+ghost use Rattle.std.specs.Prelude.{◌≡◌, ◌≤◌, MatchOption, IfOk, IfErr, OnOk, OnErr, filter};
 ghost use Rattle.std.specs.String.{string_bytes};
 ghost use Rattle.iddqd_maps.specs.LiveItems.{live_pairs};
-ghost use Rattle.iddqd_maps.specs.Map.{IsOnly, Removes};
+ghost use Rattle.iddqd_maps.specs.Map.{Removes};
 ghost use Rattle.iddqd_maps.specs.Scan.{HasNoHit};
 ghost use Rattle.iddqd_maps.specs.Store.{inserted, live_count};
 ghost use Rattle.uses.specs.Exchanges.{Exchanges};
+ghost use Rattle.uses.specs.Updates.{FindsField};
 ghost use Rattle.uses.specs.Users.{has_logged_in, is_named, same_name, IsWhyNotRenamed, IsWhyNotSignedUp, LogsIn};
 ghost use Rattle.uses.specs.declared.users.User.{User};
 
@@ -52,8 +53,7 @@ pub enum RenameError {
 
 /// How often the user with this name logged in; none exactly where there is no such user.
 pub fn logins(users: &IdHashMap<User>, name: &str) -> Option<u32>
-    ensures { let named = is_named name.now in MatchOption result (HasNoHit users.now.store named)
-        (λ count. (ix : ℕ) × (user : User) × IsOnly users.now.store named ix user × (user.logins ≡ count)) }
+    ensures { FindsField users.now.store (is_named name.now) (λ user. user.logins) result }
 {
     match users.get(name) {
         Some(user) => Some(user.logins),

@@ -1,6 +1,6 @@
 //! Items in the order of a text of theirs, and a copy of some of them.
-ghost use Rattle.std.specs.Prelude.{◌↔◌, ◌≤◌, ℕ, List, IfOk};
-ghost use Rattle.uses.specs.Words.{IsListed};
+ghost use Rattle.std.specs.Prelude.{IfOk};
+ghost use Rattle.uses.specs.Words.{ListsUpTo};
 
 use iddqd_maps::id_ord_map::{IdOrdClone, IdOrdItem, IdOrdMap};
 use std::alloc::{AllocError, Global};
@@ -30,8 +30,7 @@ impl IdOrdClone for Word {
 
 /// A copy of the words that the book has up to a page, each under its index.
 pub fn up_to(words: &IdOrdMap<Word>, last: u32) -> Result<IdOrdMap<Word>, AllocError>
-    ensures { IfOk result (λ some. (ix : ℕ) (text : List ℕ) (page : ℕ) →
-        IsListed some.store ix text page ↔ (IsListed words.now.store ix text page × (page ≤ last))) }
+    ensures { IfOk result (λ some. ListsUpTo last words.now.store some.store) }
 {
     let mut some = words.clone()?;
     some.retain(|word| word.page <= last);

@@ -1,4 +1,4 @@
-use Rattle.std.proofs.Common.{arith, refl, sym, ap, subst, ◌∙◌, ◌≡◌, ◌≢◌, ◌-◌, ℕ, zero, suc, None, Some, Option, MatchOption, All, List, [], ◌∷◌, length, drop, get_or}
+use Rattle.std.proofs.Common.{arith, refl, sym, ap, subst, ◌∙◌, ◌≡◌, ◌≢◌, ◌-◌, ℕ, zero, suc, None, Some, Option, IfNone, IfSome, MatchOption, All, List, [], ◌∷◌, length, drop, get_or}
 use Rattle.std.proofs.lemmas.List.{length-drop, get_or_default}
 use Rattle.std.specs.Ordering.{ordering_then}
 use Rattle.std.specs.declared.cmp.Ordering.{Ordering}
@@ -44,14 +44,26 @@ none_less a xs place p over k d lt less =
     let never : Less ≡ Greater = subst (λ z. ordering_then z Greater ≡ Greater) here before in
     cc
 
-met_first :
+found_less :
     (a : ℕ → Ordering) (xs : List ℕ) (place : ℕ) (r : Option ℕ) (old new : List ℕ)
     → IsPlace (λ ix. ordering_then (a ix) Greater) xs place
     → old ≡ drop place xs
     → MatchOption r ((old ≡ []) × (new ≡ [])) (λ x. old ≡ x ∷ new)
-    → MatchOption r (All (λ ix. a ix ≢ Less) xs) (λ ix. a ix ≡ Less)
-met_first a xs place None old new p is gives = none_less a xs place p (sym is ∙ gives.0)
-met_first a xs place (Some x) old new p is gives = first_less a xs place x new p (sym is ∙ gives)
+    → IfSome r (λ ix. a ix ≡ Less)
+found_less a xs place None old new p is gives = tt
+found_less a xs place (Some x) old new p is gives = first_less a xs place x new p (sym is ∙ gives)
 
-pub returns : goal.returns
-returns g c answer rises = met_first answer (order_of c.args.table.now) c.iter_after_by.ensures.place c.next.result _ _ (c.iter_after_by.ensures.bound answer rises) c.iter_after_by.ensures.ahead c.next.ensures.steps
+none_found :
+    (a : ℕ → Ordering) (xs : List ℕ) (place : ℕ) (r : Option ℕ) (old new : List ℕ)
+    → IsPlace (λ ix. ordering_then (a ix) Greater) xs place
+    → old ≡ drop place xs
+    → MatchOption r ((old ≡ []) × (new ≡ [])) (λ x. old ≡ x ∷ new)
+    → IfNone r (All (λ ix. a ix ≢ Less) xs)
+none_found a xs place None old new p is gives = none_less a xs place p (sym is ∙ gives.0)
+none_found a xs place (Some x) old new p is gives = tt
+
+pub returns-clause-found : goal.returns-clause-found
+returns-clause-found g c answer rises = found_less answer (order_of c.args.table.now) c.iter_after_by.ensures.place c.next.result _ _ (c.iter_after_by.ensures.bound answer rises) c.iter_after_by.ensures.ahead c.next.ensures.steps
+
+pub returns-clause-none : goal.returns-clause-none
+returns-clause-none g c answer rises = none_found answer (order_of c.args.table.now) c.iter_after_by.ensures.place c.next.result _ _ (c.iter_after_by.ensures.bound answer rises) c.iter_after_by.ensures.ahead c.next.ensures.steps

@@ -1,4 +1,4 @@
-use Rattle.std.proofs.Common.{rules, ◌≡◌, false, refl}
+use Rattle.std.proofs.Common.{rules, false, refl}
 use Rattle.iddqd_maps.specs.Several.{both_keys}
 use Rattle.iddqd_maps.specs.TwoKeys.{AreTaken}
 use Rattle.uses.specs.Badges.{has_number, same_holder, same_number, share_key}
@@ -20,4 +20,4 @@ returns-in-Err-Duplicate-clause-refused c =
     not_changed share_key (both_keys same_number same_holder) false (AreTaken same_number same_holder) c.args.badges.now c.change1.new.self _ (λ (was : Badge). record { number = c.args.number; holder = c.args.holder }) (has_number c.args.number) c.change1.result c.change1.ensures.changes
     (λ was item (badge, returned, shows). search rules) in
     let (ix, was, only, (given, taken)) = rw (c.in-Err-Duplicate.is, c.in-Err-Duplicate.field-0-is) at refused in
-    (search rules, (ix, only.only, holder_taken c.args.badges.now.store (record { number = c.args.number; holder = c.args.holder }) ix _ _ ((only.only ix).1 refl) taken))
+    (ix, only.only, holder_taken c.args.badges.now.store (record { number = c.args.number; holder = c.args.holder }) ix _ _ ((only.only ix).1 refl) taken)

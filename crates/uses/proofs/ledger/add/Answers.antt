@@ -1,23 +1,23 @@
-use Rattle.std.proofs.Common.{◌≡◌, ◌==◌, refl}
+use Rattle.std.proofs.Common.{◌≡◌, refl}
 use Rattle.std.specs.Prelude.{Ok, Err, IfErr, OnOk}
 use Rattle.iddqd_maps.specs.Scan.{HasNoHit}
 use Rattle.iddqd_maps.specs.declared.refusal.InsertRefusal.TheVariants.{Duplicate, Full, Memory}
-use Rattle.uses.specs.Ledger.{IsWhyRefused}
-use Rattle.uses.specs.declared.ledger.Order.{Order}
+use Rattle.uses.specs.Exchanges.{IsWhyNotAdded}
+use Rattle.uses.specs.Ledger.{shares_number}
 use Rattle.uses.proofs.ConflictLemmas.{reported_hit, first_alone, not_first}
 use Rattle.uses.proofs.ledger.add.Goals as goal
 
 pub returns-clause-unlike : goal.returns-clause-unlike
 returns-clause-unlike c =
     elim c.insert_unique.result as (λ r. c.insert_unique.result ≡ r
-    → OnOk r (HasNoHit c.args.ledger.now.store (λ (other : Order). c.args.order.number == other.number))) [
-      | Ok ix ↦ λ is. not_first c.args.ledger.now.store (λ (other : Order). c.args.order.number == other.number) (rw is at c.insert_unique.ensures.inserts).no_conflict
+    → OnOk r (HasNoHit c.args.ledger.now.store (shares_number c.args.order))) [
+      | Ok ix ↦ λ is. not_first c.args.ledger.now.store (shares_number c.args.order) (rw is at c.insert_unique.ensures.inserts).no_conflict
       | Err refusal ↦ λ is. tt
     ] refl
 
 pub returns-clause-refused : goal.returns-clause-refused
 returns-clause-refused c =
-    elim c.insert_unique.result as (λ r. c.insert_unique.result ≡ r → IfErr r (IsWhyRefused c.args.ledger.now c.args.order)) [
+    elim c.insert_unique.result as (λ r. c.insert_unique.result ≡ r → IfErr r (IsWhyNotAdded shares_number c.args.order c.args.ledger.now)) [
       | Ok ix ↦ λ is. tt
       | Err (Duplicate back at) ↦ λ is.
           let refused = rw is at c.insert_unique.ensures.inserts in
@@ -25,7 +25,7 @@ returns-clause-refused c =
           (λ one scan. (one, (scan one).1 refl))
           (λ other reports. reported_hit _ _ _ _ _ _ (λ at none. absurd none) (λ at none. absurd none) _ _ reports)
           _ _ refused.1 in
-          (refused.0, (ix, first_alone c.args.ledger.now.store (λ (other : Order). c.args.order.number == other.number) ix hit))
-      | Err (Full back) ↦ λ is. let refused = rw is at c.insert_unique.ensures.inserts in (refused.given_back, refused.full)
-      | Err (Memory back) ↦ λ is. let refused = rw is at c.insert_unique.ensures.inserts in (refused.given_back, refused.no_room)
+          (refused.0, (ix, first_alone c.args.ledger.now.store (shares_number c.args.order) ix hit))
+      | Err (Full back) ↦ λ is. let refused = rw is at c.insert_unique.ensures.inserts in (refused.given_back, not_first c.args.ledger.now.store (shares_number c.args.order) refused.no_conflict, refused.full)
+      | Err (Memory back) ↦ λ is. let refused = rw is at c.insert_unique.ensures.inserts in (refused.given_back, not_first c.args.ledger.now.store (shares_number c.args.order) refused.no_conflict, refused.no_room)
     ] refl

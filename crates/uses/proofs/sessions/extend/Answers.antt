@@ -1,10 +1,9 @@
-use Rattle.std.proofs.Common.{rules, ◌≡◌, ◌∙◌, true, Some, None, MatchOption, refl, sym, ap, subst}
+use Rattle.std.proofs.Common.{rules, ◌≡◌, ◌∙◌, true, Some, None, refl, sym, ap, subst}
 use Rattle.std.specs.Prelude.{Ok, Err, IfOk, IfErr, OnErr}
-use Rattle.iddqd_maps.specs.Scan.{HasNoHit}
 use Rattle.iddqd_maps.specs.Several.{HasNoOther}
 use Rattle.iddqd_maps.specs.Store.{rebound}
 use Rattle.iddqd_maps.specs.declared.refusal.ReplaceRefusal.TheVariants.{Missing, Duplicate, Memory}
-use Rattle.uses.specs.Exchanges.{Exchanges, HitsOther, IsKeyTaken, IsWhyNotChanged}
+use Rattle.uses.specs.Exchanges.{ExchangesIfFound, HitsOther, IsKeyTaken, IsWhyNotChanged}
 use Rattle.uses.specs.Sessions.{ending, has_id, share_key}
 use Rattle.uses.specs.declared.sessions.Session.{Session}
 use Rattle.uses.proofs.ConflictLemmas.{reported_other}
@@ -14,9 +13,7 @@ pub returns-clause-extended : goal.returns-clause-extended
 returns-clause-extended c =
     let old = c.args.sessions.now in
     let new = c.change_by.new.self in
-    elim c.change_by.result as (λ r. c.change_by.result ≡ r → IfOk r (λ found. MatchOption found
-    (HasNoHit old.store (has_id c.args.id) × (new ≡ old))
-    (λ was. Exchanges share_key (has_id c.args.id) (ending c.args.ends was) old was new))) [
+    elim c.change_by.result as (λ r. c.change_by.result ≡ r → IfOk r (λ found. ExchangesIfFound share_key (has_id c.args.id) (ending c.args.ends) old found new)) [
       | Ok None ↦ λ is. rw is at c.change_by.ensures.changes
       | Ok (Some was) ↦ λ is.
           let (ix, only, (one, item, live, gave, becomes)) = rw is at c.change_by.ensures.changes in

@@ -1,10 +1,12 @@
-use Rattle.std.proofs.Common.{◌≡◌, ◌≢◌, ◌≤◌, ℕ, Option, Some, None, MatchOption, inl, inr, sym}
+use Rattle.std.proofs.Common.{◌≢◌, ◌≤◌, ℕ, Option, Some, None, inl, inr, sym}
+use Rattle.std.specs.Prelude.{IfSome}
 use Rattle.std.specs.Cmp.{nat_cmp_is}
 use Rattle.std.specs.Ordering.{nat_cmp}
 use Rattle.std.specs.declared.cmp.Ordering.TheVariants.{Less}
 use Rattle.std.proofs.lemmas.Bool.{cases_lt}
 use Rattle.iddqd_maps.specs.ByOrder.{FindsLeast}
-use Rattle.iddqd_maps.specs.Store.{Store, get, live_count}
+use Rattle.iddqd_maps.specs.Store.{Store}
+use Rattle.uses.specs.Sessions.{EndsFirst}
 use Rattle.uses.specs.declared.sessions.Session.{Session}
 use Rattle.uses.proofs.sessions.first_to_end.Goals as goal
 
@@ -14,11 +16,10 @@ at_most a b not_less = elim (cases_lt a b) [ inl less ↦ absurd (not_less (sym 
 ends_first :
     (s : Store Session) (found : Option ℕ)
     → FindsLeast (λ (session : Session). session.ends) nat_cmp s found
-    → MatchOption found (live_count s ≡ 0) (λ ix. (session : Session)
-    × (get s ix ≡ Some session)
-    × ((j : ℕ) (other : Session) → get s j ≡ Some other → session.ends ≤ other.ends))
-ends_first s None none = none
-ends_first s (Some ix) (session, live, least) = (session, live, λ j other there. at_most other.ends session.ends (least j other there))
+    → IfSome found (λ ix. (session : Session) × EndsFirst s ix session)
+ends_first s None none = tt
+ends_first s (Some ix) (session, live, least) =
+    (session, (live, λ j other there. at_most other.ends session.ends (least j other there)))
 
-pub returns : goal.returns
-returns c = ends_first c.args.sessions.now.store c.first.result (rw c.parts.ensures.items at c.first.ensures)
+pub returns-clause-next : goal.returns-clause-next
+returns-clause-next c = ends_first c.args.sessions.now.store c.first.result (rw c.parts.ensures.items at c.first.ensures)

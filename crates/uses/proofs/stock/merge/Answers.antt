@@ -1,9 +1,7 @@
 use Rattle.std.proofs.Common.{rules, ◌≡◌, Some, refl, sym, subst}
-use Rattle.std.proofs.Common.{◌+◌, ◌-◌, ◌^◌, min}
 use Rattle.iddqd_maps.specs.Scan.{AnswersScan}
 use Rattle.iddqd_maps.specs.Store.{get, rebound}
-use Rattle.uses.specs.Stock.{same_kind}
-use Rattle.uses.specs.declared.stock.Part.{Part}
+use Rattle.uses.specs.Stock.{same_kind, sum_of}
 use Rattle.uses.proofs.StockLemmas.{merges}
 use Rattle.uses.proofs.stock.merge.Goals as goal
 
@@ -27,19 +25,25 @@ returns-in-Err-Duplicate-clause-merged c = λ ix was only.
     let here : ix ≡ at = (scan ix).0 ((only.only ix).1 refl) in
     let live : get s at ≡ Some was = subst (λ k. get s k ≡ Some was) here only.live in
     let merged =
-    merges _ _ c.args.part.count (λ part left r called. search rules) c.args.stock.now c.modify_at.new.self at was c.modify_at.result live (rw same at c.modify_at.ensures.modifies) in (
-      search rules,
-      subst
-          (λ k. c.modify_at.new.self.store ≡ rebound s k (record was { count = min (was.count + c.args.part.count) (2 ^ 32 - 1) }))
-          (sym here) merged,
-    )
+    merges _ _ c.args.part.count (λ part left r called. search rules) c.args.stock.now c.modify_at.new.self at was c.modify_at.result live (rw same at c.modify_at.ensures.modifies) in
+    subst (λ k. c.modify_at.new.self.store ≡ rebound s k (sum_of c.args.part was)) (sym here) merged
 
 pub returns-in-Err-Full-clause-merged : goal.returns-in-Err-Full-clause-merged
 returns-in-Err-Full-clause-merged c = λ ix was only.
     let out = rw c.in-Err-Full.field-0-is at c.in-Err-Full.ensures.inserts in
     absurd (out.no_conflict ix ((only.only ix).1 refl))
 
+pub returns-in-Err-Full-clause-taken : goal.returns-in-Err-Full-clause-taken
+returns-in-Err-Full-clause-taken c = λ ix was only.
+    let out = rw c.in-Err-Full.field-0-is at c.in-Err-Full.ensures.inserts in
+    absurd (out.no_conflict ix ((only.only ix).1 refl))
+
 pub returns-in-Err-Memory-clause-merged : goal.returns-in-Err-Memory-clause-merged
 returns-in-Err-Memory-clause-merged c = λ ix was only.
+    let out = rw c.in-Err-Memory.field-0-is at c.in-Err-Memory.ensures.inserts in
+    absurd (out.no_conflict ix ((only.only ix).1 refl))
+
+pub returns-in-Err-Memory-clause-taken : goal.returns-in-Err-Memory-clause-taken
+returns-in-Err-Memory-clause-taken c = λ ix was only.
     let out = rw c.in-Err-Memory.field-0-is at c.in-Err-Memory.ensures.inserts in
     absurd (out.no_conflict ix ((only.only ix).1 refl))

@@ -1,9 +1,7 @@
-use Rattle.std.proofs.Common.{rules, ◌≡◌, ◌≤◌, true, false, nat_eq, ap, arith, refl, subst}
+use Rattle.std.proofs.Common.{rules, ◌≡◌, nat_eq, ap, arith, subst}
 use Rattle.std.proofs.lemmas.Grind.{common_steps}
-use Rattle.std.specs.Bool.{OnTrue, OnFalse}
 use Rattle.iddqd_maps.proofs.CallerLemmas.{found_same}
-use Rattle.uses.specs.Exchanges.{Exchanges}
-use Rattle.uses.specs.Stock.{has_kind, same_kind, with_one_less}
+use Rattle.uses.specs.Stock.{with_one_less}
 use Rattle.uses.specs.declared.stock.Part.{Part}
 use Rattle.uses.proofs.LedgerLemmas.{is_same}
 use Rattle.uses.proofs.StockLemmas.{none_left, takes_one}
