@@ -54,16 +54,16 @@ IsWhyNotHandedOut number holder old Memory =
     HasNoHit old.store (has_number number) × HasNoHit old.store (is_held_by holder) × (IsFull old.store → ⊥)
     × (room old ≡ 0)
 
--- The badge of this number has this holder now, and told is who had it. It is `None` if and only if there is no such
--- badge, and then nothing changes.
+-- The badge of this number has this holder now, and the holder before is returned. That is `None` if and only if there
+-- is no such badge, and then nothing changes.
 abbrev pub HandsOn : ℕ → String Global → MapState Badge → Option (String Global) → MapState Badge → Type 0
 HandsOn number holder old (Some before) new =
     (was : Badge) × (was.holder ≡ before)
     × Exchanges share_key (has_number number) (record { number = number; holder = holder }) old was new
 HandsOn number holder old None new = HasNoHit old.store (has_number number) × (new ≡ old)
 
--- This person's badge has this number now, and told is which it had. It is `None` if and only if the person holds none,
--- and then nothing changes.
+-- This person's badge has this number now, and the number before is returned. That is `None` if and only if the person
+-- holds none, and then nothing changes.
 abbrev pub Renumbers : List ℕ → ℕ → MapState Badge → Option ℕ → MapState Badge → Type 0
 Renumbers holder number old (Some before) new =
     (was is : Badge) × (was.number ≡ before) × (is.number ≡ number) × (string_bytes is.holder ≡ holder)

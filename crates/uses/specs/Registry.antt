@@ -18,8 +18,8 @@ pub record IsDense (s : Store Entry) : Type 0 where
   pub all_named : length (names_of s.items) ≡ length s.items
   pub unlimited : s.limit ≡ slot_limit
 
--- Why a name wasn't registered: it has the number that is told; or it is new, and there are as many names as numbers;
--- or it is new, and there are not.
+-- Why a name wasn't registered: it has the number that is returned; or it is new, and there are as many names as
+-- numbers; or it is new, and there are not.
 abbrev pub TellsWhy : List (List ℕ) → List ℕ → RegisterError → Type 0
 TellsWhy names name (Taken number) = slice_get names number ≡ Some name
 TellsWhy names name Full = (Contains names name → ⊥) × (length names ≡ slot_limit)

@@ -1,13 +1,13 @@
--- What calls tell of an item that they find, and what they leave where they change it.
+-- What calls return of an item that they find, and what they leave if they change it.
 use Rattle.std.specs.Prelude.{◌≡◌, ℕ, Bool, Option, Some, None}
 use Rattle.iddqd_maps.specs.Map.{MapState, IsOnly}
 use Rattle.iddqd_maps.specs.Scan.{HasNoHit}
 use Rattle.iddqd_maps.specs.Store.{Store, get, rebound}
 
 module _ {T : Type 0} where
-  -- what is told of the one item that passes the test; `None` if and only if no item passes
+  -- a field of the one item that passes the test; `None` if and only if no item passes
   abbrev pub FindsField : {R : Type 0} → Store T → (T → Bool) → (T → R) → Option R → Type 0
-  FindsField s test field (Some told) = (ix : ℕ) × (item : T) × IsOnly s test ix item × (field item ≡ told)
+  FindsField s test field (Some value) = (ix : ℕ) × (item : T) × IsOnly s test ix item × (field item ≡ value)
   FindsField s test field None = HasNoHit s test
 
   -- `becomes` says what an item is after the update

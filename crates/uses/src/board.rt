@@ -81,7 +81,7 @@ pub fn clear_out(board: &mut Board) -> bool
 /// Whether no slot is vacant, or how many are. It may run out of memory.
 pub fn check(board: &Board) -> Result<(), ValidateRefusal<ValidationError>>
     ensures dense { Validates (length board.now.store.free ≡ 0) result }
-    ensures told { IfErr result (Tells (not_compact_text (length board.now.store.free))) }
+    ensures message { IfErr result (Tells (not_compact_text (length board.now.store.free))) }
 {
     board.validate(ValidateCompact::Compact)
 }

@@ -96,7 +96,7 @@ pub fn clear_out(hall: &mut Hall) -> bool
 /// Whether no slot is vacant, or how many are. It may run out of memory.
 pub fn check(hall: &Hall) -> Result<(), ValidateRefusal<ValidationError>>
     ensures dense { Validates (length hall.now.store.free ≡ 0) result }
-    ensures told { IfErr result (Tells (not_compact_text (length hall.now.store.free))) }
+    ensures message { IfErr result (Tells (not_compact_text (length hall.now.store.free))) }
 {
     hall.validate(ValidateCompact::Compact)
 }

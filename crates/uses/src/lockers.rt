@@ -121,7 +121,7 @@ pub fn clear_out(lockers: &mut Lockers) -> bool
 /// Whether no slot is vacant, or how many are. It may run out of memory.
 pub fn check(lockers: &Lockers) -> Result<(), ValidateRefusal<ValidationError>>
     ensures dense { Validates (length lockers.now.store.free ≡ 0) result }
-    ensures told { IfErr result (Tells (not_compact_text (length lockers.now.store.free))) }
+    ensures message { IfErr result (Tells (not_compact_text (length lockers.now.store.free))) }
 {
     lockers.validate(ValidateCompact::Compact)
 }

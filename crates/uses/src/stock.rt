@@ -115,7 +115,7 @@ pub fn take_one(stock: &mut IdHashMap<Part>, kind: u32) -> bool
 /// Whether the parts stand under the indexes from 0 on, or why not.
 pub fn check(stock: &IdHashMap<Part>) -> Result<(), ValidateRefusal<ValidationError>>
     ensures dense { Validates (length stock.now.store.free ≡ 0) result }
-    ensures told { IfErr result (Tells (not_compact_text (length stock.now.store.free))) }
+    ensures message { IfErr result (Tells (not_compact_text (length stock.now.store.free))) }
 {
     stock.validate(ValidateCompact::Compact)
 }
