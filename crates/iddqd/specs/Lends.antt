@@ -1,4 +1,4 @@
--- What an `ItemSet` ends as if a `&mut` to one of its items is returned.
+-- What an `ItemSet` is once the `&mut` to one of its items, which a call returned, has ended.
 use Rattle.std.specs.Prelude.{ℕ, Option}
 use Rattle.std.specs.Borrow.{Lends, LendsIf, Fml, RattleType, MutBor}
 use Rattle.iddqd.specs.ItemSet.{SizedStore, with_item}

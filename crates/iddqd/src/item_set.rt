@@ -1,7 +1,7 @@
 //! Items in slots under stable indexes. The index of a removed item is assigned again.
 //!
 //! A slot is occupied by an item or vacant. The vacant slots are linked into a chain, the last freed first, so an
-//! insert finds its slot without a search and a removal needs no memory: the set has one block of memory and two
+//! insert finds its slot without a search and a removal needs no memory: the set has one block of memory and three
 //! numbers beside it.
 //!
 //! An insert checks the limit before it asks for memory, so a full set reports `Full` even if no memory is left. The
@@ -84,7 +84,8 @@ impl Error for GrowError {}
 
 /// Items under stable indexes.
 ///
-/// An index names its item until that item is removed. Then it is the next index to be assigned.
+/// An index names its item until that item is removed, or the set is compacted or cleared. After a removal its index
+/// is the next to be assigned.
 #[derive(Drop)]
 pub struct ItemSet<T> {
     slots: Vec<ItemSlot<T>>,
@@ -194,10 +195,9 @@ impl<T> ItemSet<T> {
         ensures* writes_back { sem 𝓛 (lends_get T.row self.entry ix result) }
         ensures value { option_copied_mut result ≡ get self.old.store ix }
     {
-        if self.is_live(ix) {
-            Some(self.item_mut(ix))
-        } else {
-            None
+        match self.slots.get_mut(ix.as_u32() as usize) {
+            Some(ItemSlot::Occupied(item)) => Some(item),
+            _ => None,
         }
     }
 

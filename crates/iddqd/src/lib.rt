@@ -1,7 +1,8 @@
 //! A store of items in slots under stable indexes.
 //!
-//! [`item_set::ItemSet`] keeps each item in a slot and names it by an [`item_index::ItemIndex`]. Indexes of removed
-//! items are assigned again, the last freed first, so slots stay dense. An index stays valid until its item is removed.
+//! [`item_set::ItemSet`] keeps each item in a slot and names it by an [`item_index::ItemIndex`]. An index names its
+//! item until the item is removed or the set is compacted or cleared. Indexes of removed items are assigned again, the
+//! last freed first, so an insert makes a new slot only if none is vacant.
 #![tactic(auto)]
 
 pub mod hash_builder;

@@ -31,14 +31,11 @@ impl<T> ConsumingItemSet<T> {
         ensures taken { item_at self.new ix ≡ None }
         ensures others { KeepsOtherItems ix self.old self.new }
     {
-        let at = ix.as_u32() as usize;
-        if at >= self.slots.len() {
-            return None;
-        }
+        let slot = self.slots.get_mut(ix.as_u32() as usize)?;
         let vacant = ItemSlot::Vacant {
             next: ItemIndex::SENTINEL,
         };
-        match mem::replace(&mut self.slots[at], vacant) {
+        match mem::replace(slot, vacant) {
             ItemSlot::Occupied(item) => Some(item),
             ItemSlot::Vacant { .. } => None,
         }

@@ -1,5 +1,5 @@
 //! How many slots a set's memory holds, and how memory is reserved and given back.
-ghost use Rattle.std.specs.Prelude.{◌≡◌, ◌<◌, ◌≤◌, ◌==◌, min, IsOk, IfOk, OnOk, OnErr};
+ghost use Rattle.std.specs.Prelude.{◌≡◌, ◌<◌, ◌≤◌, ◌==◌, min, max, IsOk, IfOk, OnOk, OnErr};
 ghost use Rattle.iddqd.specs.Store.{slot_limit, empty, slot_count, live_count};
 ghost use Rattle.iddqd.specs.ItemSet.{room};
 ghost use Rattle.iddqd.specs.Sizes.{insertable, grown, ReservesSlots, Shrinks};
@@ -51,6 +51,7 @@ impl<T> ItemSet<T> {
     /// Inserts use this capacity, and removals, `clear` and `compact` don't reduce it. If memory runs out, or no vector
     /// can hold that many slots, nothing changes. It may allocate slots past the limit of the set, which give no room
     /// for inserts. It allocates twice the old capacity if that is more than needed, but then at most the limit.
+    /// Vacant slots don't count: it may take memory even if `room` is at least `additional`.
     pub fn reserve(&mut self, additional: usize) -> Result<(), AllocError>
         ensures memory { ReservesSlots additional self.old result self.new }
         ensures room { OnOk result (min additional (insertable self.new.store) ≤ room self.new) }
@@ -71,9 +72,29 @@ impl<T> ItemSet<T> {
         self.reserve(additional)
     }
 
+    /// Takes memory for `wanted` slots in all, vacant ones included, unless there is memory for as many.
+    ///
+    /// If memory runs out, or no vector can hold that many slots, nothing changes. It grows as `reserve` does.
+    pub fn reserve_slots(&mut self, wanted: usize) -> Result<(), AllocError>
+        ensures contents { self.new.store ≡ self.old.store }
+        ensures capacity_at_least { self.old.capacity ≤ self.new.capacity }
+        ensures reserved { OnOk result (wanted ≤ self.new.capacity) }
+        ensures few { self.new.capacity ≤ max self.old.capacity (grown wanted self.old) }
+        ensures grown { self.old.capacity < wanted → OnOk result (self.new.capacity ≡ grown wanted self.old) }
+        ensures refused { OnErr result (self.new ≡ self.old) }
+        ensures had_room { wanted ≤ self.old.capacity → IsOk result }
+        ensures unchanged { wanted ≤ self.old.capacity → self.new ≡ self.old }
+    {
+        if wanted <= self.slots.capacity() {
+            return Ok(());
+        }
+        self.grow(wanted)
+    }
+
     /// Gives back the memory beyond the slots that there are. Vacant slots stay.
     ///
-    /// The items move to a smaller block; if memory for it runs out, they stay where they are.
+    /// The block shrinks in place, or the items move to a smaller one. If memory runs out, the items stay, and the
+    /// memory holds more slots than was asked.
     pub fn shrink_capacity_to_fit(&mut self) -> Result<(), AllocError>
         ensures { Shrinks 0 self.old result self.new }
     {
@@ -82,7 +103,8 @@ impl<T> ItemSet<T> {
 
     /// Gives back the memory beyond `least` slots, or beyond the slots that there are if these are more.
     ///
-    /// The items move to a smaller block; if memory for it runs out, they stay where they are.
+    /// The block shrinks in place, or the items move to a smaller one. If memory runs out, the items stay, and the
+    /// memory holds more slots than was asked.
     pub fn shrink_capacity_to(&mut self, least: usize) -> Result<(), AllocError>
         ensures { Shrinks least self.old result self.new }
     {
