@@ -74,7 +74,7 @@ module _ (tags : List ℕ) (at end mask : ℕ) (ahead : IsAhead tags at end mask
   abbrev chunk : List ℕ
   chunk = take (end - at) (drop at tags)
 
-  -- how many of the sixteen places are before the one that the walk has come to
+  -- how many of the sixteen places are before the one that the walk goes on at
   abbrev passed : ℕ
   passed = at + 16 - end
 

@@ -73,17 +73,17 @@ module _ {C T : Type 0} (slot : Bool → C → Option (ℕ × T)) where
       let rest = slots-tags tags now cells (λ k. same (suc k)) in
       λ i. slot (same 0 i) cell ∷ rest i
 
-  -- a cell that is full by its tag
-  pub full_there :
+  -- a cell whose tag says that it has a pair
+  pub pair_there :
       (tags : List ℕ) (cells : List C) (at : ℕ) (d : C)
       → at < length cells
       → 1 < slice_index tags at
       → slot_at (slots_of slot tags cells) at ≡ slot true (get_or cells at d)
-  full_there tags cells at d inside full =
+  pair_there tags cells at d inside full =
       slot_there tags cells at d inside ∙ ap (λ b. slot b (get_or cells at d)) (lt-ltb 1 (slice_index tags at) full)
 
-  -- A cell that shows a pair with its tag shows the same pair with the tag of a full cell. If it shows none with its
-  -- tag, it shows none with the tag of a cell that isn't full.
+  -- A cell that shows a pair with its tag shows the same pair with `true`. If it shows none with its tag, it shows none
+  -- with `false`.
   module _ (by_tag : (cell : C) → (slot false cell ≡ None) ⊎ (slot false cell ≡ slot true cell)) where
     by_tag_some : (tag : Bool) (cell : C) → IsSome (slot tag cell) → slot tag cell ≡ slot true cell
     by_tag_some true cell some = refl
@@ -109,7 +109,7 @@ module _ {C T : Type 0} (slot : Bool → C → Option (ℕ × T)) where
       none_there none =
           by_tag_none (has_pair (slice_index tags at)) (get_or cells at d) (sym (slot_there tags cells at d inside) ∙ none)
 
-  -- a pair that is put into a cell with the tag of a full one, and one that is taken out
+  -- a pair that is put into a cell, with a tag that says that it has one
   pub slots-put :
       (tags : List ℕ) (cells : List C) (at tag : ℕ) (cell : C) (pair : ℕ × T)
       → at < length tags
@@ -120,7 +120,7 @@ module _ {C T : Type 0} (slot : Bool → C → Option (ℕ × T)) where
       slots-set tags cells at tag cell inside
       ∙ ap (λ o. set (slots_of slot tags cells) at o) (ap (λ b. slot b cell) (lt-ltb 1 tag full) ∙ is)
 
-  -- one that is put beside the tag of a full cell
+  -- one that is put beside such a tag
   pub slots-replaced :
       (tags : List ℕ) (cells : List C) (at : ℕ) (cell : C) (pair : ℕ × T)
       → 1 < slice_index tags at
@@ -130,6 +130,7 @@ module _ {C T : Type 0} (slot : Bool → C → Option (ℕ × T)) where
       slots-cell tags cells at cell
       ∙ ap (λ o. set (slots_of slot tags cells) at o) (ap (λ b. slot b cell) (lt-ltb 1 (slice_index tags at) full) ∙ is)
 
+  -- a pair that is taken out
   pub slots-taken :
       (tags : List ℕ) (cells : List C) (at tag : ℕ) (cell : C)
       → at < length tags
@@ -159,13 +160,13 @@ module _ {C T : Type 0} (slot : Bool → C → Option (ℕ × T)) where
 
   -- the last of some cells, which is taken away
   pub slots-popped :
-      (tags : List ℕ) (cells rest : List C) (cell : C) (n : ℕ) (full : Bool) (o : Option (ℕ × T))
+      (tags : List ℕ) (cells rest : List C) (cell : C) (n : ℕ) (has : Bool) (o : Option (ℕ × T))
       → cells ≡ rest ++ cell ∷ []
       → n ≡ length rest
-      → full ≡ has_pair (slice_index tags n)
-      → o ≡ slot full cell
+      → has ≡ has_pair (slice_index tags n)
+      → o ≡ slot has cell
       → slots_of slot tags cells ≡ slots_of slot tags rest ++ o ∷ []
-  slots-popped tags cells rest cell n full o split last by_tag is =
+  slots-popped tags cells rest cell n has o split last by_tag is =
       ap (slots_of slot tags) split ∙ slots-push tags rest cell
       ∙ ap (λ x. slots_of slot tags rest ++ x ∷ []) (ap (λ m. slot (has_pair (slice_index tags m)) cell) (sym last) ∙ ap (λ b. slot b cell) (sym by_tag) ∙ sym is)
 

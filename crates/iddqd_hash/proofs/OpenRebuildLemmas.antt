@@ -6,7 +6,7 @@ use Rattle.std.proofs.lemmas.List.Sums.{sum_by-set}
 use Rattle.std.proofs.lemmas.List.Sorted.{IsPermutation-trans, IsPermutation-cons, IsPermutation-middle, length_permutation}
 use Rattle.std.specs.List.Sorted.{IsPermutation}
 use Rattle.iddqd_hash.specs.OpenTable.{tag_of, has_pair, limit_of, is_used, slot_at, pairs, Suits, HasEmpty, IsProbed}
-use Rattle.iddqd_hash.specs.OpenRebuild.{pending, is_pending, IsPastFull, NoMorePending, SuitsOrPending, IsPartlyPlaced}
+use Rattle.iddqd_hash.specs.OpenRebuild.{pending, is_pending, IsPastFull, NoNewPending, SuitsOrPending, IsPartlyPlaced}
 use Rattle.iddqd_hash.proofs.OpenPastFullLemmas.{IsReached-past_full, IsPastFull-kept}
 use Rattle.iddqd_hash.proofs.OpenSlotLemmas.{pairs-put, pairs-taken, some_inside, used_count, used_one, used-cons}
 use Rattle.iddqd_hash.proofs.OpenTableLemmas.{some_empty}
@@ -42,13 +42,13 @@ stays_full tags place tag k free full =
     λ same. let is : slice_index tags k ≡ slice_index tags place = ap (slice_index tags) same in omega arith in
     rw (get_or-set_other tags place k tag 0 other) full
 
-pub NoMorePending-set :
+pub NoNewPending-set :
     (old tags : List ℕ) (place tag : ℕ)
     → place < length tags
     → tag ≢ pending
-    → NoMorePending old tags
-    → NoMorePending old (set tags place tag)
-NoMorePending-set old tags place tag inside other none k is =
+    → NoNewPending old tags
+    → NoNewPending old (set tags place tag)
+NoNewPending-set old tags place tag inside other none k is =
     elim (cases_eq k place) [
       | inl same ↦ absurd (other (sym (get_or-set_same tags place tag 0 inside) ∙ ap (slice_index (set tags place tag)) (sym same) ∙ is))
       | inr else ↦ none k (sym (get_or-set_other tags place k tag 0 else) ∙ is)
@@ -271,7 +271,7 @@ module _ {T : Type 0} where
     pub partly_placed : IsPartlyPlaced tags slots
     pub moved : IsPermutation (pairs old) ((hash, value) ∷ pairs slots)
     pub not_pending : slice_index tags at ≢ pending
-    pub no_more : NoMorePending old_tags tags
+    pub none_new : NoNewPending old_tags tags
 
   pub Carrying-start :
       (tags : List ℕ) (slots : List (Option (ℕ × T))) (at : ℕ) (pair : ℕ × T)
@@ -285,7 +285,7 @@ module _ {T : Type 0} where
         partly_placed = IsPartlyPlaced-lifted tags slots state at inside (omega arith);
         moved = pairs-taken slots at pair (omega (arith, state.same_length)) here;
         not_pending = λ one. let zero_here : slice_index (set tags at 0) at ≡ 0 = get_or-set_same tags at 0 0 inside in absurd (omega arith);
-        no_more = NoMorePending-set tags tags at 0 inside (λ none. absurd (omega arith)) (λ k is. is);
+        none_new = NoNewPending-set tags tags at 0 inside (λ none. absurd (omega arith)) (λ k is. is);
       }
 
   module _
@@ -303,10 +303,10 @@ module _ {T : Type 0} where
           → tag ≢ pending
           → slice_index (set tags place tag) at ≢ pending
       not_pending-set place tag inside other =
-          NoMorePending-at (NoMorePending-set tags tags place tag inside other (λ k is. is))
+          NoNewPending-at (NoNewPending-set tags tags place tag inside other (λ k is. is))
         where
-          NoMorePending-at : NoMorePending tags (set tags place tag) → slice_index (set tags place tag) at ≢ pending
-          NoMorePending-at none is = state.not_pending (none at is)
+          NoNewPending-at : NoNewPending tags (set tags place tag) → slice_index (set tags place tag) at ≢ pending
+          NoNewPending-at none is = state.not_pending (none at is)
 
       pub Carrying-next :
           (place : ℕ) (was : ℕ × T)
@@ -323,7 +323,7 @@ module _ {T : Type 0} where
             moved =
                 IsPermutation-trans _ _ _ state.moved (pairs-exchanged slots place (hash, value) was (omega (arith, state.partly_placed.same_length)) here);
             not_pending = not_pending-set place (tag_of hash) inside other;
-            no_more = NoMorePending-set old_tags tags place (tag_of hash) inside other state.no_more;
+            none_new = NoNewPending-set old_tags tags place (tag_of hash) inside other state.none_new;
           }
 
       module _
@@ -347,8 +347,8 @@ module _ {T : Type 0} where
           pub not_pending-end : slice_index (set tags place (tag_of hash)) at ≢ pending
           not_pending-end = not_pending-set place (tag_of hash) inside other_tag
 
-          pub no_more-end : NoMorePending old_tags (set tags place (tag_of hash))
-          no_more-end = NoMorePending-set old_tags tags place (tag_of hash) inside other_tag state.no_more
+          pub none_new-end : NoNewPending old_tags (set tags place (tag_of hash))
+          none_new-end = NoNewPending-set old_tags tags place (tag_of hash) inside other_tag state.none_new
 
 -- the tags before a place belong to pairs to be placed, or to empty cells; those from there on are as they were
 pub record TagsReset (old tags : List ℕ) (at : ℕ) : Type 0 where

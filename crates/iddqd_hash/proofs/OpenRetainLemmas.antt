@@ -4,7 +4,7 @@ use Rattle.std.proofs.Common.{◌≡◌, ◌∙◌, ℕ, zero, suc, ◌+◌, ◌
 use Rattle.std.specs.List.{FoldsTo, AllZip}
 use Rattle.std.specs.Option.{option_map}
 use Rattle.std.proofs.Math.Seq.{map-set_same}
-use Rattle.std.proofs.lemmas.List.{take_all, take_more, take_more_set, drop_more, drop-set-lt, take-append-drop, map-append, append-nil, length-set}
+use Rattle.std.proofs.lemmas.List.{take_more, take_more_set, drop_more, drop-set-lt, take-append-drop, map-append, append-nil, length-set}
 use Rattle.std.proofs.lemmas.List.Elements.{filter-append, filter_map-append, Contains-append_right, AllZip-push}
 use Rattle.std.proofs.lemmas.List.Sorted.{IsPermutation-refl}
 use Rattle.std.proofs.lemmas.Fn.{FoldsTo-push}
@@ -195,7 +195,7 @@ module _ {T : Type 0} (gives : T → T → Type 0) (old : List (Option (ℕ × T
       (now : List (Option (ℕ × T))) (at : ℕ) (within : at < length old) (same_length : length now ≡ length old)
       (state : Rewriting now at)
     where
-      pub Rewriting-none : slot_at now at ≡ None → Rewriting now (at + 1)
+      Rewriting-none : slot_at now at ≡ None → Rewriting now (at + 1)
       Rewriting-none is =
           let both = both_ways old now at within (omega arith) state.behind in
           record {
@@ -223,15 +223,44 @@ module _ {T : Type 0} (gives : T → T → Type 0) (old : List (Option (ℕ × T
               behind = drop-set-lt (at + 1) now at (Some (hash, answer)) (omega arith) ∙ both.1;
             }
 
-  pub Rewrites-from_rewriting :
-      (now : List (Option (ℕ × T))) (at : ℕ)
-      → length old ≤ at
+  -- places without a pair
+  pub Rewriting-skip :
+      (now : List (Option (ℕ × T))) (at run : ℕ)
       → length now ≡ length old
+      → at + run ≤ length old
+      → ((k : ℕ) → at ≤ k → k < at + run → slot_at now k ≡ None)
+      → Rewriting now at
+      → Rewriting now (at + run)
+  Rewriting-skip now at zero same_length within none state =
+      subst (Rewriting now) (let same : at ≡ at + 0 = omega arith in same) state
+  Rewriting-skip now at (suc run) same_length within none state =
+      subst (Rewriting now) (let same : at + run + 1 ≡ at + suc run = omega arith in same)
+      (Rewriting-none now (at + run) (omega arith) same_length (Rewriting-skip now at run same_length (omega arith) (λ k from to. none k from (omega arith)) state) (none (at + run) (omega arith) (omega arith)))
+
+  pub Rewriting-gaps :
+      (now : List (Option (ℕ × T))) (at to : ℕ) (tags : List ℕ)
+      → length now ≡ length old
+      → IsProbed tags now
+      → at ≤ to
+      → to < length tags
+      → NoneFull tags at (to - at)
+      → Rewriting now at
+      → Rewriting now to
+  Rewriting-gaps now at to tags same_length probed onward inside gaps state =
+      subst (Rewriting now) (let same : at + (to - at) ≡ to = omega arith in same)
+      (Rewriting-skip now at (to - at) same_length (omega (arith, same_length, probed.same_length)) (λ k from below. free_slot _ _ (probed.suited k (omega arith)) (gaps k from below)) state)
+
+  -- if no pair is left, all have their new values
+  pub Rewrites-at_end :
+      (now : List (Option (ℕ × T))) (at : ℕ)
+      → length (pairs (drop at now)) ≡ 0
       → Rewriting now at
       → Rewrites gives (pairs old) (pairs now)
-  Rewrites-from_rewriting now at past same_length state =
+  Rewrites-at_end now at ended state =
+      let none_now : pairs (drop at now) ≡ [] = none_of_length (pairs (drop at now)) ended in
+      let none_old : pairs (drop at old) ≡ [] = ap pairs (sym state.behind) ∙ none_now in
       record {
         rewritten = pairs now;
-        each = rw (take_all at old past, take_all at now (omega arith)) at state.each;
+        each = rw (all_taken old at none_old, all_taken now at none_now) at state.each;
         moved = IsPermutation-refl (pairs now);
       }

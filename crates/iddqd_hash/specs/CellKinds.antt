@@ -8,7 +8,7 @@ use Rattle.iddqd_hash.specs.declared.open_table.cell_kinds.OptionCell.{OptionCel
 abbrev pub pair_in : {T : Type 0} → OptionCell T → Option (ℕ × T)
 pair_in cell = option_map (λ value. (cell.hash, value)) cell.value
 
--- in an `IndexCell`: the hash and the index, if the tag says that the cell is full
+-- in an `IndexCell`: the hash and the index, if the tag says that it has a pair
 abbrev pub index_slot : Bool → IndexCell → Option (ℕ × ℕ)
 index_slot true cell = Some (cell.low + cell.high * 2 ^ 32, cell.index)
 index_slot false cell = None

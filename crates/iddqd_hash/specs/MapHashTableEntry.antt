@@ -45,7 +45,7 @@ abbrev pub HitsEntry :
 HitsEntry g eq lookup key hash t e =
     HitsPair (AsksEqual g eq lookup key) tt hash (indexes_under hash (filed t)) (entry_pair e)
 
--- a vacant entry under the hash, in place of the table `old`
+-- a vacant entry under the hash, of the table that was `old` before the call
 abbrev pub IsVacantUnder : ℕ → Table ℕ → VacantEntry → Type 0
 IsVacantUnder hash old e = IsVacancy hash old (vacant_hash e) (vacant_table e)
 

@@ -17,8 +17,8 @@ pub record IsPastFull (tags : List ℕ) (hash place : ℕ) : Type 0 where
   pub full : (k : ℕ) → k < steps → 128 ≤ slice_index tags ((hash + k) % length tags)
 
 -- each cell that is pending was pending before
-abbrev pub NoMorePending : List ℕ → List ℕ → Type 0
-NoMorePending old new = (k : ℕ) → slice_index new k ≡ pending → slice_index old k ≡ pending
+abbrev pub NoNewPending : List ℕ → List ℕ → Type 0
+NoNewPending old new = (k : ℕ) → slice_index new k ≡ pending → slice_index old k ≡ pending
 
 module _ {T : Type 0} where
   -- a tag suits a slot during a rebuild: 0 if there is no pair, otherwise pending or the tag of the pair's hash

@@ -2,7 +2,7 @@
 use Rattle.std.specs.Prelude.{◌<◌, ◌≤◌, ℕ}
 use Rattle.iddqd_hash.specs.OpenTable.{usable_of, IsPowerOfTwo}
 
--- `count` cells are fewer than `current` ones, and as many pairs as these fit into them
+-- `count` cells are fewer than `current` ones, and have room for `pairs` pairs
 pub record FewerCells (pairs current count : ℕ) : Type 0 where
   pub power : IsPowerOfTwo count
   pub fits : pairs ≤ usable_of count

@@ -20,7 +20,7 @@ IsMultipleOf16 count = (n : ℕ) × (count ≡ 16 * n)
 abbrev pub SomeFull : List ℕ → ℕ → Type 0
 SomeFull tags at = (k : ℕ) × (at ≤ k) × (k < length tags) × (128 ≤ slice_index tags k)
 
--- A walk has come to the place `at`. The mask has a bit for each of the sixteen places before `end`, the lowest for the
+-- A walk goes on at the place `at`. The mask has a bit for each of the sixteen places before `end`, the lowest for the
 -- first of them: whether the place is full and not before `at`.
 pub record IsAhead (tags : List ℕ) (at end mask : ℕ) : Type 0 where
   pub before_end : at ≤ end
@@ -29,7 +29,7 @@ pub record IsAhead (tags : List ℕ) (at end mask : ℕ) : Type 0 where
   pub in_sixteens : IsMultipleOf16 end
   pub masked : mask ≡ 2 ^ (at + 16 - end) * full_mask tags at end
 
--- a walk over a table has come to the place `at`, and `left` pairs are at that place or after it
+-- a walk over a table goes on at the place `at`, and `left` pairs are at that place or after it
 pub record IsWalk {T : Type 0} (tags : List ℕ) (slots : List (Option (ℕ × T))) (at end mask left : ℕ) : Type 0 where
   pub count : (length tags ≡ 0) ⊎ IsPowerOfTwo (length tags)
   pub probed : IsProbed tags slots

@@ -2,8 +2,8 @@
 use Rattle.std.specs.Prelude.{◌≡◌, ◌+◌, ◌-◌, ◌*◌, ◌<◌, ◌≤◌, ℕ, min, max, Result, IsOk, IfOk, OnOk, OnErr, length}
 use Rattle.iddqd_hash.specs.HashTable.{Table, entries, room, memory, HasNoMemory}
 
--- The most cells that a table takes for this number of pairs, or keeps after a shrink: sixteen for each pair, and if
--- there are many pairs, three for each and sixteen more.
+-- The most cells that a table takes for this number of pairs, or keeps after a shrink: none for no pair, sixteen for
+-- one, and for more pairs three for each and sixteen besides.
 abbrev pub most_cells : ℕ → ℕ
 most_cells pairs = min (16 * pairs) (3 * pairs + 16)
 

@@ -5,13 +5,14 @@
 //! 3. Each index stays under the hash that it was inserted under. So if a key changes and the table isn't updated, a
 //!    look-up by key may miss the index, but `remove_by_index` still finds it.
 //!
-//! It is built on public calls of [`OpenHashTable`] and on three of its `PairCells`: `place_of`, the place of the pair
-//! that a look-up hits, and `pair_at` and `take_at`, which read and remove the pair at a place. The check can't follow
-//! a call on an entry that a field of `self` lends, so entries here have these in place of entries of the other table.
+//! It is built on public calls of [`OpenHashTable`], on `copied` and `allocator`, which only this crate sees, and on
+//! three of its `PairCells`: `place_of`, the place of the pair that a look-up hits, and `pair_at` and `take_at`, which
+//! read and remove the pair at a place. An entry here keeps a place and makes these calls. It has no entry of
+//! `OpenHashTable` inside, since the check can't follow a call on an entry that a field of `self` lends.
 //!
 //! `entry` hashes its key once, for the look-up and for the insert. `remove_by_index` is a `retain` over all indexes. A
 //! clone copies cells as memory, since an [`IndexCell`] is `Copy`.
-ghost use Rattle.std.specs.Prelude.{◌≡◌, ◌+◌, ◌≤◌, ℕ, max, Some, None, IsTrue, IsSome, IfOk, OnErr};
+ghost use Rattle.std.specs.Prelude.{◌≡◌, ◌↔◌, ◌+◌, ◌≤◌, ℕ, max, Some, None, IsTrue, IsSome, IfOk, OnErr};
 ghost use Rattle.std.specs.FinMap as finite;
 ghost use Rattle.iddqd.specs.Compaction.{CanRemap, remapped};
 ghost use Rattle.iddqd.specs.MapHash.{hash_one};
@@ -100,6 +101,13 @@ impl MapHashTable {
         ensures { result ≡ finite.len (filed self.now) }
     {
         self.table.len()
+    }
+
+    /// Whether there is no index.
+    pub fn is_empty(&self) -> bool
+        ensures { IsTrue result ↔ (filed self.now ≡ finite.empty) }
+    {
+        self.table.is_empty()
     }
 
     /// How many inserts need no memory.
@@ -219,6 +227,11 @@ impl MapHashTable {
     }
 
     /// Adds an index under a hash that was computed before, and takes no memory.
+    ///
+    /// There has to be room, and the index must not be in the table. It doesn't look for an equal key.
+    ///
+    /// It is inlined: a map's insert that called it took a quarter to two thirds longer in large maps.
+    #[inline(always)]
     pub fn insert_prehashed_unchecked(&mut self, hash: MapHash, ix: ItemIndex)
         requires room { 1 ≤ room self.old }
         requires new { finite.get (filed self.old) ix ≡ None }
@@ -228,7 +241,7 @@ impl MapHashTable {
         self.table.insert_unique(hash.hash(), ix);
     }
 
-    /// Removes an index, under whatever hash it is filed. It costs a walk over the table.
+    /// Removes an index that is in the table, under whatever hash it is filed. It costs a walk over the table.
     pub fn remove_by_index(&mut self, ix: ItemIndex)
         requires { IsSome (finite.get (filed self.old) ix) }
         ensures removed { filed self.new ≡ finite.remove (filed self.old) ix }

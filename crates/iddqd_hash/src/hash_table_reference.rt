@@ -6,7 +6,7 @@
 //! 3. The contract leaves open which of several matches a look-up finds, and in which order the values are.
 //!
 //! `try_reserve` compares with `room` first, since std's vector doesn't promise that its capacity stays if it suffices.
-ghost use Rattle.std.specs.Prelude.{◌≡◌, ◌∷◌, ◌≤◌, [], Some, length, slice_get, option_copied, IfOk, OnErr, vec_len, vec_capacity};
+ghost use Rattle.std.specs.Prelude.{◌≡◌, ◌↔◌, ◌∷◌, ◌≤◌, [], Some, IsTrue, length, slice_get, option_copied, IfOk, OnErr, vec_len, vec_capacity};
 ghost use Rattle.std.specs.List.Sorted.{IsPermutation};
 ghost use Rattle.std.specs.List.{Contains};
 ghost use Rattle.std.specs.Fn.{TakesAt, CalledAt, FnReturnsAt};
@@ -95,6 +95,13 @@ impl<T> HashTable<T> {
         ensures { result ≡ length (entries self.now) }
     {
         self.pairs.len()
+    }
+
+    /// Whether there is no pair.
+    pub fn is_empty(&self) -> bool
+        ensures { IsTrue result ↔ (entries self.now ≡ []) }
+    {
+        self.pairs.is_empty()
     }
 
     /// How many inserts need no memory.

@@ -1,5 +1,5 @@
 -- What callers say of a table of indexes in an order, whose answers are `Ordering`s.
-use Rattle.std.specs.Prelude.{◌≡◌, ℕ, List, Contains, Option, Some, None, insert}
+use Rattle.std.specs.Prelude.{◌≡◌, ℕ, List, Contains, Option, None, insert}
 use Rattle.std.specs.Fn.{Mut}
 use Rattle.std.specs.Ordering.{nat_cmp}
 use Rattle.std.specs.declared.cmp.Ordering.{Ordering}

@@ -22,6 +22,7 @@ pub fn file_all<S: BuildHasher>(
     ensures { IfOk result (λ table. (ix : ℕ) → IsSome (finite.get (filed table) ix) → ix < length keys.now) }
 {
     let mut table = MapHashTable::new(alloc);
+    prove!(table.is_empty());
     for place in 0..keys.len() {
         table.try_reserve(1)?;
         let hash = table.compute_hash(state, &keys[place]);

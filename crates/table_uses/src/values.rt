@@ -20,6 +20,9 @@ pub fn has<T: Eq>(table: &HashTable<T>, hash: u64, value: &T) -> bool
 pub fn keep_others(table: &mut HashTable<u32>, value: u32)
     ensures { IsPermutation (filter (λ e. not (e.1 == value)) (entries table.old)) (entries table.new) }
 {
+    if table.is_empty() {
+        return;
+    }
     table.retain(|x| *x != value);
 }
 
@@ -77,6 +80,7 @@ pub fn enter_open(table: &mut OpenHashTable<u32>, hash: u64, value: u32) -> Resu
         Ok(OpenEntry::Occupied(_entry)) => Ok(false),
         Ok(OpenEntry::Vacant(entry)) => {
             entry.insert(value);
+            prove!(!table.is_empty());
             Ok(true)
         }
         Err(error) => Err(error),

@@ -35,7 +35,8 @@ impl MapHashTable {
     ghost use Rattle.iddqd_hash.specs.contracts.hash_table.MapHashTable.{the_row};
     ghost use Rattle.iddqd_hash.specs.MapHashTableEntry.{entry_table, vacant_table, lender_of, HitsEntry, IfOccupied, IfVacant, IsVacantUnder, UnlessOccupied};
 
-    /// The entry of an index under the key's hash whose key equals it, else a vacant one, with room for an index.
+    /// The entry of an index that is filed under the hash of `key` and whose own key equals `key`, else a vacant one,
+    /// with room for an index.
     ///
     /// `lookup` is called as in `find_index_prehashed`. A miss makes room as `try_reserve` does, so it takes memory
     /// only if there is no room. `AllocError` means that this failed; the table is then as it was. The key is dropped
@@ -100,7 +101,7 @@ impl MapHashTable {
 impl<'a> VacantEntry<'a> {
     ghost use Rattle.iddqd_hash.specs.MapHashTableEntry.{vacant_table, vacant_hash};
 
-    /// Adds an index under the hash of the entry, and takes no memory.
+    /// Adds an index under the hash of the entry, and takes no memory. The index must not be in the table.
     pub fn insert(self, ix: ItemIndex)
         requires { finite.get (filed (vacant_table self)) ix ≡ None }
         ensures added { filed self.exit.0.now

@@ -44,7 +44,7 @@ impl MapHashTable {
         self.shrink_to(0)
     }
 
-    /// Gives back memory that is needed neither for the indexes that there are nor for `least` of them.
+    /// Gives back memory that is needed neither for the indexes in the table nor for a table of `least` indexes.
     ///
     /// If the smaller memory can't be allocated, the indexes stay. If none is needed, it can't fail.
     pub fn shrink_to(&mut self, least: usize) -> Result<(), AllocError>

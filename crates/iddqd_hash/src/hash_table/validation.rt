@@ -15,7 +15,7 @@ impl MapHashTable {
     /// Checks that there are as many indexes as expected and, if `compactness` is `Compact`, that they are those from 0
     /// on.
     ///
-    /// It sorts a copy of the indexes, so it can run out of memory.
+    /// It copies the indexes twice, and sorts the second copy, so it can run out of memory.
     pub fn validate(
         &self,
         expected_len: usize,
@@ -40,7 +40,7 @@ impl MapHashTable {
     {
         let mut list = Vec::with_capacity(self.table.allocator(), self.len())?;
         for ix in self.indexes() {
-            list.push(ix)?;
+            list.push_reserved(ix);
         }
         Ok(list)
     }

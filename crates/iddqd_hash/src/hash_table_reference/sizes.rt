@@ -36,7 +36,7 @@ impl<T> HashTable<T> {
         self.shrink_to(0)
     }
 
-    /// Gives back memory that is needed neither for the pairs that there are nor for `least` of them.
+    /// Gives back memory that is needed neither for the pairs in the table nor for a table of `least` pairs.
     ///
     /// If the smaller memory can't be allocated, the pairs stay. If none is needed, it can't fail.
     pub fn shrink_to(&mut self, least: usize) -> Result<(), AllocError>

@@ -1,26 +1,26 @@
 //! The kinds of cells that a table with open addressing may have. The kind is a type parameter of the table.
 //!
 //! 1. [`OptionCell`] is for any value: its option says whether it has one.
-//! 2. [`IndexCell`] is for indexes, and has 12 bytes; an option would make that 16. Its tag alone says whether it is
-//!    full, and what is left in an emptied one is never read.
+//! 2. [`IndexCell`] is for indexes, and has 12 bytes; an option would make that 16. Its tag alone says whether it has
+//!    a pair, and what is left in an emptied one is never read.
 ghost use Rattle.std.specs.Prelude.{◌≡◌, ◌⊎◌, ◌+◌, ◌*◌, ◌/◌, ◌%◌, ◌^◌, ℕ, Bool, true, false, Option, None, Some, IsSome};
 
 use iddqd::item_index::ItemIndex;
 use std::mem::{self, ManuallyDrop};
 
-/// A cell, which may have a pair of a hash and a value. Its tag, which is not a part of it, says whether it is full.
+/// A cell, which may have a pair of a hash and a value. Its tag, which is not a part of it, says whether it has one.
 pub trait Cell<T> {
-    // The pair in a cell. The `Bool` is whether its tag is that of a full cell.
+    // The pair in a cell. The `Bool` is whether its tag says that it has one: it is full, or pending in a rebuild.
     ghost slot: { Bool → Self → Option (ℕ × T) };
 
-    // Without the tag of a full cell, a cell shows either no pair, or the pair that it shows with that tag.
+    // With `false` a cell shows either no pair, or the pair that it shows with `true`.
     ghost by_tag: { (cell : Self) → (slot false cell ≡ None) ⊎ (slot false cell ≡ slot true cell) };
 
     /// A cell with no pair.
     fn empty() -> Self
         ensures { slot false result ≡ None };
 
-    /// The pair of a full cell.
+    /// The pair of a cell that has one.
     fn pair(&self) -> (u64, &T)
         requires { IsSome (slot true self.now) }
         ensures { slot true self.now ≡ Some (result.0, result.1.now) };
@@ -30,21 +30,21 @@ pub trait Cell<T> {
         requires { slot false self.old ≡ None }
         ensures { slot true self.new ≡ Some (hash, value) };
 
-    /// Removes the pair of a full cell, and returns it.
+    /// Removes the pair of a cell that has one, and returns it.
     fn take(&mut self) -> (u64, T)
         requires { IsSome (slot true self.old) }
         ensures pair { slot true self.old ≡ Some result }
         ensures empty { slot false self.new ≡ None };
 
-    /// Puts a pair into a full cell, and returns the pair that it had.
+    /// Puts a pair into a cell that has one, and returns the pair that it had.
     fn replace(&mut self, hash: u64, value: T) -> (u64, T)
         requires { IsSome (slot true self.old) }
         ensures before { slot true self.old ≡ Some result }
         ensures after { slot true self.new ≡ Some (hash, value) };
 
-    /// Consumes the cell, and returns its pair if it has one. `full` is whether its tag is that of a full cell.
-    fn into_pair(self, full: bool) -> Option<(u64, T)>
-        ensures { result ≡ slot full self };
+    /// Consumes the cell, and returns its pair if it has one. `has_pair` is whether its tag says that it has one.
+    fn into_pair(self, has_pair: bool) -> Option<(u64, T)>
+        ensures { result ≡ slot has_pair self };
 
     /// Drops the pair if there is one.
     fn clear(&mut self)
@@ -104,7 +104,7 @@ impl<T> Cell<T> for OptionCell<T> {
         }
     }
 
-    fn into_pair(self, _full: bool) -> Option<(u64, T)> {
+    fn into_pair(self, _has_pair: bool) -> Option<(u64, T)> {
         let OptionCell { hash, value } = self;
         match value {
             Some(value) => Some((hash, value)),
@@ -169,8 +169,8 @@ impl Cell<ItemIndex> for IndexCell {
         pair
     }
 
-    fn into_pair(self, full: bool) -> Option<(u64, ItemIndex)> {
-        if full {
+    fn into_pair(self, has_pair: bool) -> Option<(u64, ItemIndex)> {
+        if has_pair {
             Some((hash_of_halves(self.low, self.high), self.index))
         } else {
             None

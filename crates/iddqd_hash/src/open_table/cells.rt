@@ -145,7 +145,8 @@ pub(super) fn put<T, C: Cell<T>>(
     cells[place].fill(hash, value);
 }
 
-/// Removes the pair of a full cell, and returns it. `tag` is the cell's new tag: 0, as of an empty cell, or `MARK`.
+/// Removes the pair of a cell that has one, and returns it. `tag` is the cell's new tag: 0, as of an empty cell, or
+/// `MARK`.
 pub(super) fn take<T, C: Cell<T>>(
     tags: &mut [u8],
     cells: &mut [C],
@@ -154,7 +155,7 @@ pub(super) fn take<T, C: Cell<T>>(
 ) -> (u64, T)
     requires inside { place < length tags.old }
     requires same_length { length cells.old ≡ length tags.old }
-    requires full { IsSome (slot_at (slots_of C.slot tags.old cells.old) place) }
+    requires some { IsSome (slot_at (slots_of C.slot tags.old cells.old) place) }
     requires tag { tag ≤ 1 }
     ensures pair { slot_at (slots_of C.slot tags.old cells.old) place ≡ Some result }
     ensures tags { tags.new ≡ slice_set tags.old place tag }
@@ -225,23 +226,30 @@ pub(super) fn retain_cells<T: Drop, C: Cell<T>, F: FnMut(&T) -> bool>(
     removed
 }
 
-/// Replaces each value by what `f` returns for it.
-pub(super) fn rewrite_cells<T: Drop, C: Cell<T>, F: Fn(&T) -> T>(tags: &[u8], cells: &mut [C], f: F)
+/// Replaces each of the `len` values by what `f` returns for it.
+pub(super) fn rewrite_cells<T: Drop, C: Cell<T>, F: Fn(&T) -> T>(
+    tags: &[u8],
+    cells: &mut [C],
+    len: usize,
+    f: F,
+)
+    requires sixteens { IsMultipleOf16 (length tags.now) }
     requires probed { IsProbed tags.now (slots_of C.slot tags.now cells.old) }
+    requires len { len ≡ length (pairs (slots_of C.slot tags.now cells.old)) }
     requires callable { (v : _) → Contains (values (pairs (slots_of C.slot tags.now cells.old))) v.now → F.pre f v }
     ensures rewritten { Rewrites (FnReturnsAt F.Fn f) (pairs (slots_of C.slot tags.now cells.old))
         (pairs (slots_of C.slot tags.now cells.new)) }
     ensures same_hashes { hashes_of (slots_of C.slot tags.now cells.new)
         ≡ hashes_of (slots_of C.slot tags.now cells.old) }
 {
-    for at in 0..tags.len() {
-        if tags[at] < 128 {
-            continue;
-        }
-        let pair = pair_at(tags, cells, at);
-        let hash = pair.0;
-        let answer = f(pair.1);
-        cells[at].replace(hash, answer);
+    let mut places = FullPlaces::new();
+    let mut left = len;
+    'rewriting: while left > 0 {
+        let here = places.next(tags);
+        left -= 1;
+        let (hash, value) = pair_at(tags, cells, here);
+        let answer = f(value);
+        cells[here].replace(hash, answer);
     }
 }
 

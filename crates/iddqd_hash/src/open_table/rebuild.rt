@@ -10,7 +10,7 @@
 ghost use Rattle.std.specs.Prelude.{◌≡◌, ◌≢◌, ◌<◌, ◌≤◌, ℕ, count_by, Some, None, IsSome, length, slice_index, slice_set};
 ghost use Rattle.std.specs.List.Sorted.{IsPermutation};
 ghost use Rattle.iddqd_hash.specs.OpenTable.{tag_of, limit_of, is_used, slots_of, slot_at, pairs, IsPowerOfTwo, IsProbed};
-ghost use Rattle.iddqd_hash.specs.OpenRebuild.{pending, IsPartlyPlaced, NoMorePending};
+ghost use Rattle.iddqd_hash.specs.OpenRebuild.{pending, IsPartlyPlaced, NoNewPending};
 
 use crate::open_table::cell_kinds::Cell;
 use crate::open_table::cells::{put, take};
@@ -97,7 +97,7 @@ fn place_pending<T, C: Cell<T>>(tags: &mut [u8], cells: &mut [C], at: usize)
         (pairs (slots_of C.slot tags.new cells.new)) }
     ensures partly_placed { IsPartlyPlaced tags.new (slots_of C.slot tags.new cells.new) }
     ensures not_pending { slice_index tags.new at ≢ pending }
-    ensures no_more { NoMorePending tags.old tags.new }
+    ensures none_new { NoNewPending tags.old tags.new }
 {
     let (mut hash, mut value) = take(tags, cells, at, 0);
     let mut place = free_place(tags, hash);
@@ -118,7 +118,7 @@ fn replace_pair<T, C: Cell<T>>(
 ) -> (u64, T)
     requires inside { place < length tags.old }
     requires same_length { length cells.old ≡ length tags.old }
-    requires full { IsSome (slot_at (slots_of C.slot tags.old cells.old) place) }
+    requires some { IsSome (slot_at (slots_of C.slot tags.old cells.old) place) }
     ensures pair { slot_at (slots_of C.slot tags.old cells.old) place ≡ Some result }
     ensures tags { tags.new ≡ slice_set tags.old place (tag_of hash) }
     ensures slots { slots_of C.slot tags.new cells.new

@@ -66,7 +66,7 @@ impl<T, C: Cell<T>> OpenHashTable<T, C> {
         self.shrink_to(0)
     }
 
-    /// Gives back memory that is needed neither for the pairs that there are nor for `least` of them.
+    /// Gives back memory that is needed neither for the pairs in the table nor for a table of `least` pairs.
     ///
     /// It moves every pair into fewer cells. If these can't be allocated, the pairs stay. If no cell is needed, it
     /// can't fail.

@@ -1,8 +1,7 @@
-use Rattle.std.proofs.Common.{◌≡◌, ◌∙◌, [], length, ap, sym, arith}
-use Rattle.std.proofs.lemmas.List.{with_items_is, nil_from_length}
-use Rattle.iddqd_hash.specs.HashTable.{entries}
-use Rattle.iddqd_hash.proofs.CopyLemmas.{Rewrites-cloned}
+use Rattle.std.proofs.Common.{◌≡◌, ◌∙◌, length, ap, sym, arith}
+use Rattle.std.proofs.lemmas.List.{with_items_is}
 use Rattle.iddqd_hash.specs.OpenTable.{slots_of}
+use Rattle.iddqd_hash.proofs.OpenAheadLemmas.{IsMultipleOf16-count}
 use Rattle.iddqd_hash.proofs.OpenSlotLemmas.{length-rewritten}
 use Rattle.iddqd_hash.proofs.OpenCellLemmas.{cells_long}
 use Rattle.iddqd_hash.proofs.OpenTableLemmas.{entries-table_of, fits_from, IsSound-rewritten, KeepsMemory-table_of}
@@ -11,6 +10,14 @@ use Rattle.iddqd_hash.proofs.open_table.OpenHashTable.rewrite.Goals as goal
 pub rewrite_cells-requires-clause-probed : goal.rewrite_cells-requires-clause-probed
 rewrite_cells-requires-clause-probed g c =
     rw (c.as_slice.ensures.value, c.as_mut_slice.ensures.value) c.self.invariant.sound.probed
+
+pub rewrite_cells-requires-clause-sixteens : goal.rewrite_cells-requires-clause-sixteens
+rewrite_cells-requires-clause-sixteens g c =
+    rw c.as_slice.ensures.value (IsMultipleOf16-count _ c.self.invariant.sound.count)
+
+pub rewrite_cells-requires-clause-len : goal.rewrite_cells-requires-clause-len
+rewrite_cells-requires-clause-len g c =
+    rw (c.as_slice.ensures.value, c.as_mut_slice.ensures.value) c.self.invariant.sound.counted
 
 pub rewrite_cells-requires-clause-callable : goal.rewrite_cells-requires-clause-callable
 rewrite_cells-requires-clause-callable g c =
@@ -45,10 +52,3 @@ returns-clause-memory g c =
     let kept =
     length-rewritten (slots_of g.C.Cell.slot c.self.inside.tags.items c.self.inside.cells.items) (slots_of g.C.Cell.slot c.self.inside.tags.items c.rewrite_cells.new.cells) same in
     rw (← c.self.view_is) (KeepsMemory-table_of _ _ (rw cells-is long) (fits_from _ _ _ _ c.self.invariant.sound) (rw cells-is (omega (arith, kept))))
-
-pub returns-then-self-eq0-clause-rewritten : goal.returns-then-self-eq0-clause-rewritten
-returns-then-self-eq0-clause-rewritten g c =
-    let counted : c.self.inside.len ≡ length (entries c.args.self.now) =
-    rw (← c.self.view_is, entries-table_of) c.self.invariant.sound.counted in
-    let none : entries c.args.self.now ≡ [] = nil_from_length _ (omega arith) in
-    rw none (Rewrites-cloned _ [] [] tt)

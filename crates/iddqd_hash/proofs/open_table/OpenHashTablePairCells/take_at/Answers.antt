@@ -25,8 +25,8 @@ pub take-requires-clause-same_length : goal.take-requires-clause-same_length
 take-requires-clause-same_length g c =
     rw (c.as_mut_slice-2.ensures.value, c.as_mut_slice.ensures.value) (sym (cells_long g.C.Cell.slot c.self.inside.tags.items c.self.inside.cells.items) ∙ c.self.invariant.sound.probed.same_length)
 
-pub take-requires-clause-full : goal.take-requires-clause-full
-take-requires-clause-full g c =
+pub take-requires-clause-some : goal.take-requires-clause-some
+take-requires-clause-some g c =
     let slots = slots_of g.C.Cell.slot c.self.inside.tags.items c.self.inside.cells.items in
     let some : IsSome (slot_at slots c.args.place) = rw (← c.self.view_is, pair_at-table_of) at c.requires in
     rw (c.as_mut_slice.ensures.value, c.as_mut_slice-2.ensures.value) some

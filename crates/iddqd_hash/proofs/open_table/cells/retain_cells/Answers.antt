@@ -45,8 +45,8 @@ pub take-requires-clause-same_length : goal.take-requires-clause-same_length
 take-requires-clause-same_length g c =
     sym (cells_long g.C.Cell.slot c.asking.tags c.asking.cells) ∙ c.asking.invariant.2.same_length
 
-pub take-requires-clause-full : goal.take-requires-clause-full
-take-requires-clause-full g c =
+pub take-requires-clause-some : goal.take-requires-clause-some
+take-requires-clause-some g c =
     full_slot _ (slot_at (slots_of g.C.Cell.slot c.asking.tags c.asking.cells) c.next-here.result) (c.asking.invariant.2.suited c.next-here.result c.next-here.ensures.inside) c.next-here.ensures.full
 
 pub overflow_add-removed : goal.overflow_add-removed

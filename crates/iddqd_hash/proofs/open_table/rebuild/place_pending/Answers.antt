@@ -2,7 +2,7 @@ use Rattle.std.proofs.Common.{◌∙◌, sym, arith}
 use Rattle.iddqd_hash.proofs.OpenCellLemmas.{cells_long}
 use Rattle.std.proofs.lemmas.List.{length-set}
 use Rattle.iddqd_hash.specs.OpenTable.{slots_of}
-use Rattle.iddqd_hash.proofs.OpenRebuildLemmas.{Carrying-start, Carrying-room, Carrying-next, Carrying-free, IsPartlyPlaced-end, moved-end, not_pending-end, no_more-end}
+use Rattle.iddqd_hash.proofs.OpenRebuildLemmas.{Carrying-start, Carrying-room, Carrying-next, Carrying-free, IsPartlyPlaced-end, moved-end, not_pending-end, none_new-end}
 use Rattle.iddqd_hash.proofs.open_table.rebuild.place_pending.Goals as goal
 
 pub free_place-place-requires-clause-ends : goal.free_place-place-requires-clause-ends
@@ -53,10 +53,10 @@ returns-clause-not_pending g c =
     let at = c.placing.invariant in
     rw c.put.ensures.tags (not_pending-end _ _ _ _ _ _ _ at.carrying c.placing.place at.free.within at.free.free c.placing-test.false at.past_full)
 
-pub returns-clause-no_more : goal.returns-clause-no_more
-returns-clause-no_more g c =
+pub returns-clause-none_new : goal.returns-clause-none_new
+returns-clause-none_new g c =
     let at = c.placing.invariant in
-    rw c.put.ensures.tags (no_more-end _ _ _ _ _ _ _ at.carrying c.placing.place at.free.within at.free.free c.placing-test.false at.past_full)
+    rw c.put.ensures.tags (none_new-end _ _ _ _ _ _ _ at.carrying c.placing.place at.free.within at.free.free c.placing-test.false at.past_full)
 
 pub take-hash-requires-clause-same_length : goal.take-hash-requires-clause-same_length
 take-hash-requires-clause-same_length g c =

@@ -34,5 +34,5 @@ loop-at-preserved g c = record {
   partly_placed = c.place_pending.ensures.partly_placed;
   moved = IsPermutation-trans _ _ _ c.loop-at.invariant.moved c.place_pending.ensures.moved;
   not_pending = below_more (λ k. slice_index c.place_pending.new.tags k ≢ pending) c.loop-at.at
-      (λ k below is. c.loop-at.invariant.not_pending k below (c.place_pending.ensures.no_more k is)) c.place_pending.ensures.not_pending;
+      (λ k below is. c.loop-at.invariant.not_pending k below (c.place_pending.ensures.none_new k is)) c.place_pending.ensures.not_pending;
 }

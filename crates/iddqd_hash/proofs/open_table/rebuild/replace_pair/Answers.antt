@@ -5,11 +5,11 @@ use Rattle.iddqd_hash.proofs.open_table.rebuild.replace_pair.Goals as goal
 
 pub replace-requires : goal.replace-requires
 replace-requires g c =
-    subst (λ o. IsSome o) (some_there g.C.Cell.slot g.C.Cell.by_tag c.args.tags.now c.args.cells.now c.args.place _ (omega arith) c.requires.full) c.requires.full
+    subst (λ o. IsSome o) (some_there g.C.Cell.slot g.C.Cell.by_tag c.args.tags.now c.args.cells.now c.args.place _ (omega arith) c.requires.some) c.requires.some
 
 pub returns-clause-pair : goal.returns-clause-pair
 returns-clause-pair g c =
-    some_there g.C.Cell.slot g.C.Cell.by_tag c.args.tags.now c.args.cells.now c.args.place _ (omega arith) c.requires.full
+    some_there g.C.Cell.slot g.C.Cell.by_tag c.args.tags.now c.args.cells.now c.args.place _ (omega arith) c.requires.some
     ∙ c.replace.ensures.before
 
 pub returns-clause-slots : goal.returns-clause-slots
