@@ -1,5 +1,5 @@
 -- A gap of a tree and the gaps beside it, one level at a time, and what a walk has left between two gaps.
-use Rattle.iddqd_order.proofs.Names.{◌≡◌, ◌≢◌, ◌∙◌, ℕ, zero, suc, ◌+◌, ◌-◌, ◌<◌, ◌≤◌, List, [], ◌∷◌, ◌++◌, End, Front, Back, opposite, Option, Some, None, IfSome, length, take, drop, get_or, length-set, set-get_or, slice_index, slice_set, refl, sym, ap, subst, arith, sub-one, append-nil, drop_all, length-append, length-drop, length-map, length-take-le, slice_get-get_or, cases_lt, inl, inr, Compares, Ordering, Less, Equal, Greater, Node, row, children, child, before, flat, IsFormed, ReachesGap, place, in_order, IsTree, place_in, AreBeside, AtEdge, StepsOver, IsAt, IsBehind, IsGap, IsLeafParent, Steps, between, edge_of, leaf, leaf_parent, to_gap, CAPACITY, LEVELS, InGap}
+use Rattle.iddqd_order.proofs.Names.{◌≡◌, ◌≢◌, ◌∙◌, ℕ, zero, suc, ◌+◌, ◌-◌, ◌<◌, ◌≤◌, List, [], ◌∷◌, ◌++◌, End, Front, Back, opposite, Option, Some, None, IfSome, length, take, drop, get_or, length-set, set-get_or, slice_index, slice_set, refl, sym, ap, subst, arith, sub-one, append-nil, drop_all, length-append, length-drop, length-map, length-take-le, slice_get-get_or, cases_lt, inl, inr, Compares, Ordering, Less, Equal, Greater, Node, row, children, child, before, flat, IsFormed, ReachesGap, place, in_order, IsTree, place_in, AreBeside, AtEdge, StepsOver, IsAt, IsBehind, IsGap, IsLeafParent, Steps, next_behind, edge_of, leaf, leaf_parent, to_gap, CAPACITY, LEVELS, InGap}
 use Rattle.std.proofs.Common.{get_or-drop}
 use Rattle.std.proofs.Math.Seq.{drop-cons, take-suc}
 use Rattle.std.proofs.lemmas.Option.{slice_get_past}
@@ -624,7 +624,8 @@ pub left-ahead :
     → i + count ≡ k
     → k ≤ length xs
     → Steps Back xs i r j
-    → (j + (count - 1) ≡ k) × YieldsFirst (λ (ys : List ℕ). ys) (between count i xs) r (between (count - 1) j xs)
+    → (j + (count - 1) ≡ k)
+    × YieldsFirst (λ (ys : List ℕ). ys) (next_behind count i xs) r (next_behind (count - 1) j xs)
 left-ahead count i j k xs None some e le s = let end = s.0 in absurd (omega arith)
 left-ahead count i j k xs (Some ix) some e le s =
     let next : count ≡ suc (count - 1) = omega arith in
@@ -632,7 +633,7 @@ left-ahead count i j k xs (Some ix) some e le s =
       omega arith,
       ap (take count) (drop-cons xs i 0 s.0.0) ∙ ap (λ n. take n (get_or xs i 0 ∷ drop (suc i) xs)) next
           ∙ ap (λ z. z ∷ take (count - 1) (drop (suc i) xs)) (sym s.0.1)
-          ∙ ap (λ n. ix ∷ between (count - 1) n xs) (sym up),
+          ∙ ap (λ n. ix ∷ next_behind (count - 1) n xs) (sym up),
     )
 
 pub left-back :
@@ -641,15 +642,15 @@ pub left-back :
     → i + count ≡ k
     → k ≤ length xs
     → Steps Front xs k r j
-    → (i + (count - 1) ≡ j) × YieldsLast (λ (ys : List ℕ). ys) (between count i xs) r (between (count - 1) i xs)
+    → (i + (count - 1) ≡ j) × YieldsLast (λ (ys : List ℕ). ys) (next_behind count i xs) r (next_behind (count - 1) i xs)
 left-back count i j k xs None some e le s = let end = s.0 in absurd (omega arith)
 left-back count i j k xs (Some ix) some e le s =
     let next : count ≡ suc (count - 1) = omega arith in
     let at : i + (count - 1) ≡ j = (let down = s.1 in omega arith) in
     let inside : count - 1 < length (drop i xs) = omega (arith, length-drop i xs) in (
       at,
-      ap (λ n. between n i xs) next ∙ take-suc (drop i xs) (count - 1) 0 inside
-          ∙ ap (λ z. between (count - 1) i xs ++ z ∷ []) (get_or-drop i xs (count - 1) 0 ∙ ap (λ n. get_or xs n 0) at ∙ sym s.0.1),
+      ap (λ n. next_behind n i xs) next ∙ take-suc (drop i xs) (count - 1) 0 inside
+          ∙ ap (λ z. next_behind (count - 1) i xs ++ z ∷ []) (get_or-drop i xs (count - 1) 0 ∙ ap (λ n. get_or xs n 0) at ∙ sym s.0.1),
     )
 
 -- and what is left behind a gap, after a step towards the back
@@ -677,7 +678,11 @@ last-is i j xs (Some ix) e s =
     let last : j ≡ length xs - 1 = (let down = s.1 in omega arith) in
     ap Some s.0.1 ∙ sym (slice_get-get_or xs j 0 s.0.0) ∙ ap (slice_get xs) last
 
-pub left-length : (count i j : ℕ) (xs : List ℕ) → i + count ≡ j → j ≤ length xs → length (between count i xs) ≡ count
+pub left-length :
+    (count i j : ℕ) (xs : List ℕ)
+    → i + count ≡ j
+    → j ≤ length xs
+    → length (next_behind count i xs) ≡ count
 left-length count i j xs e le = length-take-le count (drop i xs) (omega (arith, length-drop i xs))
 
 -- the highest level at which two paths differ decides which of their gaps comes first

@@ -123,5 +123,5 @@ module _ {F R : Type 0} (g : Mut F (ℕ × Unit {0}) R) (xs : List ℕ) (ix : �
     place = puts.place;
     within = puts.within;
     inserted = puts.inserted;
-    bound = λ answer rises. puts.bound answer (record { steady = Steady-later g others (After-wider g among others narrower asked.after) rises.steady; rising = rises.rising });
+    belongs = λ answer rises. puts.belongs answer (record { steady = Steady-later g others (After-wider g among others narrower asked.after) rises.steady; rising = rises.rising });
   }

@@ -1,5 +1,5 @@
 -- Walks between places, which are found by answers of which none is Equal.
-use Rattle.iddqd_order.proofs.Names.{◌≡◌, ◌≢◌, ◌↔◌, ℕ, ◌-◌, ◌≤◌, List, [], length, drop, slice_index, refl, ap, Option, Bool, arith, None, Err, length-drop, take_all, Ordering, Less, Equal, Greater, ordering_then, Mut, Asking, AsksWithin, Askable, IsTrue, Compares, IsRising, IsSteadyRising, Searches, Steps, between, part, false, Back, Front}
+use Rattle.iddqd_order.proofs.Names.{◌≡◌, ◌≢◌, ◌↔◌, ℕ, ◌-◌, ◌≤◌, List, [], length, drop, slice_index, refl, ap, Option, Bool, arith, None, Err, length-drop, take_all, Ordering, Less, Equal, Greater, ordering_then, Mut, Asking, AsksWithin, Askable, IsTrue, Compares, IsRising, IsSteadyRising, Searches, Steps, next_behind, part, false, Back, Front}
 use Rattle.std.specs.Iterator.{YieldsFirst, YieldsLast}
 use Rattle.std.specs.Ordering.{is_eq}
 use Rattle.std.specs.declared.ops.Bound.{Bound}
@@ -97,7 +97,7 @@ ends-before g xs Unbounded i asks ends = ends
 -- what is left between two gaps
 pub part-empty : (i j : ℕ) (xs : List ℕ) → i ≤ j → j ≤ length xs → (i ≡ j) ↔ (part i j xs ≡ [])
 part-empty i j xs le within = (
-  λ e. (let none : j - i ≡ 0 = omega arith in ap (λ k. between k i xs) none),
+  λ e. (let none : j - i ≡ 0 = omega arith in ap (λ k. next_behind k i xs) none),
   λ e. (let none = left-length (j - i) i j xs (omega arith) within in let len = ap length e in omega arith),
 )
 

@@ -102,9 +102,9 @@ abbrev pub gap_of : Option Node → ℕ → Cursor → ℕ
 gap_of t h c = place_in t h (to_gap c.path c.at)
 
 -- the next `count` indexes behind gap i
-abbrev pub between : ℕ → ℕ → List ℕ → List ℕ
-between count i xs = take count (drop i xs)
+abbrev pub next_behind : ℕ → ℕ → List ℕ → List ℕ
+next_behind count i xs = take count (drop i xs)
 
 -- the indexes between two gaps; none if the second comes first
 abbrev pub part : ℕ → ℕ → List ℕ → List ℕ
-part from to xs = between (to - from) from xs
+part from to xs = next_behind (to - from) from xs

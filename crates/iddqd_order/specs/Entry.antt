@@ -62,7 +62,7 @@ module _ {F R : Type 0} (g : Mut F (ℕ × Unit {0}) R) (read : R → Ordering) 
         IfVacant e (λ v. All (λ ix. answer ix ≢ Equal) xs)
 
 -- the insert of ix at the gap of a vacant entry is prepared, and nothing is added yet
-pub record FillsEntry (v : VacantEntry) (ix : ℕ) (p : Prepared) : Type 0 where
+pub record PreparesFill (v : VacantEntry) (ix : ℕ) (p : Prepared) : Type 0 where
   pub table : order_of (table_of p).now ≡ order_of (vacant_table v).now
   pub index : index_of p ≡ ix
   pub place : place_of p ≡ vacant_place v

@@ -36,8 +36,8 @@ blocks_of p = p.blocks
 abbrev pub unchanged_if_out_of_memory : {E : Type 0} → MutBor Order → Result Prepared E → Fml
 unchanged_if_out_of_memory t r = RestsIfErr the_row t (λ p. p.table.ghost_name) r (λ n. n ≡ t.now)
 
--- An insert of ix among the indexes xs is prepared, and nothing is added yet. If the answers are steady and rise, ix
--- will stand where Greater ends. `read` turns an answer into an `Ordering`.
+-- An insert of ix among the indexes xs is prepared, and nothing is added yet. If the answers are steady and, with ties
+-- broken, rise, ix will stand where Greater then ends. `read` turns an answer into an `Ordering`.
 module _ {F R : Type 0} (g : Mut F (ℕ × Unit {0}) R) (read : R → Ordering) (xs : List ℕ) (ix : ℕ) where
   pub record PreparesInsert (old : Asking F) (p : Prepared) : Type 0 where
     pub table : order_of (table_of p).now ≡ xs

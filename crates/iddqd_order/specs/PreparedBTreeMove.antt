@@ -41,12 +41,12 @@ pub record PreparesMove (xs : List ℕ) (ix : ℕ) (p : PreparedMove) : Type 0 w
   pub index : index_of p ≡ ix
   pub few_blocks : blocks_of p ≤ LEVELS
 
--- ix is inserted among the indexes xs. If the answers are steady and rise, it stands where Greater ends. `read` turns
--- an answer into an `Ordering`.
+-- ix is inserted among the indexes xs. If the answers are steady and, with ties broken, rise, it stands where Greater
+-- then ends. `read` turns an answer into an `Ordering`.
 module _ {F R : Type 0} (g : Mut F (ℕ × Unit {0}) R) (read : R → Ordering) (xs : List ℕ) (ix : ℕ) where
   pub record PutsIn (old : Asking F) (new_xs : List ℕ) : Type 0 where
     pub place : ℕ
     pub within : place ≤ length xs
     pub inserted : new_xs ≡ insert xs place ix
-    pub bound : (answer : ℕ → Ordering) → IsSteadyRising g xs (Some ix) read answer old →
+    pub belongs : (answer : ℕ → Ordering) → IsSteadyRising g xs (Some ix) read answer old →
         IsPlace (with_ties (Some ix) answer) xs place

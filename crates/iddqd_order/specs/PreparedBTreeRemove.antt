@@ -21,7 +21,8 @@ unfoldable pub is_found : PreparedBTreeRemove → Bool
 is_found p = is_some p.spot
 
 -- A removal of ix from the indexes xs is prepared. If ix is found, it is stored. If it is stored and the answers are
--- steady and rise, it is found. `SENTINEL` is missed with no ask. `read` turns an answer into an `Ordering`.
+-- steady and, with ties broken, rise, it is found. `SENTINEL` is missed with no ask. `read` turns an answer into an
+-- `Ordering`.
 module _ {F R : Type 0} (g : Mut F (ℕ × Unit {0}) R) (read : R → Ordering) (xs : List ℕ) (ix : ℕ) where
   pub record PreparesRemoval (old : Asking F) (p : PreparedBTreeRemove) (new : Asking F) : Type 0 where
     pub index : index_of p ≡ ix

@@ -51,7 +51,7 @@ module _ {F R : Type 0} (g : Mut F (ℕ × Unit {0}) R) (xs : List ℕ) (sought 
   abbrev pub IsSteady : (R → Ordering) → (ℕ → Ordering) → Asking F → Type 0
   IsSteady read answer a = Steady g (Askable xs sought) read answer (closure_of a)
 
-  -- the answers are steady and rise along the list
+  -- the answers are steady, and with ties broken they rise along the list
   pub record IsSteadyRising (read : R → Ordering) (answer : ℕ → Ordering) (a : Asking F) : Type 0 where
     pub steady : IsSteady read answer a
     pub rising : IsRising (with_ties sought answer) xs
@@ -59,8 +59,8 @@ module _ {F R : Type 0} (g : Mut F (ℕ × Unit {0}) R) (xs : List ℕ) (sought 
 -- calls that search in the indexes xs; `read` turns an answer into an `Ordering`
 module _ {F R : Type 0} (g : Mut F (ℕ × Unit {0}) R) (read : R → Ordering) (xs : List ℕ) where
   -- The search asks at most `limit` times. It returns `Ok` of a position: if the answers are steady, the answer there
-  -- is Equal. Or it returns `Err` of a position: if the answers also rise, that is where Greater ends. If `sought`
-  -- is `None` and `read` never gives Equal, it returns `Err`.
+  -- is Equal once ties are broken. Or it returns `Err` of a position: if the answers, with ties broken, also rise, that
+  -- is where Greater then ends. If `sought` is `None` and `read` never gives Equal, it returns `Err`.
   pub record SearchesWithin (limit : ℕ) (sought : Option ℕ) (old : Asking F) (end : Result ℕ ℕ) (new : Asking F)
       : Type 0 where
     pub asked : AsksWithin g (Askable xs sought) limit old new

@@ -146,7 +146,7 @@ impl<'a> Cursor<'a> {
 
     // Walks down from the root, moves over the index next to the gap, towards an end, and returns it. If there is none,
     // the cursor stays as it is.
-    pub(super) fn leave_leaf(
+    fn leave_leaf(
         &mut self,
         root: &'a Option<Node>,
         height: usize,

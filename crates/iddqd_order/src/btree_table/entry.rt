@@ -123,21 +123,20 @@ impl<'a> OccupiedEntry<'a> {
         ensures memory { capacity self.exit.0.now ≡ capacity (occupied_table self.entry).now }
     {
         let spot = self.spot;
-        let ix = self.table.index_at(&spot);
-        self.table.remove_at(ix, &spot);
-        ix
+        self.table.remove_at(&spot)
     }
 }
 
 impl<'a> VacantEntry<'a> {
     ghost use Rattle.std.specs.Borrow.{sem};
-    ghost use Rattle.iddqd_order.specs.Entry.{vacant_table, FillsEntry};
+    ghost use Rattle.iddqd_order.specs.Entry.{vacant_table, PreparesFill};
     ghost use Rattle.iddqd_order.specs.PreparedBTreeInsert as prepared_insert;
 
     /// Takes the memory for an insert of `ix` at the gap. It asks nothing.
     ///
     /// It returns `AllocError` if memory runs out; the contents then stay. Below the capacity it takes no
-    /// memory, and never fails. If the index doesn't belong at the gap, later searches may miss it.
+    /// memory, and never fails. If the index doesn't belong at the gap, later searches may miss it and other
+    /// indexes.
     #[tactic(auto, unfolding(crate::specs::MapBTreeTable::order_of))]
     pub fn prepare(self, ix: ItemIndex) -> Result<PreparedBTreeInsert<'a>, AllocError>
         requires assigned { ix ≢ sentinel }
@@ -145,7 +144,7 @@ impl<'a> VacantEntry<'a> {
         ensures* unchanged { sem 𝓛 (prepared_insert.unchanged_if_out_of_memory (vacant_table self.entry) result) }
         ensures same_reference { IfOk result
             (λ p. (prepared_insert.table_of p).ghost_name ≡ (vacant_table self.entry).ghost_name) }
-        ensures prepared { IfOk result (FillsEntry self.entry ix) }
+        ensures prepared { IfOk result (PreparesFill self.entry ix) }
         ensures memory { IfOk result
             (λ p. capacity (prepared_insert.table_of p).now ≡ capacity (vacant_table self.entry).now) }
         ensures roomy { HasRoom (vacant_table self.entry).now → IsOk result }

@@ -86,6 +86,8 @@ impl MapBTreeTable {
     }
 
     /// Inserts the index at the gap. The others keep their order. It asks nothing.
+    ///
+    /// If the index doesn't belong at the gap, later searches may miss it and other indexes.
     pub fn insert_in(&mut self, gap: &Gap, ix: ItemIndex, blocks: Blocks)
         requires fits { Fits self.old gap.now }
         requires enough { gap_blocks self.old gap.now ≤ blocks }

@@ -81,25 +81,24 @@ impl OwnedCursor {
             (place_in root.now height (to_gap self.old.path self.old.at))
             result (place_in root.now height (to_gap self.new.path self.new.at)) }
     {
-        let mut cursor = Cursor {
-            path: self.path,
-            row: &[],
-            at: self.at,
-            leaf_parent: None,
-        };
-        let Some(ix) = cursor.leave_leaf(root, height, towards) else {
+        let Some(node) = root else {
             return None;
         };
-        self.path = cursor.path;
-        self.row = Row::of(cursor.row);
-        self.at = cursor.at;
-        Some(ix)
+        let mut path = self.path;
+        path.set(0, self.at);
+        let Some(found) = node.step_over(height, &mut path, towards) else {
+            return None;
+        };
+        self.row = Row::of(found.1);
+        self.at = path.get(0);
+        self.path = path;
+        Some(found.0)
     }
 }
 
 /// The indexes of a table, in its order, from both ends. Once it has ended it stays ended.
 ///
-/// It takes no memory. A step costs a constant time on the average, and at most as much as a search.
+/// It takes no memory. A step within a leaf takes constant time; a step into another leaf may walk down from the root.
 /// Dropping it gives back the table's memory.
 #[derive(Drop)]
 pub struct IntoIter {
@@ -112,12 +111,12 @@ pub struct IntoIter {
 
 impl Model for IntoIter {
     ghost use Rattle.std.specs.Prelude.{◌≡◌, ◌+◌, ℕ, List};
-    ghost use Rattle.iddqd_order.specs.Cursor.{IsAt, between, to_gap};
+    ghost use Rattle.iddqd_order.specs.Cursor.{IsAt, next_behind, to_gap};
     ghost use Rattle.iddqd_order.specs.Tree.{IsTree, in_order, place_in};
 
     ghost Value = { List ℕ };
 
-    ghost view = { λ a. between a.left
+    ghost view = { λ a. next_behind a.left
         (place_in a.root a.height (to_gap a.front.path a.front.at)) (in_order a.root a.height) };
 
     ghost invariant = { λ a. IsTree a.root a.height

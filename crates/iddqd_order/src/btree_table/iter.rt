@@ -8,7 +8,7 @@ use std::marker::Model;
 
 /// The indexes of a table, in its order, from both ends. Once it has ended it stays ended.
 ///
-/// It takes no memory. A step costs a constant time on the average, and at most as much as a search.
+/// It takes no memory. A step within a leaf takes constant time; a step into another leaf may walk down from the root.
 #[derive(Clone, Drop)]
 pub struct Iter<'a> {
     root: &'a Option<Node>,
@@ -20,12 +20,12 @@ pub struct Iter<'a> {
 
 impl<'a> Model for Iter<'a> {
     ghost use Rattle.std.specs.Prelude.{◌≡◌, ◌+◌, ℕ, List};
-    ghost use Rattle.iddqd_order.specs.Cursor.{Stands, between, gap_of};
+    ghost use Rattle.iddqd_order.specs.Cursor.{Stands, next_behind, gap_of};
     ghost use Rattle.iddqd_order.specs.Tree.{IsTree, in_order};
 
     ghost Value = { List ℕ };
 
-    ghost view = { λ a. between a.left (gap_of a.root.now a.height a.front) (in_order a.root.now a.height) };
+    ghost view = { λ a. next_behind a.left (gap_of a.root.now a.height a.front) (in_order a.root.now a.height) };
 
     ghost invariant = { λ a. IsTree a.root.now a.height
         × Stands a.root.now a.height a.front × Stands a.root.now a.height a.back

@@ -1,7 +1,7 @@
 //! Blocks that a table takes in advance, and gives back.
 //!
 //! A table made for n indexes never needs another block while it has at most n, whatever is added and removed.
-//! Past n it grows by asking for memory, and it has no room again until enough indexes are removed.
+//! Past its capacity an insert may have to ask for memory, and it has no room until it holds less than its capacity.
 ghost use Rattle.std.specs.Prelude.{◌≡◌, ◌<◌, ◌≤◌};
 ghost use Rattle.iddqd_order.specs.MapBTreeTable.{capacity, room};
 ghost use Rattle.iddqd_order.specs.Sizes.{TakesRoom, Reserves, Shrinks};

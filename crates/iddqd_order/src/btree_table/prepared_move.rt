@@ -69,7 +69,7 @@ impl MapBTreeTable {
         requires { CanSearch F.FnMut (order_of self.old) (Some ix) asking.old }
         ensures indexes { IsIndexList (order_of self.old) }
         ensures removed { order_of self.new ≡ without (order_of self.old) ix }
-        ensures lower { self.new.height ≤ self.old.height }
+        ensures no_higher { self.new.height ≤ self.old.height }
         ensures reserved { self.new.reserved ≡ self.old.reserved }
         ensures asked { SearchAsks F.FnMut (order_of self.old) (Some ix) asking.old asking.new }
     {

@@ -1,7 +1,7 @@
 //! A removal whose search is done; it may have missed.
 //!
-//! Its contract says what is left as a filter of the list. It names no position, so it would be the same for a
-//! sorted list.
+//! Its contract says what is left as a filter of the list. It names no position, so it would read the same if the table
+//! were a sorted vector.
 ghost use Rattle.std.specs.Prelude.{◌≡◌, ◌≤◌, IsTrue, false};
 ghost use Rattle.iddqd_order.specs.MapBTreeTable.{order_of, capacity, without, LeadsTo, LeadsTo-prop};
 
@@ -30,14 +30,15 @@ impl<'a> PreparedBTreeRemove<'a> {
         self.spot.is_some()
     }
 
-    /// Removes the index if the search found it, and returns whether it did. The others keep their order.
+    /// Removes the index if the search found it, and returns whether it did. The others keep their order. The tree
+    /// gets no higher, so blocks taken for it before are still enough.
     #[tactic(auto, unfolding(crate::specs::PreparedBTreeRemove::is_found, crate::specs::PreparedBTreeRemove::index_of, crate::specs::MapBTreeTable::capacity))]
     pub fn remove(self) -> bool
         ensures found { result ≡ is_found self.entry }
         ensures removed { IsTrue result →
             order_of self.exit.0.now ≡ without (order_of (table_of self.entry).now) (index_of self.entry) }
         ensures kept { result ≡ false → self.exit.0.now ≡ (table_of self.entry).now }
-        ensures lower { self.exit.0.now.height ≤ (table_of self.entry).now.height }
+        ensures no_higher { self.exit.0.now.height ≤ (table_of self.entry).now.height }
         ensures memory { capacity self.exit.0.now ≡ capacity (table_of self.entry).now }
     {
         let ix = self.ix;

@@ -34,7 +34,7 @@ use std::ops::Bound;
 
 /// The indexes of a table between two gaps, in its order, from both ends. Once it has ended it stays ended.
 ///
-/// It takes no memory. A step costs a constant time on the average, and at most as much as a search.
+/// It takes no memory. A step within a leaf takes constant time; a step into another leaf may walk down from the root.
 #[derive(Clone, Drop)]
 pub struct Range<'a> {
     root: &'a Option<Node>,
@@ -231,7 +231,7 @@ impl MapBTreeTable {
     /// answers the keys.
     ///
     /// If keys change, they are the indexes between some two gaps. It asks at most
-    /// `4 + 2 * digits(len)` times for each bound that there is, and takes no memory.
+    /// `2 * (4 + 2 * digits(len))` times, and takes no memory.
     pub fn range<K: Ord + Drop, Q: Comparable<K>, F: FnMut(ItemIndex) -> K>(
         &self,
         lower: Bound<&Q>,

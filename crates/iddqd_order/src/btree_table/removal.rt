@@ -5,7 +5,7 @@
 //! there is none.
 //!
 //! If two inner nodes are merged, the block of the second goes to the reserve.
-ghost use Rattle.std.specs.Prelude.{◌≡◌, ◌↔◌, ℕ, ◌+◌, ◌<◌, ◌≤◌, [], ◌∷◌, ◌++◌, length, slice_index_or, option_to_list, vec_capacity, IsSome, min};
+ghost use Rattle.std.specs.Prelude.{◌≡◌, ◌↔◌, ℕ, ◌+◌, ◌<◌, ◌≤◌, [], ◌∷◌, ◌++◌, length, slice_index, slice_index_or, option_to_list, vec_capacity, IsSome, min};
 ghost use Rattle.std.specs.List.{remove};
 ghost use Rattle.iddqd_order.specs.declared.btree_table.node.Node.{Node};
 ghost use Rattle.iddqd_order.specs.Node.{row, children, child_room, row as row_of, flat, inners, IsFormed, ReachesIndex, place_at_level};
@@ -18,31 +18,32 @@ use crate::btree_table::reserve::Reserve;
 use crate::btree_table::row::{CAPACITY, LEAST, Row};
 use iddqd::item_index::ItemIndex;
 
-// Removes the index to which the path goes at the level, and returns the new height. It takes no memory.
+// Removes the index to which the path goes at the level. Returns it and the new height. It takes no memory.
 pub(super) fn remove_in(
     root: &mut Option<Node>,
     height: usize,
     path: &Path,
     level: usize,
     reserve: &mut Reserve,
-) -> usize
+) -> (ItemIndex, usize)
     requires tree { IsTree root.old height }
     requires holds { ReachesIndexIn level root.old height path.now }
     requires inners { reserve.old.inners ≡ inners_in root.old height }
-    ensures inners { reserve.new.inners ≡ inners_in root.new result }
+    ensures index { result.0
+        ≡ slice_index (in_order root.old height) (place_at_level_in level root.old height path.now) }
+    ensures inners { reserve.new.inners ≡ inners_in root.new result.1 }
     ensures reserved { reserve.new.reserved ≡ reserve.old.reserved }
-    ensures lower { result ≤ height }
-    ensures tree { IsTree root.new result }
-    ensures items { in_order root.new result
+    ensures no_higher { result.1 ≤ height }
+    ensures tree { IsTree root.new result.1 }
+    ensures items { in_order root.new result.1
         ≡ remove (in_order root.old height) (place_at_level_in level root.old height path.now) }
 {
-    if let Some(node) = root {
-        node.remove(height, path, level, reserve);
-        if node.row.len() > 0 {
-            return height;
-        }
+    let Some(node) = root else { unreachable!() };
+    let removed = node.remove(height, path, level, reserve);
+    if node.row.len() > 0 {
+        return (removed, height);
     }
-    drop_empty_root(root, height, reserve)
+    (removed, drop_empty_root(root, height, reserve))
 }
 
 // Drops a root without indexes, and returns the new height. The root's only child, if there is one, becomes the root,
@@ -56,7 +57,7 @@ pub(super) fn drop_empty_root(
     requires inners { reserve.old.inners ≡ inners_in root.old height }
     ensures inners { reserve.new.inners ≡ inners_in root.new result }
     ensures reserved { reserve.new.reserved ≡ reserve.old.reserved }
-    ensures lower { result ≤ height }
+    ensures no_higher { result ≤ height }
     ensures tree { IsTree root.new result }
     ensures items { in_order root.new result ≡ in_order root.old height }
 {
@@ -72,13 +73,20 @@ pub(super) fn drop_empty_root(
 }
 
 impl Node {
-    // Removes the index to which the path goes at the level. This node may then hold one index fewer.
-    pub(super) fn remove(&mut self, height: usize, path: &Path, level: usize, reserve: &mut Reserve)
+    // Removes the index to which the path goes at the level, and returns it. This node may then hold one index fewer.
+    pub(super) fn remove(
+        &mut self,
+        height: usize,
+        path: &Path,
+        level: usize,
+        reserve: &mut Reserve,
+    ) -> ItemIndex
         requires levels { height < LEVELS }
         requires some { 1 ≤ length (row self.old) }
         requires formed { IsFormed height self.old }
         requires holds { ReachesIndex level height self.old path.now }
         requires counted { inners height self.old ≤ reserve.old.inners }
+        ensures index { result ≡ slice_index (flat height self.old) (place_at_level level height self.old path.now) }
         ensures counted { Recounts reserve.old reserve.new (inners height self.old) (inners height self.new) }
         ensures items { flat height self.new
             ≡ remove (flat height self.old) (place_at_level level height self.old path.now) }
@@ -87,16 +95,18 @@ impl Node {
     {
         let i = path.get(height);
         if height == 0 {
-            self.row.remove(i);
-            return;
+            return self.row.remove(i);
         }
-        if height == level {
+        let removed = if height == level {
+            let here = self.row.get(i);
             let last = self.children[i].remove_last(height - 1, reserve);
             self.row.set(i, last);
+            here
         } else {
-            self.children[i].remove(height - 1, path, level, reserve);
-        }
+            self.children[i].remove(height - 1, path, level, reserve)
+        };
         mend(&mut self.row, &mut self.children, i, reserve);
+        removed
     }
 
     // Removes the last index below this node, and returns it. This node may then hold one index fewer.

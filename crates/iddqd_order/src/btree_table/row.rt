@@ -130,12 +130,9 @@ impl Row {
         ensures head { self.new ≡ take at self.old }
         ensures tail { result ≡ drop at self.old }
     {
-        let count = self.len - at as u8;
-        let mut items = [ItemIndex::new(0); CAPACITY];
-        let own = &self.items[..];
-        items[..count as usize].copy_from_slice(&own[at..self.len as usize]);
+        let upper = Row::of(self.slice_from(at));
         self.len = at as u8;
-        Row { items, len: count }
+        upper
     }
 
     pub(super) fn append(&mut self, other: &Row)

@@ -521,10 +521,11 @@ impl MapBTreeTable {
     }
 
     /// Removes the index, if it is stored, by a walk along the list. It asks nothing and takes no
-    /// memory. The others keep their order.
+    /// memory. The others keep their order. The tree gets no higher, so blocks taken for it before are still
+    /// enough.
     pub fn remove_exact(&mut self, ix: ItemIndex)
         ensures removed { order_of self.new ≡ without (order_of self.old) ix }
-        ensures lower { self.new.height ≤ self.old.height }
+        ensures no_higher { self.new.height ≤ self.old.height }
         ensures memory { capacity self.new ≡ capacity self.old }
     {
         self.remove_by_walk(ix)
@@ -533,15 +534,15 @@ impl MapBTreeTable {
     // Removes `ix`, if it is stored, by a walk along the list.
     pub(super) fn remove_by_walk(&mut self, ix: ItemIndex)
         ensures removed { order_of self.new ≡ without (order_of self.old) ix }
-        ensures lower { self.new.height ≤ self.old.height }
+        ensures no_higher { self.new.height ≤ self.old.height }
         ensures reserved { self.new.reserved ≡ self.old.reserved }
     {
         let spot = self.locate(ix);
         self.remove_found(ix, &spot);
     }
 
-    /// Gives each index its new name in its place. It asks nothing and takes no memory. If all names stay, it
-    /// does nothing.
+    /// Gives each index its new name in its place. It asks nothing and takes no memory. With `Identity` it
+    /// returns at once.
     pub fn remap_indexes(&mut self, remap: &IndexRemap)
         requires can_remap { (ix : ℕ) → Contains (order_of self.old) ix → CanRemap remap.now ix }
         requires distinct { (i j : ℕ) → Contains (order_of self.old) i → Contains (order_of self.old) j →
@@ -621,33 +622,36 @@ impl MapBTreeTable {
         ensures found { result ≡ is_some spot.now }
         ensures removed { IsTrue result → order_of self.new ≡ without (order_of self.old) ix }
         ensures kept { result ≡ false → self.new ≡ self.old }
-        ensures lower { self.new.height ≤ self.old.height }
+        ensures no_higher { self.new.height ≤ self.old.height }
         ensures reserved { self.new.reserved ≡ self.old.reserved }
     {
         match spot {
             Some(spot) => {
-                self.remove_at(ix, spot);
+                self.remove_at(spot);
                 true
             }
             None => false,
         }
     }
 
-    // Removes `ix` from its spot.
-    pub(super) fn remove_at(&mut self, ix: ItemIndex, spot: &Spot)
-        requires { LeadsTo self.old ix (Some spot.now) }
-        ensures removed { order_of self.new ≡ without (order_of self.old) ix }
-        ensures lower { self.new.height ≤ self.old.height }
+    // Removes the index at a spot, and returns it.
+    pub(super) fn remove_at(&mut self, spot: &Spot) -> ItemIndex
+        requires { IsSpot self.old spot.now }
+        ensures index { result ≡ slice_index (order_of self.old) (spot_place self.old spot.now) }
+        ensures removed { order_of self.new ≡ without (order_of self.old) result }
+        ensures no_higher { self.new.height ≤ self.old.height }
         ensures reserved { self.new.reserved ≡ self.old.reserved }
     {
-        self.height = remove_in(
+        let (ix, height) = remove_in(
             &mut self.root,
             self.height,
             &spot.path,
             spot.level,
             &mut self.reserve,
         );
+        self.height = height;
         self.len -= 1;
+        ix
     }
 }
 

@@ -1,5 +1,5 @@
 //! The check of a table's indexes. By the invariant they are distinct, and none is `SENTINEL`.
-ghost use Rattle.std.specs.Prelude.{◌≡◌, IfOk};
+ghost use Rattle.std.specs.Prelude.{◌≡◌, ◌↔◌, ◌<◌, All, IfOk, IsTrue};
 ghost use Rattle.iddqd.specs.Validation.{AreAsExpected, Validates};
 ghost use Rattle.iddqd_order.specs.MapBTreeTable.{order_of, IsIndexList};
 
@@ -13,7 +13,7 @@ use std::alloc::AllocError;
 impl MapBTreeTable {
     /// Checks that the table has `expected_len` indexes and, in `Compact`, that they are 0, 1, ...
     ///
-    /// It sorts a copy of the indexes, for which memory may run out.
+    /// A table that passes takes no memory. Otherwise the indexes are copied for the text of the error.
     pub fn validate(
         &self,
         expected_len: usize,
@@ -21,12 +21,40 @@ impl MapBTreeTable {
     ) -> Result<(), ValidateRefusal<TableValidationError>>
         ensures { Validates (AreAsExpected compactness expected_len (order_of self.now)) result }
     {
+        if self.is_as_expected(expected_len, compactness) {
+            return Ok(());
+        }
         match self.list() {
             Ok(indexes) => {
                 validate_ordered_indexes(self.allocator(), &indexes, expected_len, compactness)
             }
             Err(error) => Err(ValidateRefusal::Memory(error)),
         }
+    }
+
+    // Whether the table has `expected_len` indexes and, in `Compact`, each is below that.
+    fn is_as_expected(&self, expected_len: usize, compactness: ValidateCompact) -> bool
+        ensures { IsTrue result ↔ AreAsExpected compactness expected_len (order_of self.now) }
+    {
+        if self.len() != expected_len {
+            return false;
+        }
+        match compactness {
+            ValidateCompact::Compact => self.are_below(expected_len),
+            ValidateCompact::NonCompact => true,
+        }
+    }
+
+    // Whether each index is below `end`.
+    fn are_below(&self, end: usize) -> bool
+        ensures { IsTrue result ↔ All (λ ix. ix < end) (order_of self.now) }
+    {
+        for ix in self.iter() {
+            if ix.as_u32() as usize >= end {
+                return false;
+            }
+        }
+        true
     }
 
     // A copy of the indexes, in their order.

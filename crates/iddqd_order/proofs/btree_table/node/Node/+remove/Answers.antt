@@ -1,6 +1,8 @@
-use Rattle.iddqd_order.proofs.Names.{rules, ℕ, suc, ◌-◌, remove, slice_index, arith, ap, ◌∙◌, roll-Node, out-roll-Node, row, children, child_room, flat, place_at_level}
+use Rattle.iddqd_order.proofs.Names.{rules, ℕ, suc, ◌-◌, remove, slice_index, arith, ap, sym, ◌∙◌, ◌≡◌, subst, child, roll-Node, out-roll-Node, row, children, child_room, flat, place_at_level}
 use Rattle.iddqd_order.proofs.NodeLemmas.{row-roll, children-roll, room-roll}
 use Rattle.iddqd_order.proofs.RemovalLemmas.{holds-leaf, holds-level, goes-below, ends-inner, child-below, child-before, remade-leaf, TookNow, took-now, took-below, took-here, remade, room-kept}
+use Rattle.iddqd_order.proofs.DescentLemmas.{child_is}
+use Rattle.iddqd_order.proofs.SpotCursorLemmas.{ends-here, read-below}
 use Rattle.iddqd_order.specs.Node.{inners}
 use Rattle.iddqd_order.specs.Removal.{inners_of, Recounts}
 use Rattle.iddqd_order.proofs.RecountLemmas.{child-counted, inners-leaf, unchanged, recounted-below, recounted-mended}
@@ -19,6 +21,9 @@ returns-then-height-eq0 t c =
     (roll-Node _) c.args.path.now c.if-height-eq0.true c.get-i.ensures c.requires.formed c.requires.holds
     (row-roll _ ∙ c.remove.ensures.items) (children-roll _) in
     record {
+      index =
+          c.remove.ensures.value
+          ∙ sym (ends-here (omega (arith, c.if-height-eq0.true)) c.get-i.ensures c.requires.formed c.requires.holds).spot_is;
       items = k.items;
       formed = k.formed;
       fewer = k.fewer;
@@ -30,6 +35,9 @@ returns-then-height-eq0 t c =
 pub index_mut-requires : goal.index_mut-requires
 index_mut-requires t c =
     search (rules, (ends-inner c.args.height c.args.level c.get-i.result c.args.self.now c.args.path.now c.if-height-eq0.false c.if-height-level.true c.get-i.ensures c.requires.formed c.requires.holds).here)
+
+pub get-here-requires : goal.get-here-requires
+get-here-requires t c = (ends-here (omega (arith, c.if-height-level.true)) c.get-i.ensures c.requires.formed c.requires.holds).within
 
 pub remove_last-last-requires : goal.remove_last-last-requires
 remove_last-last-requires t c =
@@ -53,8 +61,8 @@ index_mut-requires-else-height-level t c =
     let le = holds-level c.args.level c.args.height c.args.self.now c.args.path.now c.requires.holds in
     search (rules, (goes-below c.args.height c.args.level c.get-i.result c.args.self.now c.args.path.now (omega arith) c.get-i.ensures c.requires.formed c.requires.holds).here)
 
-pub remove-requires-else-height-level : goal.remove-requires-else-height-level
-remove-requires-else-height-level t c =
+pub remove-removed-requires : goal.remove-removed-requires
+remove-removed-requires t c =
     let b = child-below c.args.level c.args.height c.get-i.result c.args.self.now c.index_mut-else-height-level.result.now c.args.path.now c.if-height-eq0.false c.if-height-level.false c.get-i.ensures c.requires.formed c.requires.holds (search rules) in
     let five = b.formed.0 in
     let le = holds-level c.args.level c.args.height c.args.self.now c.args.path.now c.requires.holds in
@@ -78,11 +86,33 @@ took t c =
           (ap row w.self-is ∙ row-roll _ ∙ set_is) (ap children w.self-is ∙ children-roll _ ∙ children-roll _)
           (ap child_room w.self-is ∙ room-roll _ ∙ room-roll _))
       | else-height-level w ↦
-          (let d = w.remove-else-height-level.ensures in
-          let k = took-below c.args.level c.args.height c.get-i.result c.args.self.now w.index_mut-else-height-level.result.now w.remove-else-height-level.new.self c.args.path.now c.if-height-eq0.false w.if-height-level.false c.get-i.ensures c.requires.formed c.requires.some c.requires.holds (search rules) d.items d.formed d.fewer in
+          (let d = w.remove-removed.ensures in
+          let k = took-below c.args.level c.args.height c.get-i.result c.args.self.now w.index_mut-else-height-level.result.now w.remove-removed.new.self c.args.path.now c.if-height-eq0.false w.if-height-level.false c.get-i.ensures c.requires.formed c.requires.some c.requires.holds (search rules) d.items d.formed d.fewer in
           took-now c.args.height c.get-i.result c.args.self.now c.if-height-level.self _ _ _ k
           (ap row w.self-is ∙ row-roll _) (ap children w.self-is ∙ children-roll _)
           (ap child_room w.self-is ∙ room-roll _))
+    ]
+
+-- the index is the one to which the path goes, on both ways
+index :
+    (t : ℕ) (c : goal.After-mend-arg-3-1 t)
+    → c.if-height-level.removed
+    ≡ slice_index (flat c.args.height c.args.self.now)
+    (place_at_level c.args.level c.args.height c.args.self.now c.args.path.now)
+index t c =
+    elim c.if-height-level.branch [
+      | then-height-level w ↦
+          w.removed-is ∙ w.get-here.ensures
+          ∙ sym (ends-here (omega (arith, w.if-height-level.true)) c.get-i.ensures c.requires.formed c.requires.holds).spot_is
+      | else-height-level w ↦
+          (let le = holds-level c.args.level c.args.height c.args.self.now c.args.path.now c.requires.holds in
+          let other = w.if-height-level.false in
+          let b = goes-below c.args.height c.args.level c.get-i.result c.args.self.now c.args.path.now (omega arith) c.get-i.ensures c.requires.formed c.requires.holds in
+          let same : w.index_mut-else-height-level.result.now ≡ child c.args.self.now c.get-i.result =
+          child_is c.args.self.now c.get-i.result w.index_mut-else-height-level.result.now b.here (search rules) in
+          w.removed-is
+          ∙ read-below c.args.height c.args.level c.get-i.result w.remove-removed.result c.args.self.now c.args.path.now b c.requires.formed
+          (subst (λ z. w.remove-removed.result ≡ slice_index (flat (c.args.height - 1) z) (place_at_level c.args.level (c.args.height - 1) z c.args.path.now)) same w.remove-removed.ensures.index))
     ]
 
 below :
@@ -100,7 +130,7 @@ below t c =
           let other = w.if-height-level.false in
           let here = (goes-below c.args.height c.args.level c.get-i.result c.args.self.now c.args.path.now (omega arith) c.get-i.ensures c.requires.formed c.requires.holds).here in
           rw (ap children w.self-is ∙ children-roll _, w.reserve-is)
-          (recounted-below c.args.height c.get-i.result c.args.self.now w.index_mut-else-height-level.result.now w.remove-else-height-level.new.self c.args.reserve.now w.remove-else-height-level.new.reserve c.if-height-eq0.false here (search rules) w.remove-else-height-level.ensures.counted))
+          (recounted-below c.args.height c.get-i.result c.args.self.now w.index_mut-else-height-level.result.now w.remove-removed.new.self c.args.reserve.now w.remove-removed.new.reserve c.if-height-eq0.false here (search rules) w.remove-removed.ensures.counted))
     ]
 
 pub mend-requires : goal.mend-requires
@@ -118,6 +148,7 @@ returns t c =
     (c.mend.ensures.mended (c.args.height - 1) k.took.may_lack) (row-roll _) (children-roll _)
     (room-kept c.args.self.now _ (c.mend.ensures.capacity ∙ k.room_is)) in
     record {
+      index = index t c.before;
       items = m.items;
       formed = m.formed;
       fewer = m.fewer;

@@ -21,4 +21,4 @@ returns-clause-moved g c = rw c.remove_by_search.ensures.removed at c.insert_aga
 pub insert_again-requires-clause-enough : goal.insert_again-requires-clause-enough
 insert_again-requires-clause-enough g c full =
     let left = c.remove_by_search.ensures in
-    move-enough c.args.self.table.now _ c.args.self.ix _ c.args.self.stored left.removed left.lower left.reserved c.args.self.as_many full
+    move-enough c.args.self.table.now _ c.args.self.ix _ c.args.self.stored left.removed left.no_higher left.reserved c.args.self.as_many full

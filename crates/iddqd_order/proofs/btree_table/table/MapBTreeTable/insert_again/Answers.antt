@@ -9,4 +9,4 @@ insert_at-requires-clause-enough g c =
 pub returns-clause-inserted : goal.returns-clause-inserted
 returns-clause-inserted g c =
     let gap = c.find_own_gap-gap.ensures in
-    record { place = _; within = gap.within; inserted = c.insert_at.ensures.inserted; bound = gap.place }
+    record { place = _; within = gap.within; inserted = c.insert_at.ensures.inserted; belongs = gap.place }

@@ -13,7 +13,7 @@ pub insert_again-requires-clause-enough : goal.insert_again-requires-clause-enou
 insert_again-requires-clause-enough g c full =
     let left = c.remove_by_search.ensures in
     let fewer = without-fewer _ _ c.requires.stored in
-    move-left c.args.self.now _ c.args.ix _ fewer left.removed left.lower left.reserved c.requires.enough full
+    move-left c.args.self.now _ c.args.ix _ fewer left.removed left.no_higher left.reserved c.requires.enough full
 
 pub returns-clause-asked : goal.returns-clause-asked
 returns-clause-asked g c =

@@ -1,9 +1,0 @@
-use Rattle.std.proofs.Common.{arith}
-use Rattle.std.proofs.lemmas.Grind.{common_steps}
-use Rattle.iddqd_order.proofs.btree_table.row.Row.split_off.Goals as goal
-
-pub invariant_of-result : goal.invariant_of-result
-invariant_of-result c = grind (arith, common_steps)
-
-pub returns-clause-head : goal.returns-clause-head
-returns-clause-head c = grind (arith, common_steps)
