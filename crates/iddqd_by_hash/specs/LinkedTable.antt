@@ -43,7 +43,7 @@ pub record KeepsLinkMemory (old new : LinkedState) : Type 0 where
   pub same_capacity : new.capacity ≡ old.capacity
   pub same_memory : new.memory ≡ old.memory
 
--- the indexes of an array of links are chains, and these are their heads
+-- the indexes that are in a table by these links form chains, and `heads` has the first index of each chain
 abbrev pub AreHeadsOf : FinMap nat_cmp ℕ → List Link → Type 0
 AreHeadsOf heads links = AreHeads heads (filed_by links) (next_of links) (prev_of links)
 

@@ -70,11 +70,11 @@ pub record AreHeads (heads filed : FinMap nat_cmp ℕ) (next prev : ℕ → ℕ)
       (ix hash : ℕ) → finite.get heads ix ≡ Some hash ↔ ((finite.get filed ix ≡ Some hash) × (prev ix ≡ sentinel))
   pub one_head : (i j hash : ℕ) → finite.get heads i ≡ Some hash → finite.get heads j ≡ Some hash → i ≡ j
 
--- `next` after `ix` was linked between `head` and `follower`
+-- what `next` becomes when `ix` is linked between `head` and `follower`
 abbrev pub next_behind : ℕ → ℕ → ℕ → (ℕ → ℕ) → ℕ → ℕ
 next_behind head ix follower next j = if j == head then ix else if j == ix then follower else next j
 
--- `prev` after `ix` was linked between `head` and `follower`
+-- what `prev` becomes when `ix` is linked between `head` and `follower`
 abbrev pub prev_behind : ℕ → ℕ → ℕ → (ℕ → ℕ) → ℕ → ℕ
 prev_behind head ix follower prev j = if j == follower then ix else if j == ix then head else prev j
 

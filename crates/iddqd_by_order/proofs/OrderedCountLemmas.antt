@@ -1,5 +1,5 @@
 -- For callers: a list that has exactly the live indexes has as many of them as there are items.
-use Rattle.std.proofs.Common.{◌≡◌, ◌<◌, ℕ, List, length, get_or, arith}
+use Rattle.std.proofs.Common.{◌≡◌, ℕ, List, length, get_or, arith}
 use Rattle.std.proofs.lemmas.List.Elements.{Contains-get_or}
 use Rattle.iddqd.specs.Store.{Store, IsValid, live_count}
 use Rattle.iddqd.specs.Validation.{Allows, AreAsExpected}

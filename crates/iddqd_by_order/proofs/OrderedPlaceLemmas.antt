@@ -1,23 +1,21 @@
 -- For callers: each step of a store and of a list keeps an ordered table in place, and exact.
-use Rattle.std.proofs.Common.{◌≡◌, ◌∙◌, ◌+◌, ◌<◌, ℕ, Bool, true, List, [], ◌∷◌, length, map, get_or, insert, inl, inr, Option, Some, None, option_map, refl, sym, ap, subst, Ordering, arith}
+use Rattle.std.proofs.Common.{◌≡◌, ◌∙◌, ◌<◌, ℕ, Bool, true, List, [], ◌∷◌, length, map, get_or, insert, inl, inr, Option, Some, None, option_map, refl, sym, ap, subst, Ordering}
 use Rattle.std.specs.List.{Contains}
 use Rattle.std.specs.List.Sorted.{IsStrictlySortedBy}
 use Rattle.std.specs.Option.{option_cmp}
 use Rattle.std.specs.Ordering.{nat_cmp, ordering_then, eq_by_cmp}
 use Rattle.std.specs.Cmp.{IsTotalOrder, Equal-is, eq_by_cmp_equiv}
 use Rattle.std.specs.Cmp.Lexicographic.{options_total}
-use Rattle.std.specs.declared.cmp.Ordering.TheVariants.{Equal}
 use Rattle.std.proofs.lemmas.Bool.{cases_eq, cases_lt}
-use Rattle.std.proofs.lemmas.Cmp.{alike_right, tied_itself}
+use Rattle.std.proofs.lemmas.Cmp.{tied_itself}
 use Rattle.std.proofs.lemmas.List.Elements.{Contains-get_or}
 use Rattle.std.proofs.lemmas.List.Kept.{IsStrictlySortedBy-filter}
-use Rattle.std.proofs.lemmas.Map.Keys.{Less-from_sorted, sorted_from_all_adjacent}
 use Rattle.iddqd.specs.Store.{Store, IsValid, empty_within, cleared, live_count, get, next_index, inserted, removed, rebound}
 use Rattle.iddqd.specs.Compaction.{compacted, rank}
 use Rattle.iddqd.proofs.StoreLemmas.{contains_head, get-rebound_at, get-rebound_other}
 use Rattle.iddqd.proofs.LiveLemmas.{none_live, none_not_live, item_at, next_vacant, get-removed_other, get-inserted_at, get-inserted_other}
 use Rattle.iddqd.proofs.CompactionLemmas.{get-compacted, rank_rises}
-use Rattle.iddqd_order.specs.Entry.{vacant_table, vacant_place, FillsEntry}
+use Rattle.iddqd_order.specs.Entry.{vacant_table, vacant_place, PreparesFill}
 use Rattle.iddqd_order.specs.KeyOrder.{key_then_index, ComparesKeys}
 use Rattle.iddqd_order.specs.MapBTreeTable.{order_of, without}
 use Rattle.iddqd_order.specs.PreparedBTreeInsert.{Prepared, table_of, index_of, place_of}
@@ -209,7 +207,7 @@ module _ {T K : Type 0} (key_of : T → K) (compare : K → K → Ordering) (tot
           (vacant : VacantEntry) (prepared : Prepared) (ix : ℕ) (new : List ℕ)
           → order_of (vacant_table vacant).now ≡ order
           → IsVacantAt key_of compare s order comparing (vacant_place vacant)
-          → FillsEntry vacant ix prepared
+          → PreparesFill vacant ix prepared
           → ix ≡ next_index s
           → new ≡ insert (order_of (table_of prepared).now) (place_of prepared) (index_of prepared)
           → AddsInPlace key_of compare s item order new

@@ -1,8 +1,7 @@
 -- How an ordered table of indexes relates to one key of a store's items. `order` is the table's list of indexes.
-use Rattle.std.specs.Prelude.{◌≡◌, ◌≢◌, ◌≤◌, ℕ, Bool, List, length, insert, nat_eq, Option, Some, None}
+use Rattle.std.specs.Prelude.{◌≡◌, ◌≢◌, ◌≤◌, ℕ, List, length, insert, nat_eq, Option, Some, None}
 use Rattle.std.specs.List.{Contains, IsDistinct}
-use Rattle.std.specs.Option.{option_map, option_cmp}
-use Rattle.std.specs.Ordering.{is_eq, eq_by_cmp}
+use Rattle.std.specs.Ordering.{eq_by_cmp}
 use Rattle.std.specs.declared.cmp.Ordering.{Ordering}
 use Rattle.std.specs.declared.cmp.Ordering.TheVariants.{Less, Greater}
 use Rattle.iddqd.specs.Store.{Store, get, next_index, inserted}
@@ -16,7 +15,7 @@ pub use Rattle.iddqd_keys.specs.OrderedQuery.{is_equal}
 use Rattle.iddqd_keys.specs.Scan.{IsLive, IsHit, HasNoHit, passes_by}
 use Rattle.iddqd_keys.specs.AnyTable.{HasExactly, TableIsInSync, TableKeeps, TableLooksUp}
 
--- the list after the index that a look-up found is removed; unchanged if it found none
+-- `new` is `old` without the index that a look-up found, or `old` itself if it found none
 abbrev pub Takes : List ℕ → Option ℕ → List ℕ → Type 0
 Takes old (Some ix) new = new ≡ without old ix
 Takes old None new = new ≡ old

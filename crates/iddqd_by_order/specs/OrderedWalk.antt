@@ -1,12 +1,9 @@
 -- What an iteration between two bounds of a key returns, and the items at its indexes.
-use Rattle.std.specs.Prelude.{◌≡◌, ◌≢◌, ◌↔◌, ◌++◌, ℕ, Bool, List, Option, Some, None, filter_map, nat_eq}
-use Rattle.std.specs.List.{Contains, IsDistinct}
-use Rattle.std.specs.Option.{option_map, option_cmp}
+use Rattle.std.specs.Prelude.{◌≡◌, ◌++◌, ℕ, Bool, List, nat_eq}
+use Rattle.std.specs.List.{IsDistinct}
 use Rattle.std.specs.declared.cmp.Ordering.{Ordering}
-use Rattle.std.specs.declared.cmp.Ordering.TheVariants.{Less}
-use Rattle.iddqd.specs.Store.{Store, get}
-use Rattle.iddqd_keys.specs.Scan.{IsHit, HasNoHit, passes_by}
-use Rattle.iddqd_by_order.specs.Ordered.{AreLive, IsInPlace, key_at}
+use Rattle.iddqd.specs.Store.{Store}
+use Rattle.iddqd_by_order.specs.Ordered.{AreLive, IsInPlace}
 pub use Rattle.iddqd_keys.specs.KeyWalk.{index_with_item, pairs_at, ComesBefore, IsFirstHit, SortsWithin}
 
 -- `run` has consecutive members of `whole`, in their order

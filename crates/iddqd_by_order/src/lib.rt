@@ -1,6 +1,6 @@
 //! Look-ups, ranges and removals by one key of a store's items, in an ordered table of the store's indexes.
 //!
-//! As in `iddqd_by_hash`, the calls are free functions that are handed the table and the store.
+//! The look-ups, ranges and removals are free functions that are handed the table and the store.
 #![tactic(auto)]
 
 mod borrowed_key_query;

@@ -113,7 +113,7 @@ where
 }
 
 /// The indexes whose items have keys between two bounds, in the order of the keys: none if the lower bound is above the
-/// upper one. If the list isn't sorted, they are consecutive in it.
+/// upper one. If the list isn't sorted, the result is some consecutive part of it, whatever the keys there are.
 ///
 /// It compares each query with at most 4 + 2d keys, where the number of indexes in the table has d binary digits, and
 /// takes no memory.

@@ -4,7 +4,7 @@ use crate::driver::script::{assert_answer, halves, ix, printed, words};
 use iddqd::hash_builder::DefaultHashBuilder;
 use iddqd::item_index::ItemIndex;
 use iddqd_keys::key_of::KeyQuery;
-use iddqd_tri::tri_item::TriItem;
+use iddqd_tri::tri_hash_item::TriHashItem;
 use iddqd_tri::tri_items::TriItems;
 use iddqd_tri::tri_refusal::TriRefusal;
 use std::alloc::{AllocError, Global};
@@ -16,7 +16,7 @@ use std::test::Fail;
 #[derive(Clone, Copy, Debug)]
 struct Trio(u32, u32, u32);
 
-impl TriItem for Trio {
+impl TriHashItem for Trio {
     type Key1 = u32;
 
     type Key2 = u32;
@@ -199,6 +199,17 @@ fn a_query_finds_an_item_by_each_key(rt: HostRuntime) -> Result<(), Fail> {
     assert!(rt; find_by(&items, 7) == [Some(ix(0)), None, None]);
     assert!(rt; find_by(&items, 8) == [None, Some(ix(0)), None]);
     assert!(rt; find_by(&items, 9) == [None, None, Some(ix(0))]);
+    Ok(())
+}
+
+#[test]
+fn a_refusal_returns_the_item(rt: HostRuntime) -> Result<(), Fail> {
+    let mut items = TriItems::with_limit(rt.alloc(), DefaultHashBuilder::default(), 0);
+    let back = match insert(&mut items, Trio(7, 8, 9)) {
+        Ok(_) => None,
+        Err(refusal) => Some(refusal.into_item()),
+    };
+    assert!(rt; matches!(back, Some(Trio(7, 8, 9))));
     Ok(())
 }
 

@@ -1,4 +1,5 @@
--- For callers: the next hit behind an index in the order of a key, and the hits from an index on.
+-- For callers: in the order of a key, the first hit within bounds, the next hit behind an index, and the hits from an
+-- index on.
 use Rattle.std.proofs.Common.{◌≡◌, ◌≢◌, ◌∙◌, ◌&&◌, ◌⊎◌, inl, inr, ◌↔◌, ℕ, Bool, true, false, not, List, [], ◌∷◌, Option, Some, None, refl, sym, ap, subst, Ordering}
 use Rattle.std.specs.Cmp.{IsTotalOrder}
 use Rattle.std.specs.List.{Contains}
@@ -262,6 +263,47 @@ module _ {T K : Type 0} (key_of : T → K) (compare : K → K → Ordering) wher
 
       reaches : (j : ℕ) → IsHit s between j → IsHit s reaching j
       reaches j (y, is, passed) = (y, is, (both _ _ passed).1)
+
+      -- from the lower bound on
+      abbrev from_lower : T → Bool
+      from_lower = passes_by key_of (is_between (bound_map cmp lower) (bound_map cmp Unbounded))
+
+      from_on : (j : ℕ) → IsHit s between j → IsHit s from_lower j
+      from_on j (y, is, passed) =
+          let from : is_from (bound_map cmp lower) (key_of y) ≡ true = (both _ _ passed).0 in
+          (y, is, rw from refl)
+
+      module _ (item : T) (live : get s ix ≡ Some item) where
+        -- the first from the lower bound on is the first within both bounds, if it is up to the upper one
+        pub IsFirstHit-reached :
+            is_up_to (bound_map cmp upper) (key_of item) ≡ true
+            → IsFirstHit key_of compare s from_lower (Some ix)
+            → IsFirstHit key_of compare s between (Some ix)
+        IsFirstHit-reached up_to ((x, is, passed), first) =
+            let from : is_from (bound_map cmp lower) (key_of x) ≡ true = (both _ _ passed).0 in
+            let one : Some x ≡ Some item = sym is ∙ live in
+            let from_item : is_from (bound_map cmp lower) (key_of item) ≡ true = cc in
+            ((item, live, rw (from_item, up_to) refl), λ j hit apart. first j (from_on j hit) apart)
+
+        -- else none is
+        pub IsFirstHit-passed :
+            is_up_to (bound_map cmp upper) (key_of item) ≡ false
+            → IsFirstHit key_of compare s from_lower (Some ix)
+            → IsFirstHit key_of compare s between None
+        IsFirstHit-passed past (_, first) j (y, is, passed) =
+            let up_to : is_up_to (bound_map cmp upper) (key_of y) ≡ true = (both _ _ passed).1 in
+            elim (cases_eq j ix) [
+              | inl same ↦ let here : Some y ≡ Some item = sym is ∙ (ap (get s) same ∙ live) in cc
+              | inr apart ↦
+                  let order = before_keys s ix j item y live is (first j (from_on j (y, is, passed)) apart) in
+                  let reached = is_up_to-before compare cmp lawful (key_of item) (key_of y) order upper up_to in
+                  cc
+            ]
+
+      pub IsFirstHit-missed :
+          IsFirstHit key_of compare s from_lower None
+          → IsFirstHit key_of compare s between None
+      IsFirstHit-missed none j hit = none j (from_on j hit)
 
       -- behind an item within both bounds is one within both that is the next up to the upper bound
       pub IsNextHit-between :

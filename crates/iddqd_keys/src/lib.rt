@@ -8,3 +8,4 @@
 pub mod hash_query;
 pub mod key_of;
 pub mod order_query;
+pub mod tri_hash_item;

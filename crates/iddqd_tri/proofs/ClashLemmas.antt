@@ -1,5 +1,5 @@
 -- At most three indexes in order: what is among them.
-use Rattle.std.proofs.Common.{◌≡◌, ◌≢◌, ◌⊎◌, inl, inr, ◌↔◌, ◌<◌, ◌≤◌, ℕ, List, [], ◌∷◌, length, filter_map, Option, Some, None, IsSome, refl, sym, ap, subst, arith}
+use Rattle.std.proofs.Common.{◌≡◌, ◌⊎◌, inl, inr, ◌↔◌, ◌<◌, ◌≤◌, ℕ, List, [], ◌∷◌, length, filter_map, Option, Some, None, IsSome, refl, sym, ap, subst, arith}
 use Rattle.std.specs.List.{Contains}
 use Rattle.iddqd.proofs.StoreLemmas.{contains_head, contains_tail, contains_cases, contains_none}
 use Rattle.iddqd_tri.specs.Clashes.{IsBefore, IsOneOf, IsOneOfTwo, AreInOrder}

@@ -27,6 +27,11 @@ use Rattle.iddqd_keys.proofs.RemovalLemmas.{AreLiveInTurn, AreLiveInTurn-rising}
 use Rattle.iddqd_tri.proofs.ClashLemmas.{listed, Contains-listed, IsIncreasing-listed, at_most_three}
 use Rattle.iddqd_tri.proofs.TriLemmas.{AreLawful, IsTriState-unbound, IsTriState-unbound_all, IsTriState-inserted_state, HasNoClash-removed}
 
+-- what an insert answers that gives no item back
+abbrev pub with_none : {T E : Type 0} → Result ℕ E → Result (ℕ × List (Option T)) E
+with_none (Ok ix) = Ok (ix, padded 3 [])
+with_none (Err error) = Err error
+
 -- look-ups in a table that is exact
 module _
     {T K S : Type 0} (key : ItemKey T K S) (s : TriState T S) (m : FinMap nat_cmp ℕ)
@@ -159,52 +164,40 @@ module _ {T K1 K2 K3 S : Type 0} (keys : TriKeys T K1 K2 K3 S) where
       overwritten (Err (Memory back)) store maps not_full place index values stored added refused items_stay maps_stay =
           (rw (items_stay, maps_stay) o, (refused.0, refused.1, rw (items_stay, maps_stay) refl))
 
+    none_clash :
+        (clashes : List ℕ)
+        → clashes ≡ []
+        → AreClashes keys s.store item clashes
+        → AreClashes keys s.store item []
+    none_clash clashes is_empty are = subst (λ cs. AreClashes keys s.store item cs) is_empty are
+
+    refuses :
+        AreClashes keys s.store item []
+        → (refusal : TriRefusal T)
+        → HasNoPlace s.store item refusal
+        → RefusesItem keys s item refusal s
+    refuses none (Full back) refused = (refused.0, HasNoClash-none s.store item [] refl none, refused.1, refl)
+    refuses none (Memory back) refused = (refused.0, (λ _. refused.1), refl)
+
     -- an insert where nothing clashes
     pub inserted_apart :
         (clashes : List ℕ)
         → clashes ≡ []
         → AreClashes keys s.store item clashes
-        → (r : Result (ℕ × List (Option T)) (TriRefusal T)) (store : Store T) (maps : Maps)
+        → (r : Result ℕ (TriRefusal T)) (store : Store T) (maps : Maps)
         → (IsOk r → IsFull s.store → ⊥)
-        → IfOk r (λ p. p.0 ≡ next_index s.store)
-        → IfOk r (λ p. p.1 ≡ padded 3 [])
+        → IfOk r (λ ix. ix ≡ next_index s.store)
         → OnOk r (store ≡ inserted s.store item)
         → OnOk r (maps ≡ maps_with s.maps (next_index s.store) (hashes_in keys s.hasher item))
         → IfErr r (HasNoPlace s.store item)
         → OnErr r (store ≡ s.store)
         → OnErr r (maps ≡ s.maps)
-        → IsTriState keys (record s { store = store; maps = maps }) × Overwriting keys s item r
+        → IsTriState keys (record s { store = store; maps = maps }) × Overwriting keys s item (with_none r)
         (record s { store = store; maps = maps })
-    inserted_apart clashes is_empty are r store maps not_full index values stored added refused items_stay maps_stay =
-        overwritten [] none r store maps (ok_full r not_full) (ok_place r not_full) index values stored added (refuses r refused) items_stay maps_stay
-      where
-        none : AreClashes keys s.store item []
-        none = subst (λ cs. AreClashes keys s.store item cs) is_empty are
-
-        no_clash : HasNoClash keys s.store item
-        no_clash ix clash = contains_none ix ((none.each ix).1 clash)
-
-        ok_full :
-            (r : Result (ℕ × List (Option T)) (TriRefusal T))
-            → (IsOk r → IsFull s.store → ⊥)
-            → OnOk r (IsFull s.store → ⊥)
-        ok_full (Ok p) not_full = not_full refl
-        ok_full (Err e) not_full = tt
-
-        ok_place :
-            (r : Result (ℕ × List (Option T)) (TriRefusal T))
-            → (IsOk r → IsFull s.store → ⊥)
-            → OnOk r (HasNoClash keys s.store item → IsFull s.store → ⊥)
-        ok_place (Ok p) not_full = λ _. not_full refl
-        ok_place (Err e) not_full = tt
-
-        refuses :
-            (r : Result (ℕ × List (Option T)) (TriRefusal T))
-            → IfErr r (HasNoPlace s.store item)
-            → IfErr r (λ e. RefusesItem keys s item e s)
-        refuses (Ok p) refused = tt
-        refuses (Err (Full back)) refused = (refused.0, no_clash, refused.1, refl)
-        refuses (Err (Memory back)) refused = (refused.0, (λ _. refused.1), refl)
+    inserted_apart clashes is_empty are (Ok ix) store maps not_full index stored added refused items_stay maps_stay =
+        overwritten [] (none_clash clashes is_empty are) (Ok (ix, padded 3 [])) store maps (not_full refl) (λ _. not_full refl) index refl stored added tt tt tt
+    inserted_apart clashes is_empty are (Err refusal) store maps not_full index stored added refused items_stay maps_stay =
+        overwritten [] (none_clash clashes is_empty are) (Err refusal) store maps tt tt tt tt tt tt (refuses (none_clash clashes is_empty are) refusal refused) items_stay maps_stay
 
     -- an insert over some clashes
     pub inserted_over :

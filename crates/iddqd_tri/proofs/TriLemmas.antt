@@ -16,7 +16,7 @@ use Rattle.iddqd_tri.specs.TriKeys.{Three, TriKeys, hashing_in, hashes_in, tri_k
 use Rattle.iddqd_keys.specs.Removals.{removed_all}
 use Rattle.iddqd_tri.specs.TriState.{Maps, TriState, empty_tri_state, unbound, unbound_all, inserted_state, maps_without, maps_with, HoldLive, IsTriState, HasNoClash, AreClashes}
 use Rattle.iddqd_tri.specs.TriTables.{AreUnfiled}
-use Rattle.iddqd_tri.specs.declared.tri_item.TriItem.{Ghosts}
+use Rattle.iddqd_keys.specs.declared.tri_hash_item.TriHashItem.{Ghosts}
 use Rattle.iddqd_keys.proofs.RemovalLemmas.{AreLiveInTurn}
 
 module _ {T : Type 0} where

@@ -83,7 +83,7 @@ module _ (old new : Table ℕ) where
     TableGrows-reserved made few = record {
       had_room = λ fits. ap table_memory (made.had_room (omega arith)).1;
       capacity_at_least = omega (arith, ap finite.len same, made.room_stays);
-      cells_stay = made.memory_stays;
+      cells_at_least = made.memory_stays;
       few = few;
     }
 
@@ -101,7 +101,7 @@ pub TableGrows-same : (wanted : ℕ) (m : TableMemory) → TableGrows wanted m m
 TableGrows-same wanted m = record {
   had_room = λ _. refl;
   capacity_at_least = omega arith;
-  cells_stay = omega arith;
+  cells_at_least = omega arith;
   few = omega arith;
 }
 
@@ -116,7 +116,7 @@ TableGrows-then wanted old grown new grows same = rw same grows
 -- a memory that stays
 pub Grows-same : (limit wanted : ℕ) (m : TriMemory) → Grows limit wanted m m
 Grows-same limit wanted m = record {
-  slots = record { had_room = λ _. refl; slots_stay = omega arith; few = omega arith };
+  slots = record { had_room = λ _. refl; slots_at_least = omega arith; few = omega arith };
   first = TableGrows-same wanted m.tables.first;
   second = TableGrows-same wanted m.tables.second;
   third = TableGrows-same wanted m.tables.third;
@@ -139,10 +139,10 @@ SlotsGrow-one old new valid not_full kept grown more = elim (none_or_some (set_r
   | inl none ↦
       let is = grown none in
       let short : live_count old.store + 1 ≤ old.capacity → ⊥ = λ fits. not_full (no_items old.store.free (omega (arith, none)), omega (arith, none, fits, valid.counted, valid.small)) in
-      record { had_room = λ fits. absurd (short fits); slots_stay = more; few = omega (arith, is) }
+      record { had_room = λ fits. absurd (short fits); slots_at_least = more; few = omega (arith, is) }
   | inr some ↦
       let is = ap (λ (s : SizedStore _). s.capacity) (kept some) in
-      record { had_room = λ _. is; slots_stay = more; few = omega (arith, is) }
+      record { had_room = λ _. is; slots_at_least = more; few = omega (arith, is) }
 ]
   where
     no_items : (free : List ℕ) → length free ≡ 0 → free ≡ []
@@ -295,7 +295,7 @@ module _
         let len = HaveLen-held items.store (maps_of tables) held in
         record {
           never_more = gave.never_more;
-          slots_stay = gave.never_less;
+          slots_at_least = gave.never_less;
           shrunk = whatever tabled gave.shrunk;
           first = counted _ _ _ tabled len.first shrank.first;
           second = counted _ _ _ tabled len.second shrank.second;
@@ -317,7 +317,7 @@ module _
         let len = HaveLen-held items.store (maps_of tables) held in
         record {
           never_more = gave.never_more;
-          slots_stay = gave.never_less;
+          slots_at_least = gave.never_less;
           shrunk = tt;
           first = refused_else _ _ tabled error (counted _ _ _ tabled len.first shrank.first);
           second = refused_else _ _ tabled error (counted _ _ _ tabled len.second shrank.second);

@@ -12,8 +12,8 @@ pub use Rattle.iddqd_by_hash.specs.Hashed
 pub use Rattle.iddqd.specs.Store.{get, live_count, next_index, IsFull}
 pub use Rattle.iddqd_tri.specs.TriKeys.{tri_keys_of, hashing_in, shares}
 pub use Rattle.iddqd_tri.specs.TriState.{empty_tri_state, unbound, unbound_all, inserted_state}
-pub use Rattle.iddqd_tri.specs.TriState.{IsTriState, HasNoClash, AreClashes}
+pub use Rattle.iddqd_tri.specs.TriState.{IsTriState, ClashesAt, HasNoClash, AreClashes}
 pub use Rattle.iddqd_tri.specs.TriMemory.{no_memory, capacity, room, reaching, Grows, Shrinks, ReservesItems, NeedsMemory}
 pub use Rattle.iddqd_keys.specs.Removals.{padded}
-pub use Rattle.iddqd_tri.specs.TriCalls.{FindsOne, FindsQuery, RemovesItem, Overwriting}
-pub use Rattle.iddqd_tri.specs.TriRefusal.{tri_refusal_text}
+pub use Rattle.iddqd_tri.specs.TriCalls.{FindsKey, FindsOne, FindsQuery, RemovesItem, Overwriting}
+pub use Rattle.iddqd_tri.specs.TriRefusal.{tri_refusal_text, tri_refusal_item}

@@ -4,7 +4,7 @@ use Rattle.std.specs.declared.hash.Hasher as hasher
 use Rattle.std.specs.declared.hash.BuildHasher as builder
 use Rattle.iddqd.specs.MapHash.{hash_one}
 use Rattle.iddqd_by_hash.specs.Hashed.{Hashing}
-use Rattle.iddqd_tri.specs.declared.tri_item.TriItem.{Ghosts}
+use Rattle.iddqd_keys.specs.declared.tri_hash_item.TriHashItem.{Ghosts}
 
 -- one thing for each of the three keys
 pub record Three (A : Type 0) : Type 0 where

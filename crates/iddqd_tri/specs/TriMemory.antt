@@ -64,14 +64,14 @@ no_memory =
 pub record TableGrows (wanted : ℕ) (old new : TableMemory) : Type 0 where
   pub had_room : wanted ≤ old.capacity → new ≡ old
   pub capacity_at_least : old.capacity ≤ new.capacity
-  pub cells_stay : old.cells ≤ new.cells
+  pub cells_at_least : old.cells ≤ new.cells
   pub few : new.cells ≤ max old.cells (most_cells wanted)
 
 -- What the store allocates so that it can have `wanted` slots: nothing if it can already. It gives no memory back. It
 -- grows to at most the largest of `wanted`, twice the old number and four, and never past the limit.
 pub record SlotsGrow (limit wanted old new : ℕ) : Type 0 where
   pub had_room : wanted ≤ old → new ≡ old
-  pub slots_stay : old ≤ new
+  pub slots_at_least : old ≤ new
   pub few : new ≤ max old (min limit (max 4 (max wanted (2 * old))))
 
 -- the most that a call allocates so that there can be `wanted` items, whether it is refused or not
@@ -94,12 +94,12 @@ pub record TableShrinks {A E : Type 0} (wanted : ℕ) (old : TableMemory) (resul
   pub capacity_at_least : min old.capacity wanted ≤ new.capacity
   pub shrunk : OnOk result (new.cells ≤ most_cells wanted)
 
--- What is given back beyond what `slots` slots and `wanted` indexes need. A refusal means that the store still has more
--- than `slots` slots, or some table more than `wanted` cells; if no slot is needed, there is no refusal.
+-- What is given back beyond what `slots` slots and `wanted` indexes need. A refusal means that the store's memory still
+-- holds more than `slots` slots, or some table's more than `wanted` cells; if no slot is needed, there is no refusal.
 pub record Shrinks {A E : Type 0} (slots wanted : ℕ) (old : TriMemory) (result : Result A E) (new : TriMemory)
     : Type 0 where
   pub never_more : new.slots ≤ old.slots
-  pub slots_stay : min old.slots slots ≤ new.slots
+  pub slots_at_least : min old.slots slots ≤ new.slots
   pub shrunk : OnOk result (new.slots ≡ min old.slots slots)
   pub first : TableShrinks wanted old.tables.first result new.tables.first
   pub second : TableShrinks wanted old.tables.second result new.tables.second

@@ -59,7 +59,8 @@ pub record TablesGrow (additional : ℕ) (old new : TriTables) : Type 0 where
       TableGrows (finite.len (filed old.second) + additional) (table_memory old.second) (table_memory new.second)
   pub third : TableGrows (finite.len (filed old.third) + additional) (table_memory old.third) (table_memory new.third)
 
--- each table gave back what it doesn't need for `least` indexes, or for its own if these are more
+-- At `Ok` each table gave back what it doesn't need for `least` indexes, or for its own if these are more. After a
+-- failure each can still hold that many, or as many of them as before.
 pub record TablesShrink
     {A E : Type 0} (least : ℕ) (old : TriTables) (result : Result A E) (new : TriTables)
     : Type 0 where

@@ -4,8 +4,9 @@
 #![tactic(auto)]
 
 mod clashes;
-pub mod tri_item;
 pub mod tri_items;
 pub mod tri_refusal;
 mod tri_steps;
 mod tri_tables;
+
+pub use iddqd_keys::tri_hash_item as tri_hash_item;

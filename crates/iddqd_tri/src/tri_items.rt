@@ -23,9 +23,8 @@ ghost use Rattle.iddqd_tri.specs.TriTables.{three_hashes};
 ghost use Rattle.iddqd_tri.specs.TriCalls.{FindsKey, FindsQuery, RemovesItem, Overwriting};
 
 use crate::clashes::Clashes;
-use crate::tri_item::{First, Second, Third, TriItem};
 use crate::tri_refusal::TriRefusal;
-use crate::tri_steps::{insert_without_clash, remove_item, replace_clashes, reserve_slots};
+use crate::tri_steps::{insert_without_clash, remove_item, replace_clashes};
 use crate::tri_tables::{TriHashes, TriTables};
 use iddqd::item_index::ItemIndex;
 use iddqd::item_set::ItemSet;
@@ -34,20 +33,21 @@ use iddqd_by_hash::hashed;
 use iddqd_by_hash::hashed::query_hash;
 use iddqd_hash::hash_table::MapHashTable;
 use iddqd_keys::key_of::{KeyOf, KeyQuery};
+use iddqd_keys::tri_hash_item::{Key1, Key2, Key3, TriHashItem};
 use std::alloc::{AllocError, Global};
 use std::hash::{BuildHasher, Hash};
 use std::marker::Model;
 
 /// Items that contain three keys each. No two items share a key.
 #[derive(Drop)]
-pub struct TriItems<T: TriItem, S: BuildHasher> {
+pub struct TriItems<T: TriHashItem, S: BuildHasher> {
     items: ItemSet<T>,
     // The table of a key has each live index, under the hash of that key of the index's item.
     tables: TriTables,
     state: S,
 }
 
-impl<T: TriItem, S: BuildHasher> Model for TriItems<T, S> {
+impl<T: TriHashItem, S: BuildHasher> Model for TriItems<T, S> {
     ghost use Rattle.iddqd_tri.specs.TriMemory.{SizedTri, sized_tri_code};
 
     ghost Value = { SizedTri T S };
@@ -61,7 +61,7 @@ impl<T: TriItem, S: BuildHasher> Model for TriItems<T, S> {
     ghost view = { λ t. sized_tri_of t.state t.items t.tables };
 
     ghost invariant = { λ t.
-        IsTriState (tri_keys_of T.TriItem T.Key1.eq T.Key1.hash_input T.Key2.eq T.Key2.hash_input
+        IsTriState (tri_keys_of T.TriHashItem T.Key1.eq T.Key1.hash_input T.Key2.eq T.Key2.hash_input
         T.Key3.eq T.Key3.hash_input S.BuildHasher S.Hasher.Hasher)
         (tri_state_of t.state t.items.store t.tables) };
 }
@@ -71,7 +71,7 @@ pub trait TriKeyed {
     ghost use Rattle.iddqd_tri.specs.TriKeys.{TriKeys};
 
     /// An item, which contains its keys.
-    type Item: TriItem;
+    type Item: TriHashItem;
 
     /// What hashes keys.
     type State: BuildHasher;
@@ -79,16 +79,16 @@ pub trait TriKeyed {
     ghost keys: { TriKeys Self.Item Self.Item.Key1 Self.Item.Key2 Self.Item.Key3 Self.State };
 }
 
-impl<T: TriItem, S: BuildHasher> TriKeyed for TriItems<T, S> {
+impl<T: TriHashItem, S: BuildHasher> TriKeyed for TriItems<T, S> {
     type Item = T;
 
     type State = S;
 
-    ghost keys = { tri_keys_of T.TriItem T.Key1.eq T.Key1.hash_input T.Key2.eq T.Key2.hash_input
+    ghost keys = { tri_keys_of T.TriHashItem T.Key1.eq T.Key1.hash_input T.Key2.eq T.Key2.hash_input
         T.Key3.eq T.Key3.hash_input S.BuildHasher S.Hasher.Hasher };
 }
 
-impl<T: TriItem, S: BuildHasher> TriItems<T, S> {
+impl<T: TriHashItem, S: BuildHasher> TriItems<T, S> {
     /// Empty. It may grow to `u32::MAX` items, one for each index but `SENTINEL`. It takes no memory.
     pub fn new(alloc: Global, state: S) -> TriItems<T, S>
         ensures empty { result.state ≡ empty_tri_state u32.MAX state }
@@ -135,7 +135,7 @@ impl<T: TriItem, S: BuildHasher> TriItems<T, S> {
         self.items.get(ix)
     }
 
-    /// The index of the item that has this first key. Only keys of the same hash are compared with it.
+    /// The index of the item that has this first key.
     pub fn find1(&self, key: &T::Key1) -> Option<ItemIndex>
         ensures { FindsKey ⟦<Self as TriKeyed>⟧.keys.first self.now.state key.now result }
     {
@@ -165,7 +165,7 @@ impl<T: TriItem, S: BuildHasher> TriItems<T, S> {
             (Q.hash_input query.now) (Q.equivalent query.now) result }
     {
         let hash = query_hash(&self.state, query);
-        hashed::find::<T, First, Q>(&self.tables.first, &self.items, hash, query)
+        hashed::find::<T, Key1, Q>(&self.tables.first, &self.items, hash, query)
     }
 
     /// The index of the item whose second key the query is equivalent to, as `find1_by`.
@@ -174,7 +174,7 @@ impl<T: TriItem, S: BuildHasher> TriItems<T, S> {
             (Q.hash_input query.now) (Q.equivalent query.now) result }
     {
         let hash = query_hash(&self.state, query);
-        hashed::find::<T, Second, Q>(&self.tables.second, &self.items, hash, query)
+        hashed::find::<T, Key2, Q>(&self.tables.second, &self.items, hash, query)
     }
 
     /// The index of the item whose third key the query is equivalent to, as `find1_by`.
@@ -183,7 +183,7 @@ impl<T: TriItem, S: BuildHasher> TriItems<T, S> {
             (Q.hash_input query.now) (Q.equivalent query.now) result }
     {
         let hash = query_hash(&self.state, query);
-        hashed::find::<T, Third, Q>(&self.tables.third, &self.items, hash, query)
+        hashed::find::<T, Key3, Q>(&self.tables.third, &self.items, hash, query)
     }
 
     /// Removes the item at an index, if it is live. It takes no memory.
@@ -201,8 +201,7 @@ impl<T: TriItem, S: BuildHasher> TriItems<T, S> {
     ///
     /// If it removes one, it takes no memory and doesn't refuse the item. If it removes none, it refuses the item if
     /// the store is full, or if there is no room and memory runs out. A refusal returns the item, leaves the others,
-    /// and gives back no memory that was there. The item's keys are hashed once each, and so are those of the removed
-    /// ones.
+    /// and gives back no memory that was there.
     pub fn insert_overwrite(
         &mut self,
         item: T,
@@ -224,7 +223,8 @@ impl<T: TriItem, S: BuildHasher> TriItems<T, S> {
         let clashes = self.clashes(&item, &hashes);
         let (items, tables) = (&mut self.items, &mut self.tables);
         if clashes.is_empty() {
-            return insert_without_clash(items, tables, item, hashes);
+            let ix = insert_without_clash(items, tables, item, hashes)?;
+            return Ok((ix, [None, None, None]));
         }
         let (ix, (first, second, third)) = replace_clashes(
             items,
@@ -239,7 +239,7 @@ impl<T: TriItem, S: BuildHasher> TriItems<T, S> {
 }
 
 /// Reserving memory, and giving it back.
-impl<T: TriItem, S: BuildHasher> TriItems<T, S> {
+impl<T: TriHashItem, S: BuildHasher> TriItems<T, S> {
     /// Empty, with memory for `capacity` items, but at most for `u32::MAX`. With 0 it takes none.
     ///
     /// An `AllocError` means that memory ran out.
@@ -285,7 +285,7 @@ impl<T: TriItem, S: BuildHasher> TriItems<T, S> {
     {
         let len = self.items.len();
         let more = additional.min(self.items.limit() - len);
-        reserve_slots(&mut self.items, len + more)?;
+        self.items.reserve_slots(len + more)?;
         self.tables.reserve(more)
     }
 
@@ -298,7 +298,7 @@ impl<T: TriItem, S: BuildHasher> TriItems<T, S> {
 
     /// Gives back the memory that the slots and the tables don't need. Vacant slots stay.
     ///
-    /// If a part can't get smaller memory, the items stay, and the other parts still give theirs back.
+    /// If a part can't get smaller memory, the items stay, and no part keeps less than it needs.
     pub fn shrink_to_fit(&mut self) -> Result<(), AllocError>
         ensures state { self.new.state ≡ self.old.state }
         ensures memory { let s = self.old.state.store in
@@ -309,8 +309,8 @@ impl<T: TriItem, S: BuildHasher> TriItems<T, S> {
 
     /// Gives back the memory beyond what `least` items need, or the items that there are if these are more.
     ///
-    /// Vacant slots stay, and so does their memory. If a part can't get smaller memory, the items stay, and the other
-    /// parts still give theirs back.
+    /// Vacant slots stay, and so does their memory. If a part can't get smaller memory, the items stay, and no part
+    /// keeps less than was asked, unless it had less before.
     pub fn shrink_to(&mut self, least: usize) -> Result<(), AllocError>
         ensures state { self.new.state ≡ self.old.state }
         ensures memory { let s = self.old.state.store in
@@ -322,7 +322,7 @@ impl<T: TriItem, S: BuildHasher> TriItems<T, S> {
     }
 }
 
-impl<T: TriItem, S: BuildHasher> TriItems<T, S> {
+impl<T: TriHashItem, S: BuildHasher> TriItems<T, S> {
     // The indexes whose items share a key with this one, by its hashes, which were computed before.
     fn clashes(&self, item: &T, hashes: &TriHashes) -> Clashes
         requires { three_hashes hashes.now ≡ hashes_in ⟦<Self as TriKeyed>⟧.keys self.now.state.hasher item.now }
@@ -332,9 +332,9 @@ impl<T: TriItem, S: BuildHasher> TriItems<T, S> {
     {
         let (tables, items) = (&self.tables, &self.items);
         Clashes::of(
-            find_key::<T, First>(&tables.first, items, hashes.first, item),
-            find_key::<T, Second>(&tables.second, items, hashes.second, item),
-            find_key::<T, Third>(&tables.third, items, hashes.third, item),
+            find_key::<T, Key1>(&tables.first, items, hashes.first, item),
+            find_key::<T, Key2>(&tables.second, items, hashes.second, item),
+            find_key::<T, Key3>(&tables.third, items, hashes.third, item),
         )
     }
 }

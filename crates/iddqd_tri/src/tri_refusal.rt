@@ -1,4 +1,7 @@
 //! Why an item with three keys was not inserted.
+ghost use Rattle.std.specs.Prelude.{◌≡◌};
+ghost use Rattle.iddqd_tri.specs.TriRefusal.{tri_refusal_item};
+
 use std::error::Error;
 use std::fmt;
 
@@ -9,6 +12,18 @@ pub enum TriRefusal<T> {
     Full(T),
     /// None of its keys was found, the store is not full, and memory ran out.
     Memory(T),
+}
+
+impl<T> TriRefusal<T> {
+    /// The item that was refused.
+    pub fn into_item(self) -> T
+        ensures { result ≡ tri_refusal_item self }
+    {
+        match self {
+            TriRefusal::Full(item) => item,
+            TriRefusal::Memory(item) => item,
+        }
+    }
 }
 
 impl<T> fmt::Display for TriRefusal<T> {

@@ -1,9 +1,9 @@
 //! The steps that the store and the three tables of items with three keys take together.
 //!
 //! A step borrows the store and the tables apart, since its contract says how much room each of them has left. If
-//! nothing clashes, the store makes room first, and the handle that it returns for that is held while the tables take
-//! memory. If an item clashes, its removal makes room in the store and in each table, so no memory is taken and nothing
-//! can be refused.
+//! nothing clashes, the store makes room first, and returns a handle for the insert, which is used when the tables have
+//! taken their memory. If stored items clash with the new one, their removal makes room in the store and in each table,
+//! so no memory is taken and nothing can be refused.
 ghost use Rattle.std.specs.Prelude.{◌≡◌, ◌≤◌, ◌+◌, ℕ, [], ◌∷◌, map, Some, None, IsSome, IsOk, IfOk, OnOk, IfErr, OnErr, OnSome, IfSome, IfNone};
 ghost use Rattle.std.specs.Option.{option_and_then};
 ghost use Rattle.iddqd.specs.{get, room, live_count, next_index, inserted, removed, IsFull, IsValid};
@@ -17,17 +17,17 @@ ghost use Rattle.iddqd_keys.specs.Removals.{padded};
 ghost use Rattle.iddqd_tri.specs.TriCalls.{HasNoPlace};
 
 use crate::clashes::Clashes;
-use crate::tri_item::TriItem;
 use crate::tri_refusal::TriRefusal;
 use crate::tri_tables::{TriHashes, TriTables};
 use iddqd::item_index::ItemIndex;
 use iddqd::item_set::{GrowError, ItemSet};
+use iddqd_keys::tri_hash_item::TriHashItem;
 use std::alloc::AllocError;
 use std::hash::BuildHasher;
 
 /// Removes the item at an index from the store, and the index from each table, if it is live. It takes
 /// no memory.
-pub(crate) fn remove_item<T: TriItem, S: BuildHasher>(
+pub(crate) fn remove_item<T: TriHashItem, S: BuildHasher>(
     items: &mut ItemSet<T>,
     tables: &mut TriTables,
     state: &S,
@@ -50,7 +50,7 @@ pub(crate) fn remove_item<T: TriItem, S: BuildHasher>(
 }
 
 // Removes the item at a clashing index, if there is one, from the store and the tables.
-fn remove_clash<T: TriItem, S: BuildHasher>(
+fn remove_clash<T: TriHashItem, S: BuildHasher>(
     items: &mut ItemSet<T>,
     tables: &mut TriTables,
     state: &S,
@@ -74,7 +74,7 @@ fn remove_clash<T: TriItem, S: BuildHasher>(
 // Removes the items at these indexes from the store and the tables, in this order. They come back as a
 // tuple: a caller of a function that returns an array of a generic type has to prove that the array
 // fits into memory, in one goal with all that the function requires, which is expensive to check.
-fn remove_clashes<T: TriItem, S: BuildHasher>(
+fn remove_clashes<T: TriHashItem, S: BuildHasher>(
     items: &mut ItemSet<T>,
     tables: &mut TriTables,
     state: &S,
@@ -109,33 +109,18 @@ fn store_in_room<T>(items: &mut ItemSet<T>, item: T) -> ItemIndex
     }
 }
 
-/// Takes memory for `wanted` slots in all, unless the store has memory for as many.
-pub(crate) fn reserve_slots<T>(items: &mut ItemSet<T>, wanted: usize) -> Result<(), AllocError>
-    requires { wanted ≤ items.old.store.limit }
-    ensures contents { items.new.store ≡ items.old.store }
-    ensures memory { SlotsGrow items.old.store.limit wanted items.old.capacity items.new.capacity }
-    ensures reserved { OnOk result (wanted ≤ items.new.capacity) }
-    ensures had_room { wanted ≤ items.old.capacity → IsOk result }
-{
-    if wanted <= items.capacity() {
-        return Ok(());
-    }
-    items.reserve(wanted - items.slot_count())
-}
-
 /// Stores an item that clashes with none, and files its index under the hashes. All memory is taken before
 /// anything is written.
-pub(crate) fn insert_without_clash<T: TriItem>(
+pub(crate) fn insert_without_clash<T: TriHashItem>(
     items: &mut ItemSet<T>,
     tables: &mut TriTables,
     item: T,
     hashes: TriHashes,
-) -> Result<(ItemIndex, [Option<T>; 3]), TriRefusal<T>>
+) -> Result<ItemIndex, TriRefusal<T>>
     requires valid { IsValid items.old.store }
     requires held { HoldLive items.old.store (maps_of tables.old) }
     ensures not_full { IsOk result → IsFull items.old.store → ⊥ }
-    ensures index { IfOk result (λ r. r.0 ≡ next_index items.old.store) }
-    ensures values { IfOk result (λ r. r.1 ≡ padded 3 []) }
+    ensures index { IfOk result (λ ix. ix ≡ next_index items.old.store) }
     ensures stored { OnOk result (items.new.store ≡ inserted items.old.store item) }
     ensures added { OnOk result (maps_of tables.new
         ≡ maps_with (maps_of tables.old) (next_index items.old.store) (three_hashes hashes)) }
@@ -158,12 +143,12 @@ pub(crate) fn insert_without_clash<T: TriItem>(
     }
     let ix = handle.insert(item);
     tables.insert(hashes, ix);
-    Ok((ix, [None, None, None]))
+    Ok(ix)
 }
 
 /// Removes the items that clash with an item, stores it and files its index under the hashes. It takes no memory.
 /// The items that clash come back as `remove_clashes` returns them.
-pub(crate) fn replace_clashes<T: TriItem, S: BuildHasher>(
+pub(crate) fn replace_clashes<T: TriHashItem, S: BuildHasher>(
     items: &mut ItemSet<T>,
     tables: &mut TriTables,
     state: &S,

@@ -5,11 +5,11 @@ ghost use Rattle.iddqd_tri.specs.TriState.{no_maps, maps_without, maps_with};
 ghost use Rattle.iddqd_tri.specs.TriMemory.{no_memory, least_capacity};
 ghost use Rattle.iddqd_tri.specs.TriTables.{maps_of, three_hashes, tables_memory, HaveRoom, AreFiled, AreUnfiled, HaveLen, TablesGrow, TablesShrink, SomeHasMore};
 
-use crate::tri_item::{First, Second, Third, TriItem};
 use iddqd::item_index::ItemIndex;
 use iddqd::map_hash::MapHash;
 use iddqd_by_hash::hashed;
 use iddqd_hash::hash_table::MapHashTable;
+use iddqd_keys::tri_hash_item::{Key1, Key2, Key3, TriHashItem};
 use std::alloc::{AllocError, Global};
 use std::hash::BuildHasher;
 
@@ -31,15 +31,15 @@ pub(crate) struct TriHashes {
 
 impl TriHashes {
     /// The hashes of an item's keys under a hasher's state.
-    pub(crate) fn of<T: TriItem, S: BuildHasher>(state: &S, item: &T) -> TriHashes
-        ensures { let keys = tri_keys_of T.TriItem T.Key1.eq T.Key1.hash_input T.Key2.eq T.Key2.hash_input
+    pub(crate) fn of<T: TriHashItem, S: BuildHasher>(state: &S, item: &T) -> TriHashes
+        ensures { let keys = tri_keys_of T.TriHashItem T.Key1.eq T.Key1.hash_input T.Key2.eq T.Key2.hash_input
             T.Key3.eq T.Key3.hash_input S.BuildHasher S.Hasher.Hasher in
             three_hashes result ≡ hashes_in keys state.now item.now }
     {
         TriHashes {
-            first: hashed::hash_of::<T, First, S>(state, item),
-            second: hashed::hash_of::<T, Second, S>(state, item),
-            third: hashed::hash_of::<T, Third, S>(state, item),
+            first: hashed::hash_of::<T, Key1, S>(state, item),
+            second: hashed::hash_of::<T, Key2, S>(state, item),
+            third: hashed::hash_of::<T, Key3, S>(state, item),
         }
     }
 }
@@ -77,8 +77,8 @@ impl TriTables {
         self.third.try_reserve(additional)
     }
 
-    /// Gives back the memory beyond what `least` indexes need, or those that there are if these are more. If one table
-    /// can't get smaller memory, the others still give back theirs.
+    /// Gives back the memory beyond what `least` indexes need, or those that there are if these are more. If a table
+    /// can't get smaller memory, none keeps less than was asked, unless it had less before.
     pub(crate) fn shrink_to(&mut self, least: usize) -> Result<(), AllocError>
         ensures contents { maps_of self.new ≡ maps_of self.old }
         ensures memory { TablesShrink least self.old result self.new }

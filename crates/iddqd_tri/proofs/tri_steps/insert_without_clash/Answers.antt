@@ -19,4 +19,4 @@ returns-clause-slots g c =
     let grows = SlotsGrow-one c.args.items.now (handle_set c.in-Ok.handle) c.requires.valid (λ full. let is = grow.full.1 full in cc) grow.kept grow.grown grow.capacity in
     let is = ap (λ (s : SizedStore _). s.capacity) c.insert-ix.ensures.inserted in
     let room = grows.had_room in
-    record { had_room = λ fits. (let same = room fits in grind (arith, common_steps)); slots_stay = grind (arith, common_steps); few = grind (arith, common_steps) }
+    record { had_room = λ fits. (let same = room fits in grind (arith, common_steps)); slots_at_least = grind (arith, common_steps); few = grind (arith, common_steps) }

@@ -9,10 +9,10 @@ use Rattle.iddqd_tri.proofs.tri_items.TriItems.clashes.Goals as goal
 
 pub returns-clause-clashes : goal.returns-clause-clashes
 returns-clause-clashes g c = λ ix.
-    let keys : TriKeys _ _ _ _ _ = tri_keys_of g.T.TriItem g.T.Key1.PartialEq.eq g.T.Key1.Hash.hash_input g.T.Key2.PartialEq.eq g.T.Key2.Hash.hash_input g.T.Key3.PartialEq.eq g.T.Key3.Hash.hash_input g.S.BuildHasher g.S.Hasher.Hasher in
+    let keys : TriKeys _ _ _ _ _ = tri_keys_of g.T.TriHashItem g.T.Key1.PartialEq.eq g.T.Key1.Hash.hash_input g.T.Key2.PartialEq.eq g.T.Key2.Hash.hash_input g.T.Key3.PartialEq.eq g.T.Key3.Hash.hash_input g.S.BuildHasher g.S.Hasher.Hasher in
     let s = tri_state_of c.self.inside.state c.self.inside.items.store c.self.inside.tables in
     let item = c.args.item.now in
-    let lawful = AreLawful-from_bounds g.T.TriItem _ _ _ _ _ _ g.S.BuildHasher g.S.Hasher.Hasher s.hasher g.met.T.Key1.PartialEq.laws g.met.T.Key1.Hash.respects_eq g.met.T.Key2.PartialEq.laws g.met.T.Key2.Hash.respects_eq g.met.T.Key3.PartialEq.laws g.met.T.Key3.Hash.respects_eq in
+    let lawful = AreLawful-from_bounds g.T.TriHashItem _ _ _ _ _ _ g.S.BuildHasher g.S.Hasher.Hasher s.hasher g.met.T.Key1.PartialEq.laws g.met.T.Key1.Hash.respects_eq g.met.T.Key2.PartialEq.laws g.met.T.Key2.Hash.respects_eq g.met.T.Key3.PartialEq.laws g.met.T.Key3.Hash.respects_eq in
     let hashed = c.requires ∙ ap (λ t. hashes_in keys t.state.hasher item) (sym c.self.view_is) in
     let o = c.self.invariant in
     let found = ClashesAt-found keys s.store item ix _ _ _

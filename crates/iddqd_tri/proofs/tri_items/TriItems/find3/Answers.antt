@@ -5,7 +5,7 @@ use Rattle.iddqd_tri.proofs.tri_items.TriItems.find3.Goals as goal
 
 pub returns : goal.returns
 returns g c =
-    let key : ItemKey _ _ _ = item_key g.S.BuildHasher g.S.Hasher.Hasher g.T.TriItem.third_key g.T.Key3.PartialEq.eq g.T.Key3.Hash.hash_input in
+    let key : ItemKey _ _ _ = item_key g.S.BuildHasher g.S.Hasher.Hasher g.T.TriHashItem.third_key g.T.Key3.PartialEq.eq g.T.Key3.Hash.hash_input in
     let hasher = c.args.self.now.state.hasher in
     let lawful = IsLawful-from_bounds g.T.Key3.PartialEq.eq g.T.Key3.Hash.hash_input g.S.BuildHasher g.S.Hasher.Hasher hasher g.met.T.Key3.PartialEq.laws g.met.T.Key3.Hash.respects_eq in
     c.find3_by.ensures.as_scan (StandsForOne-key (hashing_in key hasher) c.args.key.now _ lawful refl)

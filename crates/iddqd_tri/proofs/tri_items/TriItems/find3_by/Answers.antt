@@ -7,7 +7,7 @@ use Rattle.iddqd_tri.proofs.tri_items.TriItems.find3_by.Goals as goal
 
 pub returns : goal.returns
 returns g c =
-    let key : ItemKey _ _ _ = item_key g.S.BuildHasher g.S.Hasher.Hasher g.T.TriItem.third_key g.T.Key3.PartialEq.eq g.T.Key3.Hash.hash_input in
+    let key : ItemKey _ _ _ = item_key g.S.BuildHasher g.S.Hasher.Hasher g.T.TriHashItem.third_key g.T.Key3.PartialEq.eq g.T.Key3.Hash.hash_input in
     let test = g.Q.Equivalent.equivalent c.args.query.now in
     subst (λ s. FindsOne key s.state (hash_one g.S.BuildHasher g.S.Hasher.Hasher s.state.hasher (g.Q.Hash.hash_input c.args.query.now)) test c.find.result)
     c.self.view_is

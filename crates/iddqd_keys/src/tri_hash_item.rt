@@ -1,16 +1,14 @@
-//! The three keys that an item contains.
+//! Items with three keys that are looked up by their hashes, and the types that name these keys.
 //!
 //! Each key is named by a type without values, so that the contract of a table is written once, for any key. Users
-//! implement only [`TriItem`].
+//! implement only [`TriHashItem`], once for the map with three keys and for `TriItems`.
 ghost use Rattle.std.specs.Prelude.{◌≡◌};
 
-use iddqd_keys::key_of::KeyOf;
+use crate::key_of::KeyOf;
 use std::hash::Hash;
 
 /// An item with three keys, each a function of the item's value.
-///
-/// Each is looked up by its hash and equality.
-pub trait TriItem: Drop {
+pub trait TriHashItem: Drop {
     /// The first key.
     type Key1: Eq + Hash + Drop;
     /// The second key.
@@ -38,12 +36,12 @@ pub trait TriItem: Drop {
 }
 
 /// Names the first key.
-pub enum First {}
+pub enum Key1 {}
 
-impl<T: TriItem> KeyOf<T> for First {
+impl<T: TriHashItem> KeyOf<T> for Key1 {
     type Key = T::Key1;
 
-    ghost key_of = { T.TriItem.first_key };
+    ghost key_of = { T.TriHashItem.first_key };
 
     fn key(item: &T) -> &T::Key1 {
         item.key1()
@@ -51,12 +49,12 @@ impl<T: TriItem> KeyOf<T> for First {
 }
 
 /// Names the second key.
-pub enum Second {}
+pub enum Key2 {}
 
-impl<T: TriItem> KeyOf<T> for Second {
+impl<T: TriHashItem> KeyOf<T> for Key2 {
     type Key = T::Key2;
 
-    ghost key_of = { T.TriItem.second_key };
+    ghost key_of = { T.TriHashItem.second_key };
 
     fn key(item: &T) -> &T::Key2 {
         item.key2()
@@ -64,12 +62,12 @@ impl<T: TriItem> KeyOf<T> for Second {
 }
 
 /// Names the third key.
-pub enum Third {}
+pub enum Key3 {}
 
-impl<T: TriItem> KeyOf<T> for Third {
+impl<T: TriHashItem> KeyOf<T> for Key3 {
     type Key = T::Key3;
 
-    ghost key_of = { T.TriItem.third_key };
+    ghost key_of = { T.TriHashItem.third_key };
 
     fn key(item: &T) -> &T::Key3 {
         item.key3()
