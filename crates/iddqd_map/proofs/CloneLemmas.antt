@@ -89,11 +89,11 @@ module _ {T : Type 0} (is_clone : T → T → Type 0) where
         → ((x y : T) → is_clone x y → same x y ≡ true)
         → HaveSameKeys same s copy
     HaveSameKeys-cloned same kept = record {
-      slots = λ ix y live.
+      items_of_t = λ ix y live.
           let was = was_cloned ix y live in
           (was.item, was.live, kept was.item y was.cloned);
-      items = λ ix x live. by ix x live (clone_at s.items copy.items ix is.items);
-      as_many = sym (length_all_zip _ s.items copy.items is.items);
+      items_of_s = λ ix x live. by ix x live (clone_at s.items copy.items ix is.items);
+      as_many_slots = sym (length_all_zip _ s.items copy.items is.items);
     }
       where
         by :

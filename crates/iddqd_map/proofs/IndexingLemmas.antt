@@ -1,6 +1,5 @@
 -- Each step of a store and of a hash table that indexes it keeps it so; and what queries stand for.
-use Rattle.std.proofs.Common.{◌≡◌, ◌≢◌, ◌∙◌, ◌⊎◌, inl, inr, ◌↔◌, ℕ, Bool, true, not, IsTrue, List, Some, IsSome, refl, sym, ap, subst}
-use Rattle.std.proofs.lemmas.Bool.{cases_eq}
+use Rattle.std.proofs.Common.{◌≡◌, ◌∙◌, inl, inr, ℕ, Bool, true, not, IsTrue, List, Some, sym, ap, subst}
 use Rattle.std.specs.Ordering.{nat_cmp}
 use Rattle.std.specs.FinMap as finite
 use Rattle.std.specs.FinMap.{FinMap}
@@ -9,11 +8,9 @@ use Rattle.std.specs.declared.hash.BuildHasher as builder
 use Rattle.iddqd.specs.MapHash.{hash_one}
 use Rattle.iddqd.specs.Store.{Store, IsValid, empty_within, cleared, get, next_index, inserted, removed, rebound}
 use Rattle.iddqd.specs.Compaction.{compacted, rank}
-use Rattle.iddqd.proofs.LiveLemmas.{live_at}
 use Rattle.iddqd_hash.specs.MapHashTable.{Renames}
-use Rattle.iddqd_hash.proofs.MemberLemmas.{get-insert_at, get-insert_other, get-remove_other}
-use Rattle.iddqd_keys.specs.Scan.{IsLive, IsHit, HasNoHit, AreApart}
-use Rattle.iddqd_by_hash.specs.Hashed.{Hashing, hashing_of, IsLawful, StandsForOne, IsInPlace}
+use Rattle.iddqd_keys.specs.Scan.{IsHit, HasNoHit, AreApart}
+use Rattle.iddqd_by_hash.specs.Hashed.{Hashing, hashing_of, IsLawful, StandsForOne}
 use Rattle.iddqd_by_hash.specs.HashedMove.{moved}
 use Rattle.iddqd_map.specs.Indexing.{Indexes, shares_key, Plans}
 use Rattle.iddqd_by_hash.specs.declared.hashed_move.Move.{Move}

@@ -1,5 +1,5 @@
 -- Where items have one key, an item takes the place of the one that has its key, and is never refused.
-use Rattle.std.proofs.Common.{◌≡◌, ℕ, Bool, false, Some, Err, refl, sym}
+use Rattle.std.proofs.Common.{ℕ, Bool, false, Some, Err, refl, sym}
 use Rattle.iddqd_keys.specs.Scan.{AnswersScan}
 use Rattle.iddqd_map.specs.Map.{MapState}
 use Rattle.iddqd_map.specs.Calls.{ReplacesIfLive}

@@ -374,7 +374,7 @@ module _ {T : Type 0} (alike : T → T → Bool) (most : ℕ → ℕ) where
   pub MakesRoom-same : (old : MapState T) (new : MapMemory) → new ≡ old.memory → MakesRoom most old new
   MakesRoom-same old new same = rw same (record {
     had_room = λ _. refl;
-    slots_stay = omega arith;
+    slots_at_least = omega arith;
     capacity_at_least = omega arith;
     few_slots = omega arith;
     few_cells = omega arith;

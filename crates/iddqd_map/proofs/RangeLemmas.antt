@@ -1,20 +1,17 @@
 -- For maps: what calls leave that remove the items whose keys are within bounds, one after the other.
-use Rattle.std.proofs.Common.{◌≡◌, ◌≢◌, ◌∙◌, ◌+◌, inl, inr, ℕ, Bool, true, List, [], ◌∷◌, Some, None, refl, sym, subst, Ordering, arith, length-set}
+use Rattle.std.proofs.Common.{◌≡◌, ◌+◌, ℕ, Bool, [], ◌∷◌, Some, None, refl, subst, Ordering, arith, length-set}
 use Rattle.std.specs.Cmp.{IsTotalOrder}
-use Rattle.std.specs.List.{Contains, FoldsTo}
 use Rattle.std.specs.declared.ops.Bound.TheVariants.{Included}
-use Rattle.std.proofs.lemmas.Bool.{cases_eq}
 use Rattle.iddqd.specs.Store.{Store, IsValid, get, live_count, removed}
-use Rattle.iddqd.proofs.LiveLemmas.{get-removed_at, get-removed_other}
+use Rattle.iddqd.proofs.LiveLemmas.{get-removed_other}
 use Rattle.iddqd_keys.specs.OrderedQuery.{is_equal}
 use Rattle.iddqd_keys.specs.OrderedQuery.{is_between}
-use Rattle.iddqd_keys.specs.KeyWalk.{SortsWithin, IsFirstHit, pairs_at}
-use Rattle.iddqd_keys.specs.Scan.{IsHit, HasNoHit, passes_by}
-use Rattle.iddqd_keys.proofs.KeyWalkLemmas.{SortsWithin-none, SortsWithin-first, hit_before, hit_still, pairs_at-alike}
+use Rattle.iddqd_keys.specs.KeyWalk.{IsFirstHit, pairs_at}
+use Rattle.iddqd_keys.specs.Scan.{HasNoHit, passes_by}
+use Rattle.iddqd_keys.proofs.KeyWalkLemmas.{SortsWithin-none, SortsWithin-first, hit_before, pairs_at-alike}
 use Rattle.iddqd_keys.proofs.KeyWalkLemmas.{between_equal}
 use Rattle.iddqd_keys.proofs.KeyWalkLemmas.{pairs_at-first}
 use Rattle.iddqd_map.specs.Ranges.{LeavesOthers, RemovesAlong}
-use Rattle.iddqd_keys.specs.Removals.{removed_all}
 
 -- one item fewer is left
 pub live_count-removed :

@@ -52,15 +52,15 @@ module _ {T K : Type 0} (key_of : T → K) (hashing : Hashing K) (s : Store T) w
       held = λ ix. (
         λ filed.
             let (x, live) = item_at s ix ((o.held ix).0 filed) in
-            let (y, there, alike) = have.items ix x live in
+            let (y, there, alike) = have.items_of_s ix x live in
             live_at t ix y there,
         λ live.
             let (y, there) = item_at t ix live in
-            let (x, was, alike) = have.slots ix y there in
+            let (x, was, alike) = have.items_of_t ix y there in
             (o.held ix).1 (live_at s ix x was),
       );
       placed = λ ix y there.
-          let (x, was, alike) = have.slots ix y there in
+          let (x, was, alike) = have.items_of_t ix y there in
           o.placed ix x was ∙ ap Some (lawful.equal_hash (key_of x) (key_of y) alike);
     }
 
@@ -95,5 +95,5 @@ module _ {T K S H : Type 0}
         → FilesWithin key_of (hashing_of equal hash_input b h state) t x
     FilesWithin-keys_shared t have = record {
       files = Files-same key_of (hashing_of equal hash_input b h state) s x.filed lawful is.files t have;
-      linked = is.linked ∙ sym have.as_many;
+      linked = is.linked ∙ sym have.as_many_slots;
     }

@@ -1,15 +1,13 @@
 -- What a table of indexes under the hashes of a key keeps, as the laws of a key index say it.
-use Rattle.std.specs.Prelude.{◌≡◌, ◌≤◌, ◌↔◌, ℕ, Bool, true, not, List, [], ◌∷◌, length, Some, IsTrue}
-use Rattle.std.proofs.Common.{◌∙◌, ap, sym, subst, arith}
-use Rattle.std.specs.List.{Contains}
-use Rattle.iddqd.proofs.StoreLemmas.{contains_head}
+use Rattle.std.specs.Prelude.{◌≡◌, ℕ, Bool, true, not, List, Some, IsTrue}
+use Rattle.std.proofs.Common.{◌∙◌, ap, sym, subst}
 use Rattle.std.specs.Cmp.{IsEquivalence, partial_equiv_from_equiv}
 use Rattle.std.specs.declared.hash.Hasher as hasher
 use Rattle.std.specs.declared.hash.BuildHasher as builder
 use Rattle.std.specs.Ordering.{nat_cmp}
 use Rattle.std.specs.FinMap.{FinMap}
 use Rattle.iddqd.specs.Store.{Store, get, rebound}
-use Rattle.iddqd_keys.specs.Scan.{IsHit, AnswersScan}
+use Rattle.iddqd_keys.specs.Scan.{IsHit}
 use Rattle.iddqd_by_hash.specs.Hashed.{Hashing, hashing_of, IsLawful}
 use Rattle.iddqd_by_hash.proofs.FindLemmas.{IsLawful-from_bounds}
 use Rattle.iddqd_by_hash.proofs.HoldsLemmas.{Holds-rebound}
@@ -65,8 +63,8 @@ module _ {T K : Type 0} (key_of : T → K) (hashing : Hashing K) (s : Store T) (
         in_sync = record {
           placed = files.placed;
           apart = λ i j x y p q same.
-              let (a, at_i, left) = have.slots i x p in
-              let (b, at_j, right) = have.slots j y q in
+              let (a, at_i, left) = have.items_of_t i x p in
+              let (b, at_j, right) = have.items_of_t j y q in
               let one : hashing.equal (key_of a) (key_of y) ≡ true =
               e.trans (key_of a) (key_of x) (key_of y) left same in
               let other : hashing.equal (key_of y) (key_of b) ≡ true = e.symm (key_of y) (key_of b) ∙ right in

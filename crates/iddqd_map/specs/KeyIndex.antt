@@ -80,9 +80,9 @@ module _ {T : Type 0} where
 
   -- the stores have equally many slots and the same live indexes, and their items at each index share all keys
   pub record HaveSameKeys (same : T → T → Bool) (s t : Store T) : Type 0 where
-    pub slots : (ix : ℕ) (y : T) → get t ix ≡ Some y → (x : T) × (get s ix ≡ Some x) × (same x y ≡ true)
-    pub items : (ix : ℕ) (x : T) → get s ix ≡ Some x → (y : T) × (get t ix ≡ Some y) × (same x y ≡ true)
-    pub as_many : slot_count t ≡ slot_count s
+    pub items_of_t : (ix : ℕ) (y : T) → get t ix ≡ Some y → (x : T) × (get s ix ≡ Some x) × (same x y ≡ true)
+    pub items_of_s : (ix : ℕ) (x : T) → get s ix ≡ Some x → (y : T) × (get t ix ≡ Some y) × (same x y ≡ true)
+    pub as_many_slots : slot_count t ≡ slot_count s
 
 -- the index is greater than `before`, or `before` is `None`
 abbrev pub IsPast : Option ℕ → ℕ → Type 0

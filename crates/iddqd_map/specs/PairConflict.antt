@@ -1,5 +1,5 @@
 -- What the two key indexes of a pair report of an item that shares keys with others.
-use Rattle.std.specs.Prelude.{◌⊎◌, ℕ, Bool, Option, Some, None, IsSome, min}
+use Rattle.std.specs.Prelude.{◌⊎◌, ◌++◌, ℕ, Bool, List, Option, Some, None, IsSome, codes, min}
 use Rattle.iddqd.specs.Store.{Store}
 use Rattle.iddqd_keys.specs.Scan.{HasNoHit}
 use Rattle.iddqd_map.specs.Several.{HasNoOther}
@@ -24,6 +24,19 @@ module _ {A B : Type 0} where
   both_of (Some one) None = Some (First one)
   both_of None (Some other) = Some (Second other)
   both_of None None = None
+
+-- two texts with a space between them, if both are known
+abbrev pub spaced : Option (List ℕ) → Option (List ℕ) → Option (List ℕ)
+spaced (Some one) (Some other) = Some (one ++ codes " " ++ other)
+spaced (Some one) None = None
+spaced None other = None
+
+-- the text of what a pair reports, given those of what its two key indexes report
+abbrev pub pair_conflict_text :
+    {A B : Type 0} → (A → Option (List ℕ)) → (B → Option (List ℕ)) → PairConflict A B → Option (List ℕ)
+pair_conflict_text text1 text2 (First one) = spaced (text1 one) (Some (codes "-"))
+pair_conflict_text text1 text2 (Second other) = spaced (Some (codes "-")) (text2 other)
+pair_conflict_text text1 text2 (Both one other) = spaced (text1 one) (text2 other)
 
 module _ {T : Type 0} where
   -- what one key index reports: the items that an item is alike to, or that there is none

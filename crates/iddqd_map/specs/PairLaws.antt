@@ -1,6 +1,6 @@
 -- What two key indexes of the same items mean together.
-use Rattle.std.proofs.Common.{◌≡◌, ◌∙◌, inl, inr, ◌⊎◌, ◌&&◌, ◌||◌, ◌↔◌, ◌<◌, ◌≤◌, ◌+◌, ℕ, Bool, true, false, not, List, ◌++◌, [], length, min, Option, Some, None, refl, sym, subst, arith}
-use Rattle.std.specs.Cmp.{IsEquivalence, first_so, second_so}
+use Rattle.std.proofs.Common.{◌≡◌, ◌∙◌, inl, inr, ◌⊎◌, ◌&&◌, ◌||◌, ◌↔◌, ◌≤◌, ◌+◌, ℕ, Bool, true, false, not, List, ◌++◌, [], length, min, Option, Some, None, refl, sym, subst, arith}
+use Rattle.std.specs.Cmp.{first_so, second_so}
 use Rattle.std.specs.List.{Contains}
 use Rattle.std.proofs.lemmas.List.Elements.{Contains-append_left, Contains-append_right}
 use Rattle.std.proofs.lemmas.List.{length-append}
@@ -77,24 +77,24 @@ module _ {T : Type 0} (first second : T → T → Bool) where
   -- items that share both keys share each
   pub HaveSameKeys-first : (s t : Store T) → HaveSameKeys (both_keys first second) s t → HaveSameKeys first s t
   HaveSameKeys-first s t same = record {
-    slots = λ ix y live.
-        let (x, is, alike) = same.slots ix y live in
+    items_of_t = λ ix y live.
+        let (x, is, alike) = same.items_of_t ix y live in
         (x, is, first_so (first x y) (second x y) alike);
-    items = λ ix x live.
-        let (y, is, alike) = same.items ix x live in
+    items_of_s = λ ix x live.
+        let (y, is, alike) = same.items_of_s ix x live in
         (y, is, first_so (first x y) (second x y) alike);
-    as_many = same.as_many;
+    as_many_slots = same.as_many_slots;
   }
 
   pub HaveSameKeys-second : (s t : Store T) → HaveSameKeys (both_keys first second) s t → HaveSameKeys second s t
   HaveSameKeys-second s t same = record {
-    slots = λ ix y live.
-        let (x, is, alike) = same.slots ix y live in
+    items_of_t = λ ix y live.
+        let (x, is, alike) = same.items_of_t ix y live in
         (x, is, second_so (first x y) (second x y) alike);
-    items = λ ix x live.
-        let (y, is, alike) = same.items ix x live in
+    items_of_s = λ ix x live.
+        let (y, is, alike) = same.items_of_s ix x live in
         (y, is, second_so (first x y) (second x y) alike);
-    as_many = same.as_many;
+    as_many_slots = same.as_many_slots;
   }
 
   -- if sharing all keys of the first key index means sharing one of them, the same holds of the pair

@@ -1,7 +1,6 @@
 -- Items that share one key of several, or all of them.
-use Rattle.std.specs.Prelude.{◌≡◌, ◌≢◌, ◌<◌, ◌&&◌, ◌||◌, ℕ, zero, suc, Bool, List, [], ◌∷◌, Option, Some, None}
-use Rattle.std.specs.List.{Contains}
-use Rattle.iddqd.specs.Store.{Store, removed}
+use Rattle.std.specs.Prelude.{◌≡◌, ◌≢◌, ◌&&◌, ◌||◌, ℕ, Bool, Option, Some, None}
+use Rattle.iddqd.specs.Store.{Store}
 use Rattle.iddqd_keys.specs.Scan.{IsHit, AnswersScan}
 
 -- the items share one of two keys; each test may itself cover several keys

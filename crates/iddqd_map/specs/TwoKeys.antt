@@ -1,5 +1,5 @@
 -- What a map whose items have two keys reports of other items, and what its insert that overwrites may return.
-use Rattle.std.specs.Prelude.{◌⊎◌, ◌+◌, ℕ, Bool, false, List, Option, Result, IsSome}
+use Rattle.std.specs.Prelude.{◌+◌, ℕ, Bool, false, List, Option, Result}
 use Rattle.iddqd.specs.Store.{Store}
 use Rattle.iddqd_hash.specs.Sizes.{most_cells}
 use Rattle.iddqd_map.specs.Calls.{Overwrites}

@@ -29,7 +29,8 @@ impl<T: BiHashItem, S: BuildHasher> Map<T, BiIndex<T>, S> {
     /// in the first places of the array.
     ///
     /// If it removes an item, it takes no memory and isn't refused. If it removes none, it inserts as `insert_unique`
-    /// does, and may be refused for the same reasons. Each key is hashed once.
+    /// does, and may be refused for the same reasons. Each key of the item is hashed once, and each key of an item that
+    /// it removes.
     pub fn insert_overwrite(
         &mut self,
         item: T,

@@ -1,6 +1,7 @@
 //! A map of items that have one key each, found by its hash: a [`Map`] whose key index is one table.
 //!
-//! All calls that name no key are `Map`'s. Here are those that do, each the call of `Map` at the place of its key.
+//! All calls that name no key are `Map`'s, but for `insert_overwrite`. It is here, beside the calls that name the key;
+//! each of these is the call of `Map` at the place `Here`.
 ghost use Rattle.std.specs.Prelude.{◌≡◌, ◌≤◌, ◌↔◌, false, Some, Ok, option_copied};
 ghost use Rattle.iddqd_hash.specs.Sizes.{most_cells};
 ghost use Rattle.iddqd_keys.specs.Scan.{HasNoHit, AnswersScan, passes_by};

@@ -49,7 +49,7 @@ pub trait KeyIndex<T, S>: Sized + Drop {
 
     ghost keys: { T → Self.Keys };
 
-    // The items share a key.
+    // The items share a unique key.
     ghost alike: { T → T → Bool };
 
     // They share all keys.
@@ -86,7 +86,7 @@ pub trait KeyIndex<T, S>: Sized + Drop {
     // The conflict reports this index.
     ghost reports: { Self.Conflict → ℕ → Type 0 };
 
-    /// Nothing that a look-up computed.
+    /// The value for no hash: no look-up computed one.
     fn no_hashes() -> Self::KnownHashes;
 
     // If there are no slots and no indexes, a shrink leaves nothing.
@@ -269,7 +269,7 @@ pub trait Inserts<T, S>: KeyIndex<T, S> {
         requires apart { HasNoHit items.now.store (Self.alike item.now) }
         ensures { is_spot self.now state.now items.now.store item.now result };
 
-    /// Makes ready for an insert that comes after a removal. Below the capacity it takes no memory.
+    /// Makes ready for an insert that comes after a removal. Up to the capacity it takes no memory.
     fn ready_after(&mut self, items: &ItemSet<T>, state: &S) -> Result<(), AllocError>
         requires indexed { Self.indexes self.old state.now items.now.store }
         ensures contents { Self.same self.old self.new }
@@ -365,6 +365,9 @@ pub trait Moves<T, S>: KeyIndex<T, S> {
         ensures cells { Self.cells self.new ≡ Self.cells self.old };
 
     /// Moves a live index as planned, while the store still has its old item. It takes no memory.
+    ///
+    /// `asked` has the hashes of old keys that a look-up computed, so that they aren't computed again. If one of them
+    /// isn't the hash of the old key, its table is scanned.
     fn commit_move(
         &mut self,
         items: &ItemSet<T>,
@@ -443,7 +446,7 @@ pub enum Second {}
 /// The place of its third key.
 pub enum Third {}
 
-/// A key index with a key by its hash at the place `P`.
+/// A key index with a unique key by its hash at the place `P`.
 pub trait HashedAt<P, T, S>: KeyIndex<T, S> {
     ghost use Rattle.std.specs.Prelude.{Bool};
 

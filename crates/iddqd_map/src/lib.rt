@@ -21,6 +21,6 @@ pub mod next_at;
 pub mod no_conflict;
 pub mod pair;
 pub mod pair_conflict;
-pub mod place;
 pub mod refusal;
 pub mod tri_hash_map;
+mod word;

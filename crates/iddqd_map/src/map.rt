@@ -1,9 +1,9 @@
 //! A map: a store of items, and a key index by which no two of them are alike.
 //!
 //! Each call is written and proved once, whatever keys the items have. `IdHashMap`, `BiHashMap` and `TriHashMap` are
-//! type names for `Map` with key indexes of their own; each adds `insert_overwrite`, and `IdHashMap` calls that name
-//! its key. An insert computes each hash once and looks each key up once. All conflicts are known, and all memory is
-//! taken, before anything is written.
+//! type names for `Map` with key indexes of their own. Each adds `insert_overwrite`; `IdHashMap` also adds the calls by
+//! its one key, as `find`. An insert computes each hash once and looks each key up once. All conflicts are known, and
+//! all memory is taken, before anything is written.
 //!
 //! Invariants:
 //! 1. The store is sound: its free indexes are distinct and exactly the vacant ones.

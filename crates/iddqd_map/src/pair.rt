@@ -164,8 +164,9 @@ where
     }
 
     fn shrink_to(&mut self, items: &ItemSet<T>, state: &S, least: usize) -> Result<(), AllocError> {
-        self.first.shrink_to(items, state, least)?;
-        self.second.shrink_to(items, state, least)
+        let first = self.first.shrink_to(items, state, least);
+        let second = self.second.shrink_to(items, state, least);
+        first.and(second)
     }
 }
 

@@ -2,7 +2,11 @@
 ghost use Rattle.std.specs.Prelude.{◌≡◌};
 ghost use Rattle.iddqd_map.specs.PairConflict.{first_of, second_of};
 
+use std::fmt;
+
 /// The conflicts that the two key indexes of a pair reported.
+///
+/// It prints those of the first and then those of the second, with a dash in place of none, as `0 -`.
 #[derive(Clone, Copy, Debug, PartialEq, Eq, Drop)]
 pub enum PairConflict<A, B> {
     /// Only those of the first.
@@ -11,6 +15,20 @@ pub enum PairConflict<A, B> {
     Second(B),
     /// Those of both.
     Both(A, B),
+}
+
+impl<A: fmt::Display, B: fmt::Display> fmt::Display for PairConflict<A, B> {
+    ghost use Rattle.iddqd_map.specs.PairConflict.{pair_conflict_text};
+
+    ghost output = { pair_conflict_text A.output B.output };
+
+    fn fmt<W: fmt::Write>(&self, f: &mut fmt::Formatter<W>) -> fmt::Result {
+        match self {
+            PairConflict::First(one) => write!(f, "{one} -"),
+            PairConflict::Second(other) => write!(f, "- {other}"),
+            PairConflict::Both(one, other) => write!(f, "{one} {other}"),
+        }
+    }
 }
 
 /// A type in which a pair reports conflicts under names of its own, as `BiClash` does.

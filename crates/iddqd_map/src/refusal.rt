@@ -8,20 +8,20 @@ use std::fmt;
 /// Why an item was not inserted. The item comes back.
 #[derive(Debug, PartialEq, Eq, Drop)]
 pub enum InsertRefusal<T, C> {
-    /// Stored items have some of its keys; `at` has their indexes.
+    /// Stored items have some of its unique keys; `at` has their indexes.
     Duplicate { item: T, at: C },
-    /// No stored item has one of its keys, and there are as many items as the limit allows.
+    /// No stored item has one of its unique keys, and there are as many items as the limit allows.
     Full(T),
-    /// No stored item has one of its keys, the limit isn't reached, and memory ran out.
+    /// No stored item has one of its unique keys, the limit isn't reached, and memory ran out.
     Memory(T),
 }
 
 /// Why an insert that overwrites refused an item. The item comes back.
 #[derive(Debug, PartialEq, Eq, Drop)]
 pub enum OverwriteRefusal<T> {
-    /// No stored item has one of its keys, and there are as many items as the limit allows.
+    /// No stored item has one of its unique keys, and there are as many items as the limit allows.
     Full(T),
-    /// Memory ran out. The limit isn't reached, or a stored item has one of its keys.
+    /// Memory ran out. The limit isn't reached, or a stored item has one of its unique keys.
     Memory(T),
 }
 
@@ -30,9 +30,9 @@ pub enum OverwriteRefusal<T> {
 pub enum ReplaceRefusal<T, C> {
     /// There is no item to replace.
     Missing(T),
-    /// Other items have some keys of the new one; `at` has their indexes.
+    /// Other items have some unique keys of the new one; `at` has their indexes.
     Duplicate { item: T, at: C },
-    /// No other item has a key of the new one, and memory ran out.
+    /// No other item has a unique key of the new one, and memory ran out.
     Memory(T),
 }
 

@@ -8,7 +8,6 @@ ghost use Rattle.iddqd_map.specs.ThreeKeys.{OverwritesThree};
 mod clash;
 mod clones;
 mod index;
-mod item;
 mod prints;
 
 pub use crate::key_index::{First, Second, Third};
@@ -18,8 +17,8 @@ pub use clash::TriClash;
 pub use clones::TriHashClone;
 use iddqd::hash_builder::DefaultHashBuilder;
 use iddqd::item_index::ItemIndex;
+pub use iddqd_keys::tri_hash_item::TriHashItem;
 pub use index::TriIndex;
-pub use item::TriHashItem;
 use std::hash::BuildHasher;
 
 /// Items under stable indexes. No two items share a key.
@@ -30,7 +29,8 @@ impl<T: TriHashItem, S: BuildHasher> Map<T, TriIndex<T>, S> {
     /// index, in the first places of the array.
     ///
     /// If it removes an item, it takes no memory and isn't refused. If it removes none, it inserts as `insert_unique`
-    /// does, and may be refused for the same reasons. Each key is hashed once.
+    /// does, and may be refused for the same reasons. Each key of the item is hashed once, and each key of an item that
+    /// it removes.
     pub fn insert_overwrite(
         &mut self,
         item: T,

@@ -4,17 +4,17 @@ use Rattle.iddqd.specs.Store.{get, rebound}
 use Rattle.iddqd_keys.specs.Scan.{AnswersScan}
 use Rattle.iddqd_map.specs.Calls.{ReplacesAt, ReplacesIfLive, Replaces}
 use Rattle.iddqd_map.specs.Map.{MapState, IsOnly}
+use Rattle.iddqd_map.specs.OneKey.{IsTaken}
 use Rattle.iddqd_map.specs.declared.refusal.ReplaceRefusal.{ReplaceRefusal}
 use Rattle.iddqd_map.specs.declared.refusal.ReplaceRefusal.TheVariants.{Missing, Duplicate as Taken, Memory as Refused}
-use Rattle.iddqd_ord_map.specs.OrdMap.{IsTakenAt}
 
 module _ {T : Type 0} where
   module _ (alike : T → T → Bool) (may_need_memory : Bool) (old new : MapState T) (ix : ℕ) (item was : T)
       (live : get old.store ix ≡ Some was) where
     pub ReplacesAt-live :
         (r : Result T (ReplaceRefusal T ℕ))
-        → ReplacesIfLive alike alike may_need_memory (IsTakenAt alike) old ix item r new
-        → ReplacesAt alike alike may_need_memory (IsTakenAt alike) old ix item r new
+        → ReplacesIfLive alike alike may_need_memory (IsTaken alike) old ix item r new
+        → ReplacesAt alike alike may_need_memory (IsTaken alike) old ix item r new
     ReplacesAt-live (Ok left) is = is.1
     ReplacesAt-live (Err (Missing back)) (same, none, unchanged) = absurd (cc (none, live))
     ReplacesAt-live (Err (Taken back at)) is = is.1
@@ -23,8 +23,8 @@ module _ {T : Type 0} where
     pub Replaces-at :
         (test : T → Bool) (r : Result T (ReplaceRefusal T ℕ))
         → AnswersScan old.store test (Some ix)
-        → ReplacesIfLive alike alike may_need_memory (IsTakenAt alike) old ix item r new
-        → Replaces alike alike may_need_memory (IsTakenAt alike) old test item r new
+        → ReplacesIfLive alike alike may_need_memory (IsTaken alike) old ix item r new
+        → Replaces alike alike may_need_memory (IsTaken alike) old test item r new
     Replaces-at test (Ok left) scan is = (ix, scan, is.1)
     Replaces-at test (Err (Missing back)) scan (same, none, unchanged) = absurd (cc (none, live))
     Replaces-at test (Err (Taken back at)) scan is = (ix, scan, is.1)
@@ -34,7 +34,7 @@ module _ {T : Type 0} where
   module _ (alike : T → T → Bool) (old mid new : MapState T) (item back : T) (at : ℕ)
       (reported : (back ≡ item) × AnswersScan old.store (alike item) (Some at) × (mid ≡ old)) where
     abbrev Did : Result T (ReplaceRefusal T ℕ) → Type 0
-    Did r = ReplacesIfLive alike alike true (IsTakenAt alike) mid at back r new
+    Did r = ReplacesIfLive alike alike true (IsTaken alike) mid at back r new
 
     pub not_refused : (refusal : ReplaceRefusal T ℕ) → Did (Err refusal) → ⊥
     not_refused (Missing again) is =

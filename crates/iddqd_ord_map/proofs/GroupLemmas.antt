@@ -5,7 +5,7 @@ use Rattle.std.specs.Ordering.{nat_cmp}
 use Rattle.std.specs.declared.cmp.Ordering.TheVariants.{Less, Equal, Greater}
 use Rattle.std.proofs.lemmas.Bool.{cases_lt, cases_eq}
 use Rattle.iddqd.specs.Store.{Store, get}
-use Rattle.iddqd_by_order.specs.Ordered.{is_equal, key_at}
+use Rattle.iddqd_by_order.specs.Ordered.{is_equal, key_at, Finds, IsInPlace}
 use Rattle.iddqd_keys.specs.OrderedQuery.{IsQuery}
 use Rattle.iddqd_by_order.specs.OrderedWalk.{SortsWithin, ComesBefore, IsFirstHit}
 use Rattle.iddqd_keys.specs.Scan.{IsHit, HasNoHit, passes_by}
@@ -66,10 +66,12 @@ module _ {T K : Type 0} (key_of : T → K) (compare : K → K → Ordering) (s :
           ],
         )
 
--- whether there is one
-pub has_hit :
-    {T : Type 0} (s : Store T) (test : T → Bool) (r : Option ℕ)
-    → IsLeastHit s test r
-    → (is_some r ≡ false) ↔ HasNoHit s test
-has_hit s test None none = (λ _. none, λ _. refl)
-has_hit s test (Some ix) (hit, least) = (λ other. absurd (cc), λ none. absurd (none ix hit))
+-- a look-up in a list in order misses exactly where nothing hits
+pub found_misses :
+    {T K : Type 0} (key_of : T → K) (compare : K → K → Ordering) (s : Store T) (order : List ℕ)
+    (comparing : K → Ordering) (r : Option ℕ)
+    → IsInPlace key_of compare s order
+    → Finds key_of compare s order comparing r
+    → (is_some r ≡ false) ↔ HasNoHit s (passes_by key_of (is_equal comparing))
+found_misses key_of compare s order comparing None placed missed = (λ _. missed placed, λ _. refl)
+found_misses key_of compare s order comparing (Some ix) placed hit = (λ is. absurd (cc), λ none. absurd (none ix hit))

@@ -168,7 +168,7 @@ module _
         → IsSortedScan key_of compare there left
     IsSortedScan-put_in g read xs i asking new left all own steady puts is =
         let put : PutsIn g read others ix asking new = subst (λ j. PutsIn g read (without order j) j asking new) own (subst (λ l. PutsIn g read (without l i) i asking new) all puts) in
-        IsSortedScan-moved put.place left (put.bound (item_answer key_of compare s item) (record { steady = steady; rising = IsRising-new })) (is ∙ put.inserted)
+        IsSortedScan-moved put.place left (put.belongs (item_answer key_of compare s item) (record { steady = steady; rising = IsRising-new })) (is ∙ put.inserted)
 
     -- where no item had the new key, still no two items share one
     pub HasDistinctKeys-moved :

@@ -77,8 +77,8 @@ module _ {T K : Type 0} (key_of : T → K) (compare : K → K → Ordering) wher
       apart_both : AreApart (alike_in_order key_of compare) s → AreApart (alike_in_order key_of compare) t
       apart_both apart i j x y p q like =
           let e = shares_equivalence key_of compare total in
-          let (u, p_there, u_like) = same.slots i x p in
-          let (v, q_there, v_like) = same.slots j y q in
+          let (u, p_there, u_like) = same.items_of_t i x p in
+          let (v, q_there, v_like) = same.items_of_t j y q in
           let first : alike_in_order key_of compare u y ≡ true = e.congr u x y u_like ∙ like in
           let second : alike_in_order key_of compare u v ≡ true =
           e.symm u v ∙ e.congr v y u v_like ∙ e.symm y u ∙ first in

@@ -87,14 +87,20 @@ module _ {T K : Type 0} (key_of : T → K) (compare : K → K → Ordering) wher
     module _ (s t : Store T) (same : HaveSameKeys (alike_in_order key_of compare) s t) where
       live_both : (ix : ℕ) → IsLive s ix ↔ IsLive t ix
       live_both ix = (
-        λ here. let (x, is) = item_at s ix here in let (y, there, like) = same.items ix x is in live_at t ix y there,
-        λ here. let (y, is) = item_at t ix here in let (x, there, like) = same.slots ix y is in live_at s ix x there,
+        λ here.
+            let (x, is) = item_at s ix here in
+            let (y, there, like) = same.items_of_s ix x is in
+            live_at t ix y there,
+        λ here.
+            let (y, is) = item_at t ix here in
+            let (x, there, like) = same.items_of_t ix y is in
+            live_at s ix x there,
       )
 
       tied : (ix : ℕ) → IsLive s ix → option_cmp compare (key_at key_of t ix) (key_at key_of s ix) ≡ Equal
       tied ix here =
           let (x, is) = item_at s ix here in
-          let (y, there, like) = same.items ix x is in
+          let (y, there, like) = same.items_of_s ix x is in
           rw (is, there) ((Equal-is _).0 (shares_equivalence.symm y x ∙ like))
 
       pub IsSortedScan-alike :

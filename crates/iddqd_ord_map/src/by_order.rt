@@ -17,14 +17,14 @@ ghost use Rattle.iddqd_keys.specs.Scan.{AnswersScan, IsLive, IsKeyAt, passes_by}
 ghost use Rattle.iddqd_keys.specs.OrderedQuery.{is_within};
 
 use crate::ordered_move::{Move, plan_move};
-use crate::ordered_query::{find_by, first_between, first_by, iter_by, last_by, range_by, take_by};
+use crate::ordered_query::{find_by, first_by, iter_by, last_by, range_by, take_by};
 use crate::ordered_steps;
 use iddqd::index_remap::IndexRemap;
 use iddqd::internal::{ValidateCompact, ValidateRefusal, ValidationError};
 use iddqd::item_index::ItemIndex;
 use iddqd::item_set::ItemSet;
 use iddqd_by_order::ordered;
-use iddqd_by_order::ordered_next::next_between;
+use iddqd_by_order::ordered_next::{first_between, next_between};
 use iddqd_keys::key_of::{KeyOf, KeyQuery, key_at};
 use iddqd_keys::order_query::OrdQuery;
 use iddqd_map::key_index::{

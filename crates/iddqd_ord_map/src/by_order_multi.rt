@@ -19,17 +19,16 @@ ghost use Rattle.iddqd_keys.specs.Scan.{HasNoHit, IsLive, IsKeyAt, passes_by};
 ghost use Rattle.iddqd_keys.specs.OrderedQuery.{is_within};
 
 use crate::ordered_move::Move;
-use crate::ordered_query::{
-    count_by, first_between, first_by, group_by, iter_by, last_by, range_by,
-};
+use crate::ordered_query::{count_by, first_by, group_by, iter_by, last_by, range_by};
 use crate::ordered_steps;
 use iddqd::index_remap::IndexRemap;
 use iddqd::internal::{ValidateCompact, ValidateRefusal, ValidationError};
 use iddqd::item_index::ItemIndex;
 use iddqd::item_set::ItemSet;
-use iddqd_by_order::ordered_next::next_between;
+use iddqd_by_order::ordered;
+use iddqd_by_order::ordered_next::{first_between, next_between};
 use iddqd_keys::key_of::{KeyOf, key_at};
-use iddqd_keys::order_query::OrdQuery;
+use iddqd_keys::order_query::{AsComparable, OrdQuery};
 use iddqd_map::key_index::{Checks, Here, Inserts, KeyIndex, Moves, OrderedAt, Removes, Sizes};
 use iddqd_map::next_at::NextAt;
 pub use iddqd_map::no_conflict::NoConflict;
@@ -144,7 +143,9 @@ impl<E> ByOrderMulti<E> {
         self.group(items, state, query).next_back()
     }
 
-    /// Whether an item has the key for which the query stands. It costs as much as `group`.
+    /// Whether an item has the key for which the query stands.
+    ///
+    /// It compares the query with at most 4 + 2d keys, where the number of items has d binary digits.
     pub fn contains_key<T, S, Q>(&self, items: &ItemSet<T>, state: &S, query: Q) -> bool
     where
         E: KeyOf<T>,
@@ -153,7 +154,7 @@ impl<E> ByOrderMulti<E> {
         requires { ⟦<ByOrderMulti<E> as KeyIndex<T, S>>⟧.indexes self.now state.now items.now.store }
         ensures { (result ≡ false) ↔ HasNoHit items.now.store (passes_by E.key_of (is_equal (Q.compare query))) }
     {
-        self.first_of(items, state, query).is_some()
+        ordered::find::<T, E, AsComparable<Q>>(&self.table, items, &AsComparable(query)).is_some()
     }
 
     /// How many items have the key for which the query stands.

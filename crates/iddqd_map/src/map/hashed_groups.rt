@@ -1,7 +1,7 @@
 //! Calls on a group: the items with one hashed key that several items may have.
 //!
-//! A call that removes them finds each item by a look-up of that key, and removes it once from each key index. No
-//! memory is taken.
+//! A call that removes them finds each item by a look-up of that key, and removes it once from each table. No memory
+//! is taken.
 ghost use Rattle.std.specs.Prelude.{◌≡◌, ◌≤◌, ◌+◌, ◌↔◌, Bool, false};
 ghost use Rattle.iddqd.specs.{live_count};
 ghost use Rattle.iddqd.specs.LiveItems.{live_items};
@@ -47,7 +47,7 @@ impl<T, X: KeyIndex<T, S>, S> Map<T, X, S> {
     /// Removes the items that have the key for which the query stands, and returns how many there were.
     ///
     /// The closure receives each of them once, in no particular order. No memory is taken. It costs, for each item, a
-    /// look-up of that key, and a removal from each key index.
+    /// look-up of that key, and a removal from each table.
     pub fn remove_hashed_group_by<P, Q, F: FnMut(T)>(&mut self, query: Q, mut f: F) -> usize
     where
         X: GroupedAt<P, T, S> + Removes<T, S>,

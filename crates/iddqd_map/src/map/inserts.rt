@@ -4,14 +4,14 @@ ghost use Rattle.iddqd.specs.{inserted, next_index};
 ghost use Rattle.iddqd_map.specs.Map.{map_with, room};
 ghost use Rattle.iddqd_map.specs.Calls.{Inserts};
 ghost use Rattle.iddqd_map.specs.KeyIndex.{IsIndexed};
+ghost use Rattle.iddqd_map.specs.Refusal.{refusal_of};
 
 use super::Map;
 use super::steps::store_in_room;
 use crate::key_index::Inserts;
-use crate::place::refusal;
 use crate::refusal::InsertRefusal;
 use iddqd::item_index::ItemIndex;
-use iddqd::item_set::ItemSet;
+use iddqd::item_set::{GrowError, ItemSet};
 use std::alloc::AllocError;
 
 impl<T, X: Inserts<T, S>, S> Map<T, X, S> {
@@ -60,4 +60,14 @@ pub(super) fn insert<T, X: Inserts<T, S>, S>(
     }
     indexes.insert(known, &plan, ix);
     Ok(store_in_room(items, item))
+}
+
+// The refusal of an item that shares no key, by the reason why the store can't grow: full, or out of memory.
+fn refusal<T, C>(error: GrowError, item: T) -> InsertRefusal<T, C>
+    ensures { result ≡ refusal_of error item }
+{
+    match error {
+        GrowError::Full => InsertRefusal::Full(item),
+        GrowError::Memory => InsertRefusal::Memory(item),
+    }
 }

@@ -1,5 +1,5 @@
 //! Reserving memory, giving it back, and compaction.
-ghost use Rattle.std.specs.Prelude.{◌≡◌, ◌≤◌, ◌-◌, ◌*◌, [], length, min, max, IsOk, IfOk, OnOk, OnErr};
+ghost use Rattle.std.specs.Prelude.{◌≡◌, ◌≤◌, ◌-◌, [], length, min, max, IsOk, IfOk, OnOk, OnErr};
 ghost use Rattle.iddqd.specs.{slot_limit, empty, cleared, live_count, IsRemapOf};
 ghost use Rattle.iddqd_map.specs.Map.{capacity, room};
 ghost use Rattle.iddqd_map.specs.Memory.{ReservesItems, ShrinksItems};
@@ -80,7 +80,7 @@ impl<T, X: Sizes<T, S>, S> Map<T, X, S> {
         if more <= self.room() {
             return Ok(());
         }
-        reserve_slots(&mut self.items, len + more)?;
+        self.items.reserve_slots(len + more)?;
         self.indexes.reserve(&self.items, &self.state, more)
     }
 
@@ -135,19 +135,4 @@ impl<T, X: Removes<T, S>, S> Map<T, X, S> {
         self.indexes.remap(&remap);
         Ok(remap)
     }
-}
-
-// Makes room for `wanted` slots, unless there are as many.
-fn reserve_slots<T>(items: &mut ItemSet<T>, wanted: usize) -> Result<(), AllocError>
-    requires { wanted ≤ items.old.store.limit }
-    ensures contents { items.new.store ≡ items.old.store }
-    ensures slots_stay { items.old.capacity ≤ items.new.capacity }
-    ensures reserved { OnOk result (wanted ≤ items.new.capacity) }
-    ensures few_slots { items.new.capacity
-        ≤ max items.old.capacity (min items.old.store.limit (max wanted (2 * items.old.capacity))) }
-{
-    if wanted <= items.capacity() {
-        return Ok(());
-    }
-    items.reserve(wanted - items.slot_count())
 }

@@ -24,7 +24,8 @@ impl<T, X: KeyIndex<T, S>, S> Map<T, X, S> {
         self.modify_live(ix, f)
     }
 
-    /// Does what `modify_at` does. Its condition is split into two clauses, which makes a call much cheaper to check.
+    /// Does what `modify_at` does. The clause `callable` repeats a part of `keeps`; with both, a call is much cheaper
+    /// to check.
     pub fn modify_live<R, F: FnOnce(&mut T) -> R>(&mut self, ix: ItemIndex, f: F) -> Option<R>
         requires callable { (item : MutBor T) → get self.old.store ix ≡ Some item.now → F.FnOnce.pre f (item, tt) }
         requires keeps { KeepsKey F.FnOnce f X.keys (λ item. get self.old.store ix ≡ Some item) }

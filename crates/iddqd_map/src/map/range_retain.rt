@@ -29,7 +29,7 @@ impl<T, X: KeyIndex<T, S>, S> Map<T, X, S> {
     ///
     /// The closure is called once at each of them, by key and then by index. Those at which it answers false are
     /// removed; all other items stay under their indexes. No memory is taken. It costs, for each item that is asked
-    /// about, a search by that key, and for each removed one a removal from each key index.
+    /// about, a search by that key, and for each removed one a removal from each table.
     pub fn retain_range_by<P, Q, F: FnMut(&T) -> bool>(
         &mut self,
         lower: Bound<Q>,

@@ -1,6 +1,6 @@
 //! Calls that remove the items whose keys are within bounds of an ordered key.
 //!
-//! Each item is found by one search of that order, and removed once from each key index. No memory is taken.
+//! Each item is found by one search of that order, and removed once from each table. No memory is taken.
 ghost use Rattle.std.specs.Prelude.{◌≡◌, ◌≤◌, ◌+◌, Bool};
 ghost use Rattle.iddqd.specs.{live_count};
 ghost use Rattle.iddqd.specs.LiveItems.{live_items};
@@ -22,7 +22,7 @@ impl<T, X: KeyIndex<T, S>, S> Map<T, X, S> {
     /// Removes the items whose keys at the place are within the bounds, and returns how many there were.
     ///
     /// The closure receives each of them, by key and then by index. No memory is taken. It costs, for each item, a
-    /// search by that key, and a removal from each key index.
+    /// search by that key, and a removal from each table.
     pub fn remove_range_by<P, Q, F: FnMut(T)>(
         &mut self,
         lower: Bound<Q>,

@@ -42,7 +42,8 @@ pub(super) fn next_in_room<T>(items: &mut ItemSet<T>) -> ItemIndex
     }
 }
 
-/// Stores an item. There is room for it.
+/// Stores an item. There is room for it. It is inlined, as the insert into a hash table is.
+#[inline(always)]
 pub(super) fn store_in_room<T>(items: &mut ItemSet<T>, item: T) -> ItemIndex
     requires { 1 ≤ room items.old }
     ensures index { result ≡ next_index items.old.store }

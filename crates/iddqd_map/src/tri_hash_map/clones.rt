@@ -1,7 +1,7 @@
 //! Copies of a map.
 use super::TriIndex;
-use super::item::TriHashItem;
 use crate::map::Map;
+use iddqd_keys::tri_hash_item::TriHashItem;
 use std::alloc::AllocError;
 use std::hash::BuildHasher;
 

@@ -1,10 +1,9 @@
 //! The key index of a map whose items have three keys: a table by each of them.
 //!
-//! A look-up by one key goes to the table by that key, and a call that can't fail to each of the three. The others go
-//! to two nested pairs, which put the tables' answers together. A caller's proof sees three keys, and neither the pairs
-//! nor the tables: each of these would cost proof time in every function that calls the map.
+//! A look-up by one key goes to the table by that key. The calls that may run out of memory, put the tables' answers
+//! together or make the tables go to two nested pairs, and all others to each table. A caller's proof sees three keys,
+//! and neither the pairs nor the tables: each of these would cost proof time in every function that calls the map.
 use super::clash::TriClash;
-use super::item::{Key1, Key2, Key3, TriHashItem};
 use crate::by_hash::ByHash;
 use crate::key_index::{
     Checks, FindsSame, FindsWithHashAt, First, HashedAt, Inserts, KeyIndex, Moves, Removes, Second,
@@ -18,6 +17,7 @@ use iddqd::item_set::ItemSet;
 use iddqd::map_hash::MapHash;
 use iddqd_by_hash::hashed_move::Move;
 use iddqd_keys::hash_query::HashQuery;
+use iddqd_keys::tri_hash_item::{Key1, Key2, Key3, TriHashItem};
 use std::alloc::{AllocError, Global};
 use std::hash::BuildHasher;
 

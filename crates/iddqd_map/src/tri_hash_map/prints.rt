@@ -1,22 +1,13 @@
 //! How a map prints: as a map of its items by their keys, which print as a map too.
 use super::{TriHashItem, TriIndex};
 use crate::map::Map;
+use crate::word::Word;
 use std::fmt;
 use std::hash::BuildHasher;
 
 // The three keys of an item.
 #[derive(Drop)]
 struct Keys<'a, T: TriHashItem>(&'a T);
-
-// A word that prints as it is.
-#[derive(Drop)]
-struct Word(&'static str);
-
-impl fmt::Debug for Word {
-    fn fmt<W: fmt::Write>(&self, f: &mut fmt::Formatter<W>) -> fmt::Result {
-        f.write_str(self.0)
-    }
-}
 
 impl<'a, T: TriHashItem> fmt::Debug for Keys<'a, T>
 where

@@ -9,7 +9,7 @@ use iddqd::internal::{ValidateCompact, ValidateRefusal, ValidationError};
 impl<T: IdOrdItem> IdOrdMap<T> {
     /// Whether store and table are sound, as they are in every map; for `Compact`, whether no slot is vacant.
     ///
-    /// It sorts a copy of the indexes, for which memory may run out.
+    /// Memory is taken only for the text of a refusal.
     pub fn validate(
         &self,
         compactness: ValidateCompact,

@@ -15,7 +15,8 @@ use std::marker::Model;
 /// The items of a map by value, in the order of the keys, from both ends. Once it has ended it stays
 /// ended.
 ///
-/// A step costs a constant time on the average, and the iteration takes no memory.
+/// The iteration takes no memory. A step within a leaf of the table takes constant time; a step into another leaf may
+/// walk down from the root.
 #[derive(Drop)]
 pub struct IntoValues<T> {
     pub(super) indexes: btree_table::IntoIter,

@@ -18,7 +18,7 @@ use std::marker::Model;
 /// The indexes of a map with their items, in the order of the keys, from both ends. Once it has ended
 /// it stays ended.
 ///
-/// A step costs a constant time on the average.
+/// A step within a leaf of the table takes constant time; a step into another leaf may walk down from the root.
 #[derive(Drop)]
 pub struct Iter<'a, T> {
     pub(super) indexes: btree_table::Iter<'a>,

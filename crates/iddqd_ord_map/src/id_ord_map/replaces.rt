@@ -17,9 +17,9 @@ use iddqd_map::refusal::ReplaceRefusal;
 impl<T: IdOrdItem> IdOrdMap<T> {
     /// Replaces the item that has the key, and returns the old one.
     ///
-    /// The new item may have another key. It gets the same index. If another item has its key, or memory runs out, it
-    /// comes back, and the map stays as it was. If the key stays the table isn't touched. Up to the capacity no memory
-    /// is needed.
+    /// The new item may have another key. It gets the same index. If no item has the key (`Missing`), another item has
+    /// the new item's key, or memory runs out, the new item comes back, and the map stays as it was. If the key stays
+    /// the table isn't touched. Up to the capacity no memory is needed.
     pub fn replace<Q: OrdQuery<T::Key>>(
         &mut self,
         query: Q,

@@ -1,4 +1,4 @@
-use Rattle.std.proofs.Common.{◌≡◌, ◌≤◌, ◌<◌, max, min, IsOk, OnOk, OnErr, arith, subst}
+use Rattle.std.proofs.Common.{◌≡◌, ◌≤◌, ◌<◌, max, min, IsOk, OnOk, OnErr, subst}
 use Rattle.iddqd.specs.Store.{slot_count}
 use Rattle.iddqd_by_hash.specs.LinkedTable.{kept_linked}
 use Rattle.iddqd_by_hash.proofs.HashedCountLemmas.{len-held}

@@ -1,4 +1,3 @@
-use Rattle.std.proofs.Common.{arith}
 use Rattle.iddqd.proofs.LiveLemmas.{item_at}
 use Rattle.iddqd_hash.specs.MapHashTable.{filed}
 use Rattle.iddqd_map.proofs.IndexingLemmas.{Indexes-removed}

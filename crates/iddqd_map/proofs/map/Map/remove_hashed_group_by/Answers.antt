@@ -1,5 +1,4 @@
-use Rattle.std.proofs.Common.{Bool, ap, arith}
-use Rattle.iddqd_map.specs.Map.{MapMemory, map_with}
+use Rattle.std.proofs.Common.{Bool, arith}
 use Rattle.iddqd_map.specs.Ranges.{TakesItem, GivesItem}
 use Rattle.iddqd_map.proofs.RetainLemmas.{MayAsk-can, same_memory}
 use Rattle.iddqd_map.proofs.map.Map.remove_hashed_group_by.Goals as goal

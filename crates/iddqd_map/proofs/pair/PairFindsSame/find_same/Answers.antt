@@ -1,4 +1,4 @@
-use Rattle.std.proofs.Common.{rules, ◌≡◌, Some, sym, ◌∙◌, true, false}
+use Rattle.std.proofs.Common.{rules, ◌≡◌, Some, true, false}
 use Rattle.iddqd.specs.Store.{get}
 use Rattle.iddqd_map.proofs.FoundLemmas.{hit_live}
 use Rattle.iddqd_map.specs.PairLaws.{HasNoHit-both, AnswersScan-both, HasNoHit-unlike}

@@ -4,8 +4,8 @@ use Rattle.iddqd_by_order.specs.Ordered.{is_equal}
 use Rattle.iddqd_keys.specs.Scan.{passes_by}
 use Rattle.iddqd_map.specs.Calls.{ReplacesIfLive}
 use Rattle.iddqd_map.specs.Map.{MapState, shares}
+use Rattle.iddqd_map.specs.OneKey.{IsTaken}
 use Rattle.iddqd_map.proofs.FoundLemmas.{hit_live}
-use Rattle.iddqd_ord_map.specs.OrdMap.{IsTakenAt}
 use Rattle.iddqd_ord_map.proofs.CallLemmas.{ReplacesAt-live}
 use Rattle.iddqd_ord_map.proofs.id_ord_map.IdOrdMap.change.Goals as goal
 
@@ -27,7 +27,7 @@ returns-in_err-was g c =
     let (was, live, gave) = c.made-item.ensures in
     let is : c.from_residual.result ≡ Err refusal = search rules in
     let at = ReplacesAt-live alike true c.args.self.now c.replace_at.new.self c.in-Some.ix c.made-item.result was live (Err refusal)
-    (subst (λ (m : MapState _). ReplacesIfLive alike alike true (IsTakenAt alike) m c.in-Some.ix c.made-item.result (Err refusal) c.replace_at.new.self) c.self.view_is c.in_err-was.ensures.replaces) in
+    (subst (λ (m : MapState _). ReplacesIfLive alike alike true (IsTaken alike) m c.in-Some.ix c.made-item.result (Err refusal) c.replace_at.new.self) c.self.view_is c.in_err-was.ensures.replaces) in
     rw is (c.in-Some.ix, c.in-Some.ensures, (was, c.made-item.result, live, gave, at))
 
 pub returns : goal.returns

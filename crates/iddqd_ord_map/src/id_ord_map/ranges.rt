@@ -1,0 +1,64 @@
+//! Calls for the items whose keys are within bounds. They take no memory.
+ghost use Rattle.std.specs.Prelude.{◌≡◌, ◌≤◌, ◌+◌};
+ghost use Rattle.std.specs.Fn.{TakesAt, CalledAt};
+ghost use Rattle.iddqd.specs.{live_count};
+ghost use Rattle.iddqd.specs.LiveItems.{live_items};
+ghost use Rattle.iddqd_keys.specs.OrderedQuery.{is_within};
+ghost use Rattle.iddqd_keys.specs.Scan.{passes_by};
+ghost use Rattle.iddqd_map.specs.Map.{room};
+ghost use Rattle.iddqd_map.specs.RangeRetain.{KeepsMisses, RetainsWithin};
+ghost use Rattle.iddqd_map.specs.Ranges.{GivesItem, LeavesOthers, MayGive, RemovesAlong};
+ghost use Rattle.iddqd_map.specs.Retain.{MayAsk};
+
+use super::{IdOrdItem, IdOrdMap};
+use iddqd_keys::order_query::OrdQuery;
+use iddqd_map::key_index::Here;
+use std::ops::Bound;
+
+impl<T: IdOrdItem> IdOrdMap<T> {
+    /// Removes the items whose keys are within the bounds, and returns how many there were.
+    ///
+    /// The closure receives each of them, by key. It takes no memory. It costs, for each item, a search and a removal
+    /// from the table, and a search at the end.
+    pub fn remove_range<Q: OrdQuery<T::Key>, F: FnMut(T)>(
+        &mut self,
+        lower: Bound<Q>,
+        upper: Bound<Q>,
+        f: F,
+    ) -> usize
+        requires { MayGive F.FnMut f (live_items self.old.store) }
+        ensures left { LeavesOthers self.old.store (passes_by T.key_of (is_within Q.compare lower upper))
+            self.new.store }
+        ensures handed { (last : F) × RemovesAlong T.key_of T.Key.cmp (is_within Q.compare lower upper)
+            (GivesItem F.FnMut) f self.old.store self.new.store last }
+        ensures memory { self.new.memory ≡ self.old.memory }
+        ensures room { room self.old ≤ room self.new }
+        ensures count { result + live_count self.new.store ≡ live_count self.old.store }
+    {
+        self.map.remove_range_by::<Here, Q, F>(lower, upper, f)
+    }
+
+    /// Keeps, of the items whose keys are within the bounds, those at which the closure answers true, and returns how
+    /// many it removed.
+    ///
+    /// The closure is called once at each of them, by key. Those at which it answers false are removed; all other items
+    /// stay under their indexes. It takes no memory. It costs, for each item that is asked about, a search, and for
+    /// each removed one a removal from the table.
+    pub fn retain_range<Q: OrdQuery<T::Key>, F: FnMut(&T) -> bool>(
+        &mut self,
+        lower: Bound<Q>,
+        upper: Bound<Q>,
+        f: F,
+    ) -> usize
+        requires { MayAsk (TakesAt F.FnMut) (CalledAt F.FnMut) f (live_items self.old.store) }
+        ensures asked { (last : F) × RetainsWithin T.key_of T.Key.cmp (is_within Q.compare lower upper)
+            (CalledAt F.FnMut) f self.old.store self.new.store last }
+        ensures others { KeepsMisses self.old.store (passes_by T.key_of (is_within Q.compare lower upper))
+            self.new.store }
+        ensures memory { self.new.memory ≡ self.old.memory }
+        ensures room { room self.old ≤ room self.new }
+        ensures count { result + live_count self.new.store ≡ live_count self.old.store }
+    {
+        self.map.retain_range_by::<Here, Q, F>(lower, upper, f)
+    }
+}
