@@ -35,8 +35,8 @@ module _ {T S : Type 0} where
       paired_by _ (IsValid-empty limit named) (filed_holds.Holds-empty T limit) (order_holds.Holds-empty T limit)
 
   module _ (s : State T S) (paired : IsPaired s) where
-    pub order_held : ordered.Holds s.store s.order
-    order_held = Holds-order s paired
+    pub order_has_live_indexes : ordered.Holds s.store s.order
+    order_has_live_indexes = Holds-order s paired
 
     pub IsPaired-cleared : IsPaired (cleared_state s)
     IsPaired-cleared =
@@ -47,21 +47,21 @@ module _ {T S : Type 0} where
     IsPaired-unbound ix item live =
         paired_by _ (IsValid-removed s.store ix item paired.valid live)
         (filed_holds.Holds-removed s.store s.filed paired.filed ix item live)
-        (order_holds.Holds-removed s.store s.order order_held ix item live)
+        (order_holds.Holds-removed s.store s.order order_has_live_indexes ix item live)
 
     pub IsPaired-compacted : (filed : FinMap nat_cmp ℕ) → Renames (rank s.store) s.filed filed
         → IsPaired (compacted_state s filed)
     IsPaired-compacted filed named =
         paired_by _ (IsValid-compacted s.store paired.valid)
         (filed_holds.Holds-compacted s.store s.filed paired.filed filed named)
-        (order_holds.Holds-compacted s.store s.order order_held)
+        (order_holds.Holds-compacted s.store s.order order_has_live_indexes)
 
     pub IsPaired-rebound : (ix : ℕ) (item was : T) → get s.store ix ≡ Some was
         → IsPaired (record s { store = rebound s.store ix item })
     IsPaired-rebound ix item was live =
         paired_by _ (IsValid-rebound s.store ix item was paired.valid live)
         (filed_holds.Holds-rebound s.store s.filed paired.filed ix item was live)
-        (order_holds.Holds-rebound s.store s.order order_held ix item was live)
+        (order_holds.Holds-rebound s.store s.order order_has_live_indexes ix item was live)
 
 module _ {T S K1 K2 : Type 0} (keys : Keys T K1 K2 S) where
   -- where nothing is live

@@ -24,7 +24,7 @@ use Rattle.iddqd_driver.specs.Machine.{Removes, StoresAt}
 use Rattle.iddqd_driver.specs.Memory.{Memory, SizedState, IsNoLower, InsertsInMemory, HasRoomInParts, ReservesInMemory, ShrinksInMemory, sized_of, capacity, room, reservable}
 use Rattle.iddqd_driver.specs.declared.keyed_items.InsertRefusal.{InsertRefusal}
 use Rattle.iddqd_driver.proofs.KeepsLemmas.{Holds-order}
-use Rattle.iddqd_driver.proofs.ValidationLemmas.{filed_held}
+use Rattle.iddqd_driver.proofs.ValidationLemmas.{filed_has_live_indexes}
 
 -- ---- what stays
 
@@ -76,7 +76,7 @@ module _ {T S : Type 0} (s : State T S) (paired : IsPaired s) where
   pub length-filed : finite.len s.filed ≡ live_count s.store
   length-filed =
       finite.len-entries s.filed ∙ sym (length-map (finite.entries s.filed) (λ e. e.0))
-      ∙ length-held s.store (indexes_of s.filed) (filed_held s paired)
+      ∙ length-held s.store (indexes_of s.filed) (filed_has_live_indexes s paired)
 
   pub length-order : length s.order ≡ live_count s.store
   length-order = length-held s.store s.order (Holds-order s paired)

@@ -39,7 +39,7 @@ use Rattle.iddqd_keys.specs.AnyTable.{ChangesAt}
 use Rattle.iddqd_driver.specs.Keys.{Keys, first_hashing}
 use Rattle.iddqd_driver.specs.State.{State, IsPaired}
 use Rattle.iddqd_driver.specs.KeyIndexes.{hash_in, first_key_index, second_key_index, LooksUp, Keeps}
-use Rattle.iddqd_driver.specs.Replacement.{ReportsOtherIndex, IsReplaceOutOfMemory, Becomes, HasNewSecondKey, Replaces, planned, MovesInPlace, Reorders}
+use Rattle.iddqd_driver.specs.Replacement.{ReportsOtherIndex, IsReplaceOutOfMemory, Becomes, HasNewSecondKey, Replaces, planned, Reinserts, Reorders}
 use Rattle.iddqd_driver.specs.declared.keyed_items.replaces.ReplaceRefusal.{ReplaceRefusal}
 use Rattle.iddqd_driver.specs.declared.keyed_items.replaces.ReplaceRefusal.TheVariants.{Memory}
 use Rattle.iddqd_driver.proofs.KeyLemmas.{AreLawful}
@@ -123,15 +123,15 @@ module _ {T : Type 0} (s : Store T) (ix : ℕ) (item was : T) (live : get s ix �
         at j (inl same) = rw (same, get-insert_at m ix hash) filed
         at j (inr other) = sym (get-insert_other m ix hash j other)
 
-    held_at : hashed.Holds s m → (j : ℕ) → (j ≡ ix) ⊎ (j ≡ ix → ⊥) → IsSome (finite.get there j) ↔ IsLive after j
-    held_at holds j (inl same) =
+    has_live_at : hashed.Holds s m → (j : ℕ) → (j ≡ ix) ⊎ (j ≡ ix → ⊥) → IsSome (finite.get there j) ↔ IsLive after j
+    has_live_at holds j (inl same) =
         let here : finite.get there j ≡ Some hash = rw same (get-insert_at m ix hash) in
         let stays : IsLive after j = rw (live_rebound s ix item was live j) (live_at s j was (rw same live)) in
         (λ _. stays, λ _. rw here refl)
-    held_at holds j (inr other) = rw (get-insert_other m ix hash j other, live_rebound s ix item was live j) (holds j)
+    has_live_at holds j (inr other) = rw (get-insert_other m ix hash j other, live_rebound s ix item was live j) (holds j)
 
     pub Holds-refiled : hashed.Holds s m → hashed.Holds after there
-    Holds-refiled holds j = held_at holds j (cases_eq j ix)
+    Holds-refiled holds j = has_live_at holds j (cases_eq j ix)
 
     module _
         {K : Type 0} (key_of : T → K) (hashing : hashed.Hashing K) (is : hash ≡ hashing.hash_of (key_of item))
@@ -231,20 +231,20 @@ module _ {T : Type 0} (s : Store T) (ix : ℕ) (item was : T) (live : get s ix �
       IsInPlace-reordered place placed = IsStrictlySortedBy-insert (key_then_index-total (options_total total) key) left (sorted_left placed) ix _ ties place
 
       -- the index was put where the answers lead
-      pub MovesInPlace-put :
+      pub Reinserts-put :
           (new put : List ℕ) (place : ℕ)
           → place ≤ length left
           → new ≡ put
           → put ≡ insert left place ix
           → (ordered.IsInPlace key_of compare s order → IsPlace (with_ties (Some ix) answer) left place)
-          → MovesInPlace key_of compare s ix item order new
-      MovesInPlace-put new put place within same is leads = record {
+          → Reinserts key_of compare s ix item order new
+      Reinserts-put new put place within same is leads = record {
         adds = record { place = place; within = within; added = same ∙ is };
         placed = λ placed. rw (same, is) (IsInPlace-reordered place placed (leads placed));
       }
 
       -- the index was put where a search for the new key led
-      pub MovesInPlace-put_in :
+      pub Reinserts-put_in :
           {F : Type 0} (g : Mut F (ℕ × Unit {0}) (Bor K)) (read : Bor K → Ordering) (xs : List ℕ) (i : ℕ)
           (asking : Asking F) (put new : List ℕ)
           → xs ≡ order
@@ -252,11 +252,11 @@ module _ {T : Type 0} (s : Store T) (ix : ℕ) (item was : T) (live : get s ix �
           → IsSteady g left (Some ix) read answer asking
           → PutsIn g read (without xs i) i asking put
           → new ≡ put
-          → MovesInPlace key_of compare s ix item order new
-      MovesInPlace-put_in g read xs i asking put new all own steady puts is =
+          → Reinserts key_of compare s ix item order new
+      Reinserts-put_in g read xs i asking put new all own steady puts is =
           let there : PutsIn g read left ix asking put = subst (λ j. PutsIn g read (without order j) j asking put) own (subst (λ l. PutsIn g read (without l i) i asking put) all puts) in
-          MovesInPlace-put new put there.place there.within is there.inserted
-          (λ placed. there.bound answer (record { steady = steady; rising = IsRising-left placed }))
+          Reinserts-put new put there.place there.within is there.inserted
+          (λ placed. there.belongs answer (record { steady = steady; rising = IsRising-left placed }))
 
 -- an index that was put in is left out again
 without-insert : (xs : List ℕ) (place ix : ℕ) → place ≤ length xs → without (insert xs place ix) ix ≡ without xs ix
@@ -318,9 +318,9 @@ module _
         ∙ without-missing (without s.order ix) ix (left_absent s.store ix item was live s.order holds)
     others_stay (Some at) stays = ap (λ xs. without xs ix) stays
 
-    order_held : (at : Option ℕ) → Placed at → ordered.Holds new_store order
-    order_held None moves = Holds-reordered s.store ix item was live s.order holds order moves.adds
-    order_held (Some at) stays = subst (ordered.Holds new_store) (sym stays) (order_holds.Holds-rebound s.store s.order holds ix item was live)
+    order_has_live_indexes : (at : Option ℕ) → Placed at → ordered.Holds new_store order
+    order_has_live_indexes None moves = Holds-reordered s.store ix item was live s.order holds order moves.adds
+    order_has_live_indexes (Some at) stays = subst (ordered.Holds new_store) (sym stays) (order_holds.Holds-rebound s.store s.order holds ix item was live)
 
     second_keeps :
         (at : Option ℕ)
@@ -365,8 +365,8 @@ module _
           record {
             valid = IsValid-rebound s.store ix item was paired.valid live;
             filed = Holds-refiled s.store ix item was live s.filed hash paired.filed;
-            ordered = (order_held at2 placed).each;
-            once = (order_held at2 placed).once;
+            ordered = (order_has_live_indexes at2 placed).each;
+            once = (order_has_live_indexes at2 placed).once;
           },
         );
         first_keys = first_keeps at1 own1 first;

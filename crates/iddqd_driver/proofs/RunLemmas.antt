@@ -128,15 +128,15 @@ module _ {T S K1 K2 : Type 0} (keys : Keys T K1 K2 S) where
       limit_stays_along rest ∙ limit_stays old next command reply step.answers
 
   IsServedBelow-push :
-      (held : ℕ) {old mid : State T S} {commands : List (Command T K1 K2)} {replies : List (Reply T)}
+      (n : ℕ) {old mid : State T S} {commands : List (Command T K1 K2)} {replies : List (Reply T)}
       {moments : List (State T S)} (reply : Reply T) (new : State T S)
       → IsStepChain keys old commands replies moments mid
-      → IsServedBelow held old replies moments
-      → (live_count mid.store < held → RefusesMemory reply → ⊥)
-      → IsServedBelow held old (replies ++ reply ∷ []) (moments ++ new ∷ [])
-  IsServedBelow-push held reply new No_step served last = (last, tt)
-  IsServedBelow-push held reply new (Next_step step rest) served last =
-      (served.0, IsServedBelow-push held reply new rest served.1 last)
+      → IsServedBelow n old replies moments
+      → (live_count mid.store < n → RefusesMemory reply → ⊥)
+      → IsServedBelow n old (replies ++ reply ∷ []) (moments ++ new ∷ [])
+  IsServedBelow-push n reply new No_step served last = (last, tt)
+  IsServedBelow-push n reply new (Next_step step rest) served last =
+      (served.0, IsServedBelow-push n reply new rest served.1 last)
 
   -- where there was room at first, there still is
   room_still : (old mid : SizedState T S) → mid.state.store.limit ≡ old.state.store.limit
@@ -207,19 +207,19 @@ module _ {T S K1 K2 : Type 0} (keys : Keys T K1 K2 S) where
     few = few;
   }
 
-  -- For callers: where at each moment there are fewer items than could be held at the start, no item of a run is
+  -- For callers: where at each moment there are fewer items than the capacity at the start, no item of a run is
   -- refused for want of memory.
   none_refused_along :
-      (held : ℕ) {old new : State T S} {commands : List (Command T K1 K2)} {replies : List (Reply T)}
+      (n : ℕ) {old new : State T S} {commands : List (Command T K1 K2)} {replies : List (Reply T)}
       {moments : List (State T S)} → IsStepChain keys old commands replies moments new
-      → IsServedBelow held old replies moments → All (λ s. live_count s.store < held) (old ∷ moments)
+      → IsServedBelow n old replies moments → All (λ s. live_count s.store < n) (old ∷ moments)
       → All (λ reply. RefusesMemory reply → ⊥) replies
-  none_refused_along held No_step served fewer = All-nil (λ reply. RefusesMemory reply → ⊥)
-  none_refused_along held {old = old}
+  none_refused_along n No_step served fewer = All-nil (λ reply. RefusesMemory reply → ⊥)
+  none_refused_along n {old = old}
       (Next_step {next = next} {reply = reply} {replies = replies} {moments = moments} step rest) served fewer =
-      let below = λ (s : State T S). live_count s.store < held in
+      let below = λ (s : State T S). live_count s.store < n in
       All-cons (λ reply. RefusesMemory reply → ⊥) reply replies (served.0 (All-head below old (next ∷ moments) fewer))
-      (none_refused_along held rest served.1 (All-tail below old (next ∷ moments) fewer))
+      (none_refused_along n rest served.1 (All-tail below old (next ∷ moments) fewer))
 
   pub none_refused :
       (old new : SizedState T S) (commands : List (Command T K1 K2)) (replies : List (Reply T))

@@ -114,8 +114,8 @@ module _ (m : FinMap nat_cmp ℕ) where
 
 module _ {T S : Type 0} (s : State T S) (paired : IsPaired s) where
   -- the filed indexes are the live ones, each once
-  pub filed_held : ordered.Holds s.store (indexes_of s.filed)
-  filed_held = record {
+  pub filed_has_live_indexes : ordered.Holds s.store (indexes_of s.filed)
+  filed_has_live_indexes = record {
     each = λ ix. (
       λ here. (paired.filed ix).0 ((listed-index s.filed ix).0 here),
       λ live. (listed-index s.filed ix).1 ((paired.filed ix).1 live),
@@ -128,7 +128,7 @@ module _ {T S : Type 0} (s : State T S) (paired : IsPaired s) where
       → Allows mode (length s.store.free)
       → AreAsExpected mode (live_count s.store) (indexes_of s.filed)
   AreAsExpected-filed mode allowed =
-      AreAsExpected-listed s.store (indexes_of s.filed) filed_held paired.valid mode allowed
+      AreAsExpected-listed s.store (indexes_of s.filed) filed_has_live_indexes paired.valid mode allowed
 
   pub AreAsExpected-order :
       (mode : ValidateCompact)

@@ -47,7 +47,7 @@ module _ {T S K1 K2 K : Type 0} (key_index : KeyIndex T S K1 K2 K) where
   abbrev pub IsInSync : State T S → Type 0
   IsInSync s = TableIsInSync key_index.key_of key_index.equal (key_index.IsInPlace s) s.store
 
-  -- what a call that changes no key of a live index preserves
+  -- what every call but `overwrite` preserves of one key index: a table that was in place, or in sync, stays so
   abbrev pub KeepsKeyIndex : State T S → State T S → Type 0
   KeepsKeyIndex old new =
       TableKeeps key_index.key_of key_index.equal
@@ -144,7 +144,7 @@ module _ {T S K1 K2 : Type 0} (keys : Keys T K1 K2 S) where
     pub first : FirstKeysInSync s
     pub second : SecondKeysInSync s
 
-  -- what a call that changes no key of a live index preserves
+  -- what every call but `overwrite` preserves: the state is paired, and a table that was in place, or in sync, stays so
   pub record Keeps (old new : State T S) : Type 0 where
     pub paired : IsPaired old × IsPaired new
     pub first_keys : KeepsKeyIndex first_key_index old new

@@ -27,7 +27,7 @@ pub record Memory : Type 0 where
   pub cells : ℕ
   pub ordered : ℕ
 
--- a state, and the memory in which it is held
+-- a state, and the memory of its store and tables
 pub record SizedState (T S : Type 0) : Type 0 where
   pub state : State T S
   pub memory : Memory
@@ -166,8 +166,8 @@ module _ {T S : Type 0} where
         ≤ max old.memory.ordered (capacity_for (live_count old.state.store + reservable additional old))
 
   -- What a shrink to `least` items leaves: the contents, and a capacity for that many, or for the items that there are
-  -- if these are more; no more than there was, if there was less. At Ok no part has more than these need, except that
-  -- the store keeps every slot, also the vacant ones.
+  -- if these are more, or the old capacity if that was less. No part gets more memory. At Ok no part has more than
+  -- these items need, except that the store keeps every slot, also the vacant ones.
   pub record ShrinksInMemory {E : Type 0}
       (least : ℕ) (old : SizedState T S) (result : Result (Unit {0}) E) (new : SizedState T S) : Type 0 where
     pub contents : new.state ≡ old.state
@@ -190,13 +190,13 @@ module _ {T S : Type 0} where
     pub others : (IsInsert command → ⊥) → new.memory ≡ old.memory
     pub few : TakesForOne old.state.store.limit (live_count old.state.store) old.memory new.memory
 
-  -- at each moment with fewer items than `held`, no item is refused for lack of memory
+  -- at each moment with fewer than n items, no item is refused for lack of memory
   abbrev pub IsServedBelow : ℕ → State T S → List (Reply T) → List (State T S) → Type 0
-  IsServedBelow held moment (reply ∷ replies) (next ∷ moments) =
-      (live_count moment.store < held → RefusesMemory reply → ⊥) × IsServedBelow held next replies moments
-  IsServedBelow held moment replies moments = ⊤
+  IsServedBelow n moment (reply ∷ replies) (next ∷ moments) =
+      (live_count moment.store < n → RefusesMemory reply → ⊥) × IsServedBelow n next replies moments
+  IsServedBelow n moment replies moments = ⊤
 
--- A run and its memory: no part can hold less than at the start; at each moment with fewer items than could be held at
+-- A run and its memory: no part can hold less than at the start; at each moment with fewer items than the capacity at
 -- the start, no item is refused for lack of memory; and if there never are more than `most` items, no more is taken
 -- than an insert beside that many may take.
 pub record RunsInMemory

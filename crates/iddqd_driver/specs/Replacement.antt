@@ -84,11 +84,11 @@ planned hash None = To hash
 module _ {T K : Type 0} (key_of : T → K) (compare : K → K → Ordering) where
   -- a live index was removed from the list and inserted again for its new item, at some place; if the list was sorted
   -- by the keys, it is sorted again
-  pub record MovesInPlace (s : Store T) (ix : ℕ) (item : T) (old new : List ℕ) : Type 0 where
+  pub record Reinserts (s : Store T) (ix : ℕ) (item : T) (old new : List ℕ) : Type 0 where
     pub adds : Adds (without old ix) ix new
     pub placed : IsInPlace key_of compare s old → IsInPlace key_of compare (rebound s ix item) new
 
   -- how an index moves in the ordered table: it stays if the look-up of its new second key hit, and otherwise moves
   abbrev pub Reorders : Store T → ℕ → T → Option ℕ → List ℕ → List ℕ → Type 0
   Reorders s ix item (Some at) old new = new ≡ old
-  Reorders s ix item None old new = MovesInPlace s ix item old new
+  Reorders s ix item None old new = Reinserts s ix item old new

@@ -199,7 +199,7 @@ impl<T: KeyedItem, S: BuildHasher> KeyedItems<T, S> {
 
     /// The index of the item with this second key. It makes at most 4 + 2d comparisons, where the
     /// number of items has d binary digits.
-    #[tactic(auto, using(crate::proofs::KeepsLemmas::order_held))]
+    #[tactic(auto, using(crate::proofs::KeepsLemmas::order_has_live_indexes))]
     pub fn find2(&self, key: &T::Key2) -> Option<ItemIndex>
         ensures paired { IsPaired self.now.state }
         ensures found { LooksUp (second_key_index ⟦<Self as Keyed>⟧.keys) self.now.state key.now result }

@@ -17,6 +17,7 @@ pub use Rattle.iddqd_driver.specs.Walks
 pub use Rattle.iddqd_driver.specs.Replacement
 pub use Rattle.iddqd_driver.specs.Modify
 pub use Rattle.iddqd_driver.specs.Memory
+pub use Rattle.iddqd_driver.specs.Retain
 pub use Rattle.iddqd_tri.specs.TriKeys
 pub use Rattle.iddqd_tri.specs.TriState
 pub use Rattle.iddqd_tri.specs.TriMemory

@@ -11,7 +11,7 @@ use Rattle.iddqd_lines.specs.Line.{line_feed, is_line_feed, lines_of, whole_line
 use Rattle.iddqd_lines.specs.Split.{HasNo}
 use Rattle.iddqd_lines.specs.Replies.{Sends}
 use Rattle.iddqd_driver.specs.Keys.{IsDefaultHasher}
-use Rattle.iddqd_lines.specs.Program.{Line, Serves, AnswersInPart, default_hash_u32, ServesUntil, ServesAll, most_reads, FailsAt}
+use Rattle.iddqd_lines.specs.Program.{AnswersLine, Serves, AnswersInPart, default_hash_u32, ServesUntil, ServesAll, most_reads, FailsAt}
 use Rattle.iddqd_lines.specs.Serve.{Moment, moment, ended, IsKept, Obeys, Feeds}
 use Rattle.iddqd_lines.specs.declared.record.Record.{Record}
 use Rattle.iddqd_lines.specs.declared.serve.ServeFault.{ServeFault}
@@ -104,7 +104,7 @@ module _ {S : Type 0} (hash : S → ℕ → ℕ) where
   -- a line before
   BreaksOff-cons :
       (old next : State Record S) (line out : List ℕ) (lines : List (List ℕ)) (bytes more : List ℕ)
-      → Line hash old line out next
+      → AnswersLine hash old line out next
       → bytes ≡ (out ++ line_feed ∷ []) ++ more
       → BreaksOff next lines more
       → BreaksOff old (line ∷ lines) bytes

@@ -8,7 +8,7 @@ use Rattle.iddqd_driver.specs.State.{State, empty_state}
 use Rattle.iddqd_lines.specs.Line.{line_feed, is_line_feed, lines_of, without_empty_last, request_of}
 use Rattle.iddqd_lines.specs.Split.{HasNo, IsSplitAt}
 use Rattle.iddqd_lines.specs.Replies.{Sends}
-use Rattle.iddqd_lines.specs.Program.{AnswersRequest, Line, Serves}
+use Rattle.iddqd_lines.specs.Program.{AnswersRequest, AnswersLine, Serves}
 use Rattle.iddqd_lines.specs.Serve.{Moment, moment, ended, kept_line, IsKept, RepliesTo, Obeys, Feeds}
 use Rattle.iddqd_driver.specs.declared.command.Command.{Command}
 use Rattle.iddqd_lines.specs.declared.line.Request.{Request}
@@ -34,20 +34,20 @@ request_of-begun kept line is = rw is (request_of-kept line)
 
 module _ {S : Type 0} (hash : S → ℕ → ℕ) where
   -- a request's line is answered
-  pub Line-request :
+  pub AnswersLine-request :
       (old new : State Record S) (line out : List ℕ) (request : Request (Command Record ℕ ℕ))
       → Some request ≡ request_of line
       → AnswersRequest hash old out new request
-      → Line hash old line out new
-  Line-request old new line out request is answers =
+      → AnswersLine hash old line out new
+  AnswersLine-request old new line out request is answers =
       subst (λ o. MatchOption o ((out ≡ codes "bad line") × (new ≡ old)) (AnswersRequest hash old out new)) is answers
 
   -- and so is any other
-  pub Line-other :
+  pub AnswersLine-other :
       (old : State Record S) (line : List ℕ)
       → None ≡ request_of line
-      → Line hash old line (codes "bad line") old
-  Line-other old line is =
+      → AnswersLine hash old line (codes "bad line") old
+  AnswersLine-other old line is =
       subst (λ o. MatchOption o ((codes "bad line" ≡ codes "bad line") × (old ≡ old)) (AnswersRequest hash old (codes "bad line") old)) is (refl, refl)
 
   -- some lines, and then others
@@ -80,7 +80,7 @@ module _ {S O : Type 0} (hash : S → ℕ → ℕ) (g : sink.Ghosts O) where
   -- a line and its answer
   pub Obeys-line :
       (old new : Moment S O) (line out : List ℕ) (r : Result (Unit {0}) (Unit {0}))
-      → Line hash old.items line out new.items
+      → AnswersLine hash old.items line out new.items
       → Sends g old.output old.waits (out ++ line_feed ∷ []) r new.output new.waits
       → Obeys hash g old (line ∷ []) r new
   Obeys-line old new line out r answers sends =
@@ -93,7 +93,7 @@ module _ {S O : Type 0} (hash : S → ℕ → ℕ) (g : sink.Ghosts O) where
       → RepliesTo hash g old request r new
       → Obeys hash g old (line ∷ []) r new
   Obeys-request old new line request r is tells =
-      Obeys-line old new line tells.out r (Line-request hash old.items new.items line tells.out request is tells.answers) tells.sends
+      Obeys-line old new line tells.out r (AnswersLine-request hash old.items new.items line tells.out request is tells.answers) tells.sends
 
   -- some lines, and then others
   pub Obeys-append :

@@ -56,8 +56,8 @@ module _ {S : Type 0} (hash : S → ℕ → ℕ) where
   AnswersRequest old out new Validate = IsCheckText (length old.store.free) out × (new ≡ old)
 
   -- the state `old` allows this text as the reply to the line, and the line leaves `new`
-  abbrev pub Line : State Record S → List ℕ → List ℕ → State Record S → Type 0
-  Line old line out new =
+  abbrev pub AnswersLine : State Record S → List ℕ → List ℕ → State Record S → Type 0
+  AnswersLine old line out new =
       MatchOption (request_of line) ((out ≡ codes "bad line") × (new ≡ old)) (AnswersRequest old out new)
 
   -- the state `old` allows these bytes as the replies to the lines in turn, each with a line feed, and they leave `new`
@@ -65,13 +65,13 @@ module _ {S : Type 0} (hash : S → ℕ → ℕ) where
   Serves old [] bytes new = (bytes ≡ []) × (new ≡ old)
   Serves old (line ∷ lines) bytes new =
       (out : List ℕ) × (next : State Record S) × (rest : List ℕ)
-      × Line old line out next × (bytes ≡ out ++ line_feed ∷ rest) × Serves next lines rest new
+      × AnswersLine old line out next × (bytes ≡ out ++ line_feed ∷ rest) × Serves next lines rest new
 
   -- the state `old` allows a reply to the line of which, with its line feed, this part is a proper prefix
   pub record AnswersInPart (old : State Record S) (line part : List ℕ) : Type 0 where
     pub out : List ℕ
     pub new : State Record S
-    pub answers : Line old line out new
+    pub answers : AnswersLine old line out new
     pub rest : List ℕ
     pub parts : out ++ line_feed ∷ [] ≡ part ++ rest
     pub broken : 0 < length rest
@@ -124,8 +124,8 @@ pub record ServesAll (input : List ℕ) (before after : Option (List ℕ)) : Typ
 abbrev pub most_reads : ℕ
 most_reads = 18446744073709551615
 
--- At the end of the input neither the source nor the sink has failed. At a fault only the one that it names has failed;
--- at `Read`, a source of `most_reads` bytes or more need not have failed.
+-- At the end of the input neither the source nor the sink has failed; at `Write` only the sink has. At `Read` the sink
+-- hasn't, and the source has if its bytes are known and fewer than `most_reads`.
 abbrev pub FailsAt : Result (Unit {0}) ServeFault → Option (List ℕ) → Bool → Bool → Type 0
 FailsAt (Ok u) left reading writing = (reading ≡ false) × (writing ≡ false)
 FailsAt (Err Read) left reading writing =

@@ -27,7 +27,7 @@ const MAX_NUMBERS: usize = 4;
 pub(crate) enum Request<C> {
     /// To obey a command.
     Run(C),
-    /// To check the items, which may have no vacant slot.
+    /// To check the items; a vacant slot fails the check.
     Validate,
 }
 

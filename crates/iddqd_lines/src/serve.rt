@@ -37,8 +37,8 @@ const BLOCK: usize = 8192;
 /// Why `serve` stopped before the end of its input.
 #[derive(Clone, Copy, Debug, PartialEq, Eq)]
 pub enum ServeFault {
-    /// The source failed. The replies to all whole lines before that were written, and a line that had
-    /// begun wasn't obeyed.
+    /// A read failed, or the reads were used up. The replies to all whole lines before that were written, and a line
+    /// that had begun wasn't obeyed.
     Read,
     /// The sink failed. A prefix of the replies to the lines that were obeyed was written.
     Write,
@@ -67,9 +67,10 @@ impl fmt::Display for ServeFault {
 /// - `remove 0`, `remove1 1` and `remove2 10` remove the record at an index, with a first key and with
 ///   a second key, and are answered as a find.
 /// - `overwrite 0 5 10 1` replaces the record at the index, whatever the keys, and updates neither table: the
-///   index and the old record, as `0 1 10 100`, or `none`. If it changes a first key, look-ups by first keys may
-///   miss any record from then on, and an insert may accept a first key that is there, until no record is left;
-///   what a look-up finds still has the key. The same holds for second keys. `walk` lists the index where it was.
+///   index and the old record, as `0 1 10 100`, or `none`. If it changes a first key, a look-up by the new key may miss
+///   the record, and an insert may accept the new key again, until no record is left. If it changes a second key, a
+///   look-up by second key may miss any record, and an insert may accept a second key that is there, for as long. What
+///   a look-up finds still has the key. `walk` lists the index where it was.
 /// - `clear` forgets all records: `cleared`.
 /// - `walk` lists the indexes in the order of the second keys: `1 0 2`, `empty` or `no memory`.
 /// - `compact` moves the records, in the order of their indexes, to the indexes from 0 on, and lists the new
@@ -91,7 +92,8 @@ pub fn serve<I: Source, O: Sink>(
     ensures serves { IfSome (I.left input.old)
         (λ bytes. ServesUntil result bytes (I.left input.new) (O.written output.old) (O.written output.new)) }
 
-    // At the end of the input neither has failed, and a fault comes only from the one that has.
+    // At the end of the input neither has failed. At `Write` only the sink has. At `Read` the sink hasn't, and the
+    // source has if its bytes are known and fewer than 18446744073709551615.
     ensures faults { FailsAt result (I.left input.old) (I.has_failed input.new) (O.has_failed output.new) }
 {
     let mut items = KeyedItems::with_default_hasher(alloc);

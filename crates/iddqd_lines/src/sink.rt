@@ -6,7 +6,7 @@ ghost use Rattle.iddqd_lines.specs.Stream.{FailsOnErr};
 
 use std::io::Write;
 
-/// Takes bytes, until it has failed.
+/// Takes bytes, and remembers whether a write has failed.
 pub trait Sink {
     // The bytes that were written, if they are known.
     ghost written: { Self → Option (List ℕ) };

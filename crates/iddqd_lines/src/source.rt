@@ -6,7 +6,7 @@ ghost use Rattle.iddqd_lines.specs.Stream.{FailsOnErr};
 
 use std::io::Read;
 
-/// Gives bytes, until it has failed.
+/// Gives bytes, and remembers whether a read has failed.
 pub trait Source {
     // The bytes that are left, if they are known.
     ghost left: { Self → Option (List ℕ) };

@@ -4,7 +4,7 @@
 //! can hold. A removal gives no memory back, and an insert can use what it frees. So below the capacity no insert runs
 //! out of memory, whatever was inserted and removed before. Only an insert without room and the calls here change the
 //! capacity.
-ghost use Rattle.std.specs.Prelude.{◌≡◌, ◌≤◌, ◌*◌, min, max, IsOk, IfOk, OnOk};
+ghost use Rattle.std.specs.Prelude.{◌≡◌, ◌≤◌, min, IsOk, IfOk};
 ghost use Rattle.iddqd.specs.{slot_limit};
 ghost use Rattle.iddqd_driver.specs.State.{empty_state};
 ghost use Rattle.iddqd_driver.specs.Memory.{no_memory, capacity, room, IsMadeFor, ReservesInMemory, ShrinksInMemory};
@@ -72,7 +72,7 @@ impl<T: KeyedItem, S: BuildHasher> KeyedItems<T, S> {
             return Ok(());
         }
         let items = self.items.len() + wanted;
-        reserve_slots(&mut self.items, items)?;
+        self.items.reserve_slots(items)?;
         self.filed.try_reserve(wanted)?;
         self.order.try_reserve(wanted)
     }
@@ -104,19 +104,4 @@ impl<T: KeyedItem, S: BuildHasher> KeyedItems<T, S> {
         self.items.shrink_capacity_to(least)?;
         self.filed.shrink_to(least)
     }
-}
-
-// Takes memory for `wanted` slots in all, unless the store has memory for as many.
-fn reserve_slots<T>(items: &mut ItemSet<T>, wanted: usize) -> Result<(), AllocError>
-    requires { wanted ≤ items.old.store.limit }
-    ensures store { items.new.store ≡ items.old.store }
-    ensures capacity { items.old.capacity ≤ items.new.capacity }
-    ensures reserved { OnOk result (wanted ≤ items.new.capacity) }
-    ensures few { items.new.capacity
-        ≤ max items.old.capacity (max wanted (min items.old.store.limit (2 * items.old.capacity))) }
-{
-    if wanted <= items.capacity() {
-        return Ok(());
-    }
-    items.reserve(wanted - items.slot_count())
 }

@@ -42,7 +42,7 @@ impl<T: KeyedItem, S: BuildHasher> KeyedItems<T, S> {
     }
 
     /// The index of the item with the second key for which the query stands. It makes as many comparisons as `find2`.
-    #[tactic(auto, using(crate::proofs::KeepsLemmas::order_held))]
+    #[tactic(auto, using(crate::proofs::KeepsLemmas::order_has_live_indexes))]
     pub fn find2_by<Q: OrdQuery<T::Key2>>(&self, query: Q) -> Option<ItemIndex>
         ensures { LooksUpBy (second_key_index ⟦<Self as Keyed>⟧.keys) self.now.state
             (is_equal (Q.compare query)) result }
@@ -80,7 +80,7 @@ impl<T: KeyedItem, S: BuildHasher> KeyedItems<T, S> {
     }
 
     /// Removes the item with the second key for which the query stands. It takes no memory.
-    #[tactic(auto, using(crate::proofs::KeepsLemmas::order_held))]
+    #[tactic(auto, using(crate::proofs::KeepsLemmas::order_has_live_indexes))]
     pub fn remove2_by<Q: OrdQuery<T::Key2>>(&mut self, query: Q) -> Option<(ItemIndex, T)>
         ensures removes { RemovesByQuery (second_key_index ⟦<Self as Keyed>⟧.keys) self.old.state
             (is_equal (Q.compare query)) result self.new.state }

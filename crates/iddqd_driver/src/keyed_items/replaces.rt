@@ -15,16 +15,17 @@ ghost use Rattle.iddqd_by_order.specs.Ordered as by_order;
 ghost use Rattle.iddqd_by_hash.specs.HashedMove.{moved};
 ghost use Rattle.iddqd_driver.specs.KeyIndexes.{Keeps};
 ghost use Rattle.iddqd_driver.specs.Memory.{memory_of};
-ghost use Rattle.iddqd_driver.specs.Replacement.{ReportsOtherIndex, Replaces, IsReplaceOutOfMemory, planned, MovesInPlace, Reorders};
+ghost use Rattle.iddqd_driver.specs.Replacement.{ReportsOtherIndex, Replaces, IsReplaceOutOfMemory, planned, Reinserts, Reorders};
 
 use super::{Keyed, KeyedItems};
-use crate::keyed_item::{First, KeyedItem};
+use crate::keyed_item::{First, KeyedItem, Second};
 use iddqd::item_index::{ItemIndex, OrDash};
 use iddqd::item_set::ItemSet;
 use iddqd::map_hash::MapHash;
 use iddqd_by_hash::hashed;
 use iddqd_by_hash::hashed_move::{Move, commit_move};
 use iddqd_hash::hash_table::MapHashTable;
+use iddqd_keys::key_of::key_at;
 use iddqd_order::btree_table::{Asking, MapBTreeTable};
 use std::alloc::AllocError;
 use std::error::Error;
@@ -36,13 +37,13 @@ use std::hash::BuildHasher;
 pub enum ReplaceRefusal<T> {
     /// The index isn't live.
     Missing(T),
-    /// Another item has one of the keys: the other indexes that the look-ups of the first and of the second key hit.
+    /// A look-up of its keys hit another index: the other indexes that those of the first and of the second key hit.
     Duplicate {
         item: T,
         first: Option<ItemIndex>,
         second: Option<ItemIndex>,
     },
-    /// No other item has one of the keys, the second one is new to the index, and the ordered table ran out of memory.
+    /// Neither look-up hit another index, that of the second key missed, and the ordered table ran out of memory.
     Memory(T),
 }
 
@@ -69,7 +70,7 @@ impl<T: KeyedItem, S: BuildHasher> KeyedItems<T, S> {
     /// Replaces the item at a live index, updates both tables, and returns the old item.
     ///
     /// The index stays, and each table that was in sync is in sync afterwards. The item may have other keys, but none
-    /// that another item has. A refusal returns it and changes nothing.
+    /// that a look-up finds at another index. A refusal returns it and changes nothing.
     ///
     /// The hash table needs no memory for a new key: the removal of the old entry leaves the room. Nor does the ordered
     /// table while it holds no more indexes than its capacity; past that it may run out of memory for a new second key.
@@ -223,31 +224,20 @@ fn move_in_order<T: KeyedItem>(
 ) -> Result<(), AllocError>
     requires live { IsLive items.now.store ix }
     requires ordered { by_order.Holds items.now.store (order_of order.old) }
-    ensures moved { let moves = MovesInPlace T.KeyedItem.second_key T.Key2.cmp items.now.store ix item.now in
-        OnOk result (moves (order_of order.old) (order_of order.new)) }
+    ensures moved { let reinserts = Reinserts T.KeyedItem.second_key T.Key2.cmp items.now.store ix item.now in
+        OnOk result (reinserts (order_of order.old) (order_of order.new)) }
     ensures stays { OnErr result (order_of order.new ≡ order_of order.old) }
     ensures memory { ordered_capacity order.new ≡ ordered_capacity order.old }
     ensures roomy { length (order_of order.old) ≤ ordered_capacity order.old → IsOk result }
 {
-    let (old_key, new_key) = (key2_at(items, ix), item.key2());
+    let (old_key, new_key) = (key_at::<T, Second>(items, ix), item.key2());
     let mut asking = Asking::new(
         |at: ItemIndex|
             requires { IsLive items.now.store at }
             ensures { IsKeyAt T.KeyedItem.second_key items.entry.now.store at result.now }
-        { key2_at(items, at) },
+        { key_at::<T, Second>(items, at) },
     );
-    let prepared = match order.prepare_move(ix) {
-        Ok(prepared) => prepared,
-        Err(AllocError) => return Err(AllocError),
-    };
+    let prepared = order.prepare_move(ix)?;
     prepared.commit(&old_key, &new_key, &mut asking);
     Ok(())
-}
-
-// The second key of the item at a live index.
-fn key2_at<T: KeyedItem>(items: &ItemSet<T>, ix: ItemIndex) -> &T::Key2
-    requires { IsLive items.now.store ix }
-    ensures { IsKeyAt T.KeyedItem.second_key items.now.store ix result.now }
-{
-    items[ix].key2()
 }

@@ -2,7 +2,8 @@
 //!
 //! First a pass over the store removes each item at which the closure answers false. Then one pass over each table
 //! removes the indexes that have no item. So an index leaves both tables whatever its item's keys were, no key is
-//! hashed or compared, and the cost is a few steps for each slot.
+//! hashed or compared, and the cost is a few steps for each slot of the store and at most one walk over the cells of
+//! the hash table, however few items there are.
 ghost use Rattle.std.specs.Prelude.{◌≡◌, ◌≤◌, ◌+◌, ℕ, None, filter, is_some, cond};
 ghost use Rattle.std.specs.FinMap as finite;
 ghost use Rattle.std.specs.Fn.{TakesAt, CalledAt};
@@ -30,7 +31,7 @@ impl<T: KeyedItem, S: BuildHasher> KeyedItems<T, S> {
     ///
     /// The closure is called once at each item, by rising index. The items at which it answers false are removed,
     /// whatever their keys are now. No memory is taken, no key is hashed or compared, and it costs a few steps for each
-    /// slot.
+    /// slot of the store and at most one walk over the cells of the hash table, however few items there are.
     pub fn retain<F: FnMut(&T) -> bool>(&mut self, mut f: F) -> usize
         requires { MayAsk (TakesAt F.FnMut) (CalledAt F.FnMut) f (live_items self.old.state.store) }
         ensures retained { Retains (CalledAt F.FnMut) f self.old.state self.new.state }

@@ -28,7 +28,7 @@ impl<T: KeyedItem, S: BuildHasher> KeyedItems<T, S> {
     /// it is looked up by the keys that its item has now, which may miss if `overwrite` changed a key. The first check
     /// that fails is reported: of the store, of each table, of each item by rising index.
     ///
-    /// Memory is taken for sorted copies of the indexes and for the text of a refusal. With `Yes` the cost grows as the
+    /// Memory is taken for a sorted copy of the indexes and for the text of a refusal. With `Yes` the cost grows as the
     /// square of the number of items, with `No` as sorting does.
     pub fn validate(
         &self,
@@ -37,14 +37,15 @@ impl<T: KeyedItem, S: BuildHasher> KeyedItems<T, S> {
     ) -> Result<(), ValidateRefusal<ValidationError>>
         ensures paired { IsPaired self.now.state }
 
-        // In every state it is Ok only if the mode allows the vacant slots; if the mode doesn't, the error says so.
+        // In every state it is Ok only if the mode allows the vacant slots; if the mode doesn't, the error says so,
+        // unless memory for its text runs out.
         ensures allowed { IsOk result → Allows compactness (length self.now.state.store.free) }
         ensures not_compact { (Allows compactness (length self.now.state.store.free) → ⊥)
             → IfErr result (Tells (not_compact_text (length self.now.state.store.free))) }
 
         // By scans, and also if both tables are in sync, it is Ok if and only if the mode allows the vacant slots,
         // unless memory runs out.
-        ensures by_walks { chaos ≡ ValidateChaos.Yes
+        ensures by_scans { chaos ≡ ValidateChaos.Yes
             → Validates (Allows compactness (length self.now.state.store.free)) result }
         ensures in_sync { AreInSync ⟦<Self as Keyed>⟧.keys self.now.state
             → Validates (Allows compactness (length self.now.state.store.free)) result }

@@ -58,9 +58,10 @@ impl<T: KeyedItem, S: BuildHasher> KeyedItems<T, S> {
     /// The live indexes with their items whose second keys are between two bounds, in the order of the second keys,
     /// from both ends: none if the lower bound is above the upper one.
     ///
-    /// If a second key was changed silently, they are consecutive in the ordered table. Each query is compared with at
-    /// most 4 + 2d second keys, where the number of items has d binary digits. It takes no memory.
-    #[tactic(auto, using(crate::proofs::KeepsLemmas::order_held))]
+    /// If a second key was changed silently, the result is some consecutive part of the ordered table, whatever the
+    /// second keys there are. Each query is compared with at most 4 + 2d second keys, where the number of items has d
+    /// binary digits. It takes no memory.
+    #[tactic(auto, using(crate::proofs::KeepsLemmas::order_has_live_indexes))]
     pub fn range_by_key2<Q: OrdQuery<T::Key2>>(
         &self,
         lower: Bound<Q>,
@@ -93,7 +94,8 @@ impl<T: KeyedItem, S: BuildHasher> KeyedItems<T, S> {
 
 /// Items in the order of their second keys, from both ends. Once it has ended it stays ended.
 ///
-/// A contract sees it as the items that are left. It takes no memory, and a step costs a constant time on the average.
+/// A contract sees it as the items that are left. It takes no memory. A step within a leaf of the ordered table takes
+/// constant time; a step into another leaf may walk down from the root.
 #[derive(Drop)]
 pub struct ValuesByKey2<'a, T> {
     items: &'a ItemSet<T>,

@@ -8,7 +8,7 @@ returns-in-Ok g c = record { out = codes "ok"; answers = (inl (c.in-Ok.ensures.a
 pub put_line-requires-in-Err-Invalid-General : goal.put_line-requires-in-Err-Invalid-General
 put_line-requires-in-Err-Invalid-General g c =
     let is = c.in-Err-Invalid-General in
-    let unsound = rw (is.field-0-is) at (is.ensures.by_walks refl) in
+    let unsound = rw (is.field-0-is) at (is.ensures.by_scans refl) in
     let told = rw (is.field-0-is, is.field-0-0-is, is.text-is) at (is.ensures.not_compact unsound) in
     let valid = is.ensures.paired.valid in
     let few : length c.args.items.now.state.store.free < 10 ^ 10 = omega (arith, valid.counted, valid.small, valid.named) in

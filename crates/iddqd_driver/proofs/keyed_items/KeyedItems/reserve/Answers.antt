@@ -15,7 +15,7 @@ returns g c =
     let hashed = c.in_ok-try_reserve.ensures in
     rw (← c.self.view_is)
     (ReservesInMemory-from_parts inside.state inside.items _ inside.filed _ inside.order _ c.args.additional wanted
-    c.try_reserve-2.result c.self.invariant meant lacks slots.store slots.capacity
+    c.try_reserve-2.result c.self.invariant meant lacks slots.contents slots.capacity_at_least
     (omega (arith, slots.reserved, c.len-2.ensures, meant, c.self.invariant.valid.counted, c.self.invariant.valid.small))
     (omega (arith, slots.few, c.len-2.ensures))
     hashed.contents hashed.memory hashed.capacity hashed.counted c.try_reserve-2.ensures)

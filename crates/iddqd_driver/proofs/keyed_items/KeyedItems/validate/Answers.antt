@@ -21,8 +21,8 @@ first_memory g c =
     let p = err_from_is_err_and c.from_residual-in_err-of_table.result c.from_residual-in_err-of_table.ensures.1 in
     rw (p.1, p.2) memory
 
-pub returns-in_err-of_table-clause-by_walks : goal.returns-in_err-of_table-clause-by_walks
-returns-in_err-of_table-clause-by_walks g c = λ walks.
+pub returns-in_err-of_table-clause-by_scans : goal.returns-in_err-of_table-clause-by_scans
+returns-in_err-of_table-clause-by_scans g c = λ scans.
     Validates-refused (Allows c.args.compactness (length c.args.self.now.state.store.free)) c.from_residual-in_err-of_table.result c.from_residual-in_err-of_table.ensures.0 (first_memory g c)
 
 pub returns-in_err-of_table-clause-in_sync : goal.returns-in_err-of_table-clause-in_sync
@@ -42,8 +42,8 @@ second_memory g c =
     let p = err_from_is_err_and c.from_residual-in_err-of_table-2.result c.from_residual-in_err-of_table-2.ensures.1 in
     rw (p.1, p.2) memory
 
-pub returns-in_err-of_table-2-clause-by_walks : goal.returns-in_err-of_table-2-clause-by_walks
-returns-in_err-of_table-2-clause-by_walks g c = λ walks.
+pub returns-in_err-of_table-2-clause-by_scans : goal.returns-in_err-of_table-2-clause-by_scans
+returns-in_err-of_table-2-clause-by_scans g c = λ scans.
     Validates-refused (Allows c.args.compactness (length c.args.self.now.state.store.free)) c.from_residual-in_err-of_table-2.result c.from_residual-in_err-of_table-2.ensures.0 (second_memory g c)
 
 pub returns-in_err-of_table-2-clause-in_sync : goal.returns-in_err-of_table-2-clause-in_sync
@@ -53,8 +53,8 @@ returns-in_err-of_table-2-clause-in_sync g c = λ ordered.
 pub returns-in-No-clause-paired : goal.returns-in-No-clause-paired
 returns-in-No-clause-paired g c = grind (arith, common_steps)
 
-pub returns-in-No-clause-by_walks : goal.returns-in-No-clause-by_walks
-returns-in-No-clause-by_walks g c = grind (arith, common_steps)
+pub returns-in-No-clause-by_scans : goal.returns-in-No-clause-by_scans
+returns-in-No-clause-by_scans g c = grind (arith, common_steps)
 
 pub returns-in-Yes-clause-paired : goal.returns-in-Yes-clause-paired
 returns-in-Yes-clause-paired g c = grind (arith, common_steps)

@@ -6,14 +6,14 @@ use Rattle.iddqd_order.specs.MapBTreeTable.{order_of}
 use Rattle.iddqd_order.specs.PreparedBTreeMove.{table_of, index_of}
 use Rattle.iddqd_order.proofs.AskLemmas.{CanAsk-by, Steady-by}
 use Rattle.iddqd_keys.specs.Scan.{IsLive, IsKeyAt}
-use Rattle.iddqd_driver.proofs.ReplacementLemmas.{answer_at, MovesInPlace-put_in}
+use Rattle.iddqd_driver.proofs.ReplacementLemmas.{answer_at, Reinserts-put_in}
 use Rattle.iddqd_driver.proofs.keyed_items.replaces.move_in_order.Goals as goal
 
 pub commit-requires : goal.commit-requires
 commit-requires g c =
     CanAsk-by _ _ (λ f. f ≡ closure_of c.new-asking.result) (λ f f' ix r i h e. search rules)
     (λ f ix i h.
-    let stored = subst (λ xs. Contains xs ix) c.in-Ok.ensures.prepared.table h.0 in
+    let stored = subst (λ xs. Contains xs ix) c.in_ok-prepared.ensures.prepared.table h.0 in
     let live : IsLive c.args.items.now.store ix = (c.requires.ordered.each ix).0 stored in
     search rules)
     _ refl
@@ -30,8 +30,8 @@ returns-clause-moved g c =
     let holds = c.requires.ordered in
     let (was, live) = item_at s ix c.requires.live in
     let new_key = c.key2-new_key.result.now in
-    MovesInPlace-put_in s ix item was live order holds key_of compare total _ _
-    (order_of (table_of c.in-Ok.prepared).now) (index_of c.in-Ok.prepared) c.new-asking.result (order_of c.commit.result.now) _ c.in-Ok.ensures.prepared.table c.in-Ok.ensures.prepared.index
+    Reinserts-put_in s ix item was live order holds key_of compare total _ _
+    (order_of (table_of c.in_ok-prepared.prepared).now) (index_of c.in_ok-prepared.prepared) c.new-asking.result (order_of c.commit.result.now) _ c.in_ok-prepared.ensures.prepared.table c.in_ok-prepared.ensures.prepared.index
     (Steady-by _ _ (λ f. f ≡ closure_of c.new-asking.result) (λ f f' j r i h e. search rules) _ _
     (λ f f' j r i h e.
     let read : IsKeyAt key_of s j r.now = search (rules, i, e) in
