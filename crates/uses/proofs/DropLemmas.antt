@@ -1,5 +1,5 @@
 -- What calls that remove all items which pass a test leave, or some of them, in the words of a caller.
-use Rattle.std.proofs.Common.{◌≡◌, ◌∙◌, ◌↔◌, inl, inr, ℕ, Bool, true, false, List, [], ◌∷◌, Contains, filter, Option, Some, None, refl, sym, ap, subst, arith, Ordering}
+use Rattle.std.proofs.Common.{◌≡◌, ◌∙◌, ◌↔◌, inl, inr, ℕ, Bool, true, false, List, [], ◌∷◌, Contains, filter, Some, None, refl, ap, subst, arith, Ordering}
 use Rattle.std.proofs.lemmas.Bool.{cond_both}
 use Rattle.std.proofs.lemmas.List.Elements.{All-contains, All-contains_itself, All-filter, Contains-append_cases, Contains-append_left, Contains-append_right, Contains-push, Contains-push_cases, filter_passes}
 use Rattle.iddqd_maps.specs.KeyOrder.{IsKeyWalk}
@@ -100,30 +100,3 @@ module _ {T K : Type 0} (key_of : T → K) (compare : K → K → Ordering) (old
           let there = kept (λ (p : ℕ × T). test p.1) walk (ix, item) ((before.live ix item).1 (live, refl)) passes in
           ((after.live ix item).0 there).0,
     )
-
-    pub Drops-walked :
-        (IsDropped : T → Type 0)
-        → ((item : T) → (test item ≡ false) ↔ IsDropped item)
-        → Drops IsDropped old new
-    Drops-walked IsDropped says = record {
-      gone = λ ix item live dropped.
-          elim (get new ix) as (λ o. get new ix ≡ o → o ≡ None) [
-            | None ↦ λ _. refl
-            | Some other ↦ λ is.
-                let (was, passes) = (walked ix other).0 is in
-                let one : Some other ≡ Some item = sym was ∙ live in
-                let same : other ≡ item = cc in
-                let fails : test other ≡ false = ap test same ∙ (says item).1 dropped in
-                absurd (cc)
-          ] refl;
-      others_stay = λ ix item live stays.
-          elim (test item) as (λ b. test item ≡ b → get new ix ≡ Some item) [
-            | true ↦ λ passes. (walked ix item).1 (live, passes)
-            | false ↦ λ fails. absurd (stays ((says item).0 fails))
-          ] refl;
-      no_new = λ ix vacant.
-          elim (get new ix) as (λ o. get new ix ≡ o → o ≡ None) [
-            | None ↦ λ _. refl
-            | Some other ↦ λ is. let was = ((walked ix other).0 is).0 in absurd (cc)
-          ] refl;
-    }

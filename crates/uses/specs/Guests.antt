@@ -1,12 +1,13 @@
 -- Guests by their names and their arrivals, what calls leave of them, and why an arrival isn't set.
-use Rattle.std.specs.Prelude.{◌≡◌, ⊤, ℕ, Bool, true, List, Some}
+use Rattle.std.specs.Prelude.{◌≡◌, ◌<◌, ◌≤◌, ◌++◌, ℕ, Bool, true, List, Some, codes}
+use Rattle.std.specs.List.{flat_map}
 use Rattle.std.specs.Ordering.{nat_cmp, eq_by_cmp}
 use Rattle.std.specs.Str.{bytes_eq}
 use Rattle.std.specs.String.{string_bytes}
 use Rattle.iddqd_keyed.specs.Scan.{HasNoHit, IsHit}
 use Rattle.iddqd_keyed.specs.State.{State, unbound}
 use Rattle.iddqd_keyed.specs.Store.{Store, get, rebound}
-use Rattle.uses.specs.Exchanges.{HitsBeside}
+use Rattle.uses.specs.Exchanges.{HasHit, HitsBeside}
 use Rattle.uses.specs.declared.guests.ArrivalError.{ArrivalError}
 use Rattle.uses.specs.declared.guests.ArrivalError.TheVariants.{Missing, Taken, Memory}
 use Rattle.uses.specs.declared.guests.Guest.{Guest}
@@ -26,6 +27,22 @@ pub record Came (name : List ℕ) (arrival : ℕ) (s : Store Guest) (ix : ℕ) :
   pub named : is_called name guest ≡ true
   pub at : guest.arrival ≡ arrival
 
+-- a guest came then
+abbrev pub HasArrival : Store Guest → ℕ → Type 0
+HasArrival s arrival = HasHit s (came_at arrival)
+
+-- the time is at or after the one bound, and before the other
+abbrev pub IsBetween : ℕ → ℕ → ℕ → Type 0
+IsBetween from below arrival = (from ≤ arrival) × (arrival < below)
+
+-- no guest came between these bounds
+abbrev pub HasNoArrival : Store Guest → ℕ → ℕ → Type 0
+HasNoArrival s from below = (arrival : ℕ) → HasArrival s arrival → IsBetween from below arrival → ⊥
+
+-- the names of these guests, each behind a space
+abbrev pub listed : List Guest → List ℕ
+listed guests = flat_map (λ (guest : Guest). codes " " ++ string_bytes guest.name) guests
+
 -- a guest with this name came then by the new store, keeps name and index, and all others stay
 pub record SetsArrival (name : List ℕ) (arrival : ℕ) (old new : Store Guest) : Type 0 where
   pub ix : ℕ
@@ -39,7 +56,7 @@ pub record SetsArrival (name : List ℕ) (arrival : ℕ) (old new : Store Guest)
 abbrev pub IsWhyNotSet : List ℕ → ℕ → Store Guest → ArrivalError → Type 0
 IsWhyNotSet name arrival s Missing = HasNoHit s (is_called name)
 IsWhyNotSet name arrival s Taken = HitsBeside s (is_called name) (came_at arrival)
-IsWhyNotSet name arrival s Memory = ⊤
+IsWhyNotSet name arrival s Memory = HasHit s (is_called name)
 
 -- a guest with this name, who came then, was removed, and all others stay
 pub record Leaves {S : Type 0} (name : List ℕ) (arrival : ℕ) (old new : State Guest S) : Type 0 where

@@ -1,10 +1,6 @@
--- Parts by their kinds, and why a stock refuses one.
+-- Parts by their kinds.
 use Rattle.std.specs.Prelude.{◌==◌, ◌+◌, ◌-◌, ◌^◌, ℕ, Bool, min}
-use Rattle.iddqd_maps.specs.Scan.{IsHit}
-use Rattle.iddqd_maps.specs.Store.{IsFull, Store}
 use Rattle.uses.specs.declared.stock.Part.{Part}
-use Rattle.uses.specs.declared.stock.Refused.{Refused}
-use Rattle.uses.specs.declared.stock.Refused.TheVariants.{Full, There}
 
 -- the part is of this kind
 abbrev pub has_kind : ℕ → Part → Bool
@@ -25,8 +21,3 @@ sum_of more part = with_count (min (part.count + more.count) (2 ^ 32 - 1)) part
 -- as many parts of the kind, but one
 abbrev pub with_one_less : Part → Part
 with_one_less part = with_count (part.count - 1) part
-
--- the part of this kind is at the index that is reported, or there are as many kinds as the limit allows
-abbrev pub IsWhyNotStored : Part → Store Part → Refused → Type 0
-IsWhyNotStored part s (There at) = IsHit s (same_kind part) at
-IsWhyNotStored part s Full = IsFull s

@@ -1,15 +1,16 @@
-//! A board of scores: the calls of a map in order that `scores` and `words` don't make, and what each promises.
-ghost use Rattle.std.specs.Prelude.{◌≡◌, ◌⊎◌, ◌≤◌, ◌↔◌, false, true, length, min, Some, IfOk, IfErr, OnOk, OnErr};
+//! A board of scores: further calls of an `IdOrdMap`, beside those of `scores` and `words`, and what each promises.
+ghost use Rattle.std.specs.Prelude.{◌≡◌, ◌⊎◌, ◌≤◌, ◌<◌, ◌+◌, ◌↔◌, false, true, length, max, min, Some, IfOk, IfErr, OnOk, OnErr};
 ghost use Rattle.std.specs.Ordering.{nat_cmp, eq_by_cmp};
 ghost use Rattle.std.specs.declared.cmp.Ordering.TheVariants.{Less, Greater};
 ghost use Rattle.iddqd_maps.specs.Compaction.{compacted};
 ghost use Rattle.iddqd_maps.specs.KeyOrder.{AreInKeyOrder, FindsEnd, IsKeyWalk, PopsEnd};
 ghost use Rattle.iddqd_maps.specs.Map.{FindsItem, Removes, RemovesAt, capacity, empty_map, room};
-ghost use Rattle.iddqd_maps.specs.OrdMap.{IsTakenAt};
+ghost use Rattle.iddqd_maps.specs.OneKey.{IsTaken};
 ghost use Rattle.iddqd_maps.specs.Scan.{AnswersScan, HasNoHit};
 ghost use Rattle.iddqd_maps.specs.Sizes.{insertable};
-ghost use Rattle.iddqd_maps.specs.Store.{cleared, get, rebound, slot_count, slot_limit};
+ghost use Rattle.iddqd_maps.specs.Store.{cleared, empty, get, live_count, rebound, slot_count, slot_limit};
 ghost use Rattle.iddqd_maps.specs.Validation.{Tells, Validates, not_compact_text};
+ghost use Rattle.uses.specs.Drops.{Drops};
 ghost use Rattle.uses.specs.Exchanges.{Exchanges, ExchangesIfFound, IsWhyNot, IsWhyNotAt, IsWhyNotChanged, IsWhyNotTakenOver, TakesOverOne};
 ghost use Rattle.uses.specs.Scores.{has_hour, same_hour, with_hour, with_points};
 ghost use Rattle.uses.specs.Updates.{Updates, UpdatesAt};
@@ -20,6 +21,7 @@ use iddqd_maps::item_index::ItemIndex;
 use iddqd_maps::refusal::{OverwriteRefusal, ReplaceRefusal};
 use iddqd_maps::{ValidateCompact, ValidateRefusal, ValidationError};
 use std::alloc::{AllocError, Global};
+use std::ops::Bound;
 
 type Board = IdOrdMap<Score>;
 
@@ -32,9 +34,10 @@ pub fn within(alloc: Global, limit: u32) -> Board
     IdOrdMap::with_limit(alloc, limit)
 }
 
-/// A board with room for so many scores, or for as many as there are indexes.
+/// An empty board with room for so many scores, or for as many as there are indexes.
 pub fn with_room(alloc: Global, scores: usize) -> Result<Board, AllocError>
-    ensures { IfOk result (λ board. min scores slot_limit ≤ room board) }
+    ensures none { IfOk result (λ board. board.store ≡ empty) }
+    ensures room { IfOk result (λ board. min scores slot_limit ≤ room board) }
 {
     IdOrdMap::with_capacity(alloc, scores)
 }
@@ -48,9 +51,10 @@ pub fn make_room(board: &mut Board, more: usize) -> Result<usize, AllocError>
     Ok(board.room())
 }
 
-/// Gives back the memory that so many scores don't need, beside those that there are.
+/// Gives back the memory beyond what so many scores need, or those that there are if these are more.
 pub fn keep_room(board: &mut Board, scores: usize) -> Result<(), AllocError>
-    ensures { board.new.store ≡ board.old.store }
+    ensures unchanged { board.new.store ≡ board.old.store }
+    ensures slots { OnOk result (board.new.memory.slots ≤ max scores (slot_count board.old.store)) }
 {
     board.shrink_to(scores)
 }
@@ -172,7 +176,7 @@ pub fn mark_at(board: &mut Board, ix: ItemIndex, points: u32) -> Option<()>
 /// one is of its hour, or memory ran out, which comes only past the capacity.
 pub fn exchange(board: &mut Board, hour: u32, score: Score) -> Replaced
     ensures exchanged { IfOk result (λ was. Exchanges same_hour (has_hour hour) score board.old was board.new) }
-    ensures refused { IfErr result (IsWhyNot (IsTakenAt same_hour) true (has_hour hour) score board.old) }
+    ensures refused { IfErr result (IsWhyNot (IsTaken same_hour) true (has_hour hour) score board.old) }
     ensures unchanged { OnErr result (board.new ≡ board.old) }
 {
     board.replace(&hour, score)
@@ -182,7 +186,7 @@ pub fn exchange(board: &mut Board, hour: u32, score: Score) -> Replaced
 pub fn exchange_at(board: &mut Board, ix: ItemIndex, score: Score) -> Replaced
     ensures was { IfOk result (λ was. get board.old.store ix ≡ Some was) }
     ensures exchanged { OnOk result (board.new.store ≡ rebound board.old.store ix score) }
-    ensures refused { IfErr result (IsWhyNotAt (IsTakenAt same_hour) true ix score board.old) }
+    ensures refused { IfErr result (IsWhyNotAt (IsTaken same_hour) true ix score board.old) }
     ensures unchanged { OnErr result (board.new ≡ board.old) }
 {
     board.replace_at(ix, score)
@@ -198,7 +202,7 @@ pub fn move_to(
     ensures moved { IfOk result
         (λ found. ExchangesIfFound same_hour (has_hour hour) (with_hour other) board.old found board.new) }
     ensures refused { IfErr result
-        (IsWhyNotChanged (IsTakenAt same_hour) true (has_hour hour) (with_hour other) board.old) }
+        (IsWhyNotChanged (IsTaken same_hour) true (has_hour hour) (with_hour other) board.old) }
     ensures unchanged { OnErr result (board.new ≡ board.old) }
 {
     board.change(
@@ -236,4 +240,17 @@ pub fn take_last(board: &mut Board) -> Option<Score>
     ensures { PopsEnd (λ score. score.hour) nat_cmp Greater board.old result board.new }
 {
     board.pop_last()
+}
+
+/// Forgets the scores up to an hour that have fewer points than so many, and returns how many they were. All others
+/// stay. It takes no memory.
+pub fn forget_low(board: &mut Board, hour: u32, least: u32) -> usize
+    ensures dropped { Drops (λ score. (score.hour ≤ hour) × (score.points < least))
+        board.old.store board.new.store }
+    ensures count { result + live_count board.new.store ≡ live_count board.old.store }
+    ensures memory { board.new.memory ≡ board.old.memory }
+{
+    board.retain_range(Bound::Unbounded, Bound::Included(&hour), |score| {
+        score.points >= least
+    })
 }

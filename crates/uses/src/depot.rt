@@ -1,4 +1,4 @@
-//! A depot of parts: the calls of a map with one key that `users` and `stock` don't make, and what each promises.
+//! A depot of parts: further calls of an `IdHashMap`, beside those of `users` and `stock`, and what each promises.
 ghost use Rattle.std.specs.Prelude.{◌≡◌, ◌⊎◌, ◌≤◌, ◌==◌, ◌↔◌, false, true, min, Some, IfOk, IfErr, OnOk, OnErr};
 ghost use Rattle.iddqd_maps.specs.Compaction.{compacted};
 ghost use Rattle.iddqd_maps.specs.LiveItems.{live_items, live_pairs};
@@ -6,9 +6,9 @@ ghost use Rattle.iddqd_maps.specs.Map.{RemovesAt, empty_map, room};
 ghost use Rattle.iddqd_maps.specs.OneKey.{IsTaken};
 ghost use Rattle.iddqd_maps.specs.Scan.{HasNoHit};
 ghost use Rattle.iddqd_maps.specs.Sizes.{insertable};
-ghost use Rattle.iddqd_maps.specs.Store.{cleared, get, rebound, slot_limit};
-ghost use Rattle.uses.specs.Exchanges.{IsWhyNotAt, IsWhyNotTakenOver, TakesOverOne};
-ghost use Rattle.uses.specs.Stock.{same_kind, with_count};
+ghost use Rattle.iddqd_maps.specs.Store.{cleared, empty, get, rebound, slot_limit};
+ghost use Rattle.uses.specs.Exchanges.{Exchanges, IsWhyNot, IsWhyNotAt, IsWhyNotTakenOver, TakesOverOne};
+ghost use Rattle.uses.specs.Stock.{has_kind, same_kind, with_count};
 ghost use Rattle.uses.specs.Updates.{UpdatesAt};
 
 use crate::hashers::Base31;
@@ -21,9 +21,10 @@ use std::alloc::{AllocError, Global};
 
 type Depot = IdHashMap<Part>;
 
-/// A depot with room for so many kinds, or for as many as there are indexes.
+/// An empty depot with room for so many kinds, or for as many as there are indexes.
 pub fn with_room(alloc: Global, kinds: usize) -> Result<Depot, AllocError>
-    ensures { IfOk result (λ depot. min kinds slot_limit ≤ room depot) }
+    ensures none { IfOk result (λ depot. depot.store ≡ empty) }
+    ensures room { IfOk result (λ depot. min kinds slot_limit ≤ room depot) }
 {
     IdHashMap::with_capacity(alloc, kinds)
 }
@@ -34,7 +35,8 @@ pub fn hashed_with_room(
     kinds: usize,
     hasher: Base31,
 ) -> Result<IdHashMap<Part, Base31>, AllocError>
-    ensures { IfOk result (λ depot. min kinds slot_limit ≤ room depot) }
+    ensures none { IfOk result (λ depot. depot.store ≡ empty) }
+    ensures room { IfOk result (λ depot. min kinds slot_limit ≤ room depot) }
 {
     IdHashMap::with_capacity_and_hasher(alloc, kinds, hasher)
 }
@@ -77,7 +79,7 @@ pub fn clear_out(depot: &mut Depot) -> bool
     depot.is_empty()
 }
 
-/// Whether there are parts of a kind.
+/// Whether the depot has an item of this kind, even if its count is 0.
 pub fn has_kind(depot: &Depot, kind: u32) -> bool
     ensures { (result ≡ false) ↔ HasNoHit depot.now.store (λ part. kind == part.kind) }
 {
@@ -103,15 +105,29 @@ pub fn set(
     depot.insert_overwrite(part)
 }
 
-/// Sets how many parts there are at an index; none exactly where there are none.
+/// Sets the count of the item at an index; returns `None` if and only if no item is there.
 pub fn count_at(depot: &mut Depot, ix: ItemIndex, count: u32) -> Option<()>
     ensures { UpdatesAt depot.old ix (with_count count) result depot.new }
 {
     depot.modify_at(ix, |part| part.count = count)
 }
 
-/// Puts another part in the place of that at an index, which is handed back. It is refused exactly where there is none,
-/// or another part is of its kind.
+/// Puts a part in the place of that of a kind, which is handed back. It is refused exactly where there is none, or
+/// another part is of the new one's kind.
+pub fn exchange(
+    depot: &mut Depot,
+    kind: u32,
+    part: Part,
+) -> Result<Part, ReplaceRefusal<Part, ItemIndex>>
+    ensures exchanged { IfOk result
+        (λ was. Exchanges same_kind (has_kind kind) part depot.old was depot.new) }
+    ensures refused { IfErr result (IsWhyNot (IsTaken same_kind) false (has_kind kind) part depot.old) }
+    ensures unchanged { OnErr result (depot.new ≡ depot.old) }
+{
+    depot.replace(&kind, part)
+}
+
+/// Puts a part in the place of that at an index, in the same way.
 pub fn exchange_at(
     depot: &mut Depot,
     ix: ItemIndex,

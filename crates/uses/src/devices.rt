@@ -160,8 +160,8 @@ pub fn set_ports(devices: &mut Devices, address: u32, ports: u32) -> Option<()>
     devices.modify_by::<ByAddress, _, _, _>(&address, |device| device.ports = ports)
 }
 
-/// Puts a device in the place of the one with this serial number, which is handed back. It is refused where another
-/// device has a key of it.
+/// Puts a device in the place of the one with this serial number, which is handed back. It is refused if no device has
+/// this serial number (`Missing`), or another device has a key of the new one.
 pub fn exchange(
     devices: &mut Devices,
     serial: u64,

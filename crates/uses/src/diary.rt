@@ -1,9 +1,10 @@
-//! A diary of appointments: the calls of keyed items that `calendar` and `guests` don't make, and what each promises.
+//! A diary of appointments: further calls of keyed items, beside those of `calendar` and `guests`, and what each
+//! promises.
 ghost use Rattle.std.specs.Prelude.{◌≡◌, ◌↔◌, ◌≤◌, ◌+◌, IsTrue, None, IfNone, IfSome, OnSome, IfOk, OnOk, MatchOption, filter, min, nat_le};
 ghost use Rattle.std.specs.Bool.{OnTrue, OnFalse};
 ghost use Rattle.iddqd_maps.specs.LiveItems.{live_pairs};
 ghost use Rattle.iddqd_keyed.specs.Scan.{AnswersScan, IsHit};
-ghost use Rattle.iddqd_keyed.specs.Store.{get, inserted, live_count};
+ghost use Rattle.iddqd_keyed.specs.Store.{get, inserted, live_count, slot_count};
 ghost use Rattle.iddqd_keyed.specs.{capacity, empty_state, empty_state_within, no_memory, room, reservable};
 ghost use Rattle.iddqd_keyed.specs.{IsInSync, first_key_index, second_key_index};
 ghost use Rattle.uses.specs.Calendar.{IsBooked, HasNone};
@@ -107,7 +108,8 @@ pub fn extend_at(diary: &mut Diary, ix: ItemIndex, minutes: u32) -> Option<()>
 
 /// An empty diary with room for so many appointments.
 pub fn with_room(alloc: Global, appointments: u32) -> Result<Diary, AllocError>
-    ensures { IfOk result (λ diary. appointments ≤ room diary) }
+    ensures none { IfOk result (λ diary. diary.state ≡ empty_state diary.state.hasher) }
+    ensures room { IfOk result (λ diary. appointments ≤ room diary) }
 {
     KeyedItems::with_capacity_and_default_hasher(alloc, appointments as usize)
 }
@@ -118,7 +120,8 @@ pub fn with_room_and_hasher(
     hasher: DefaultHashBuilder,
     appointments: u32,
 ) -> Result<Diary, AllocError>
-    ensures { IfOk result (λ diary. appointments ≤ room diary) }
+    ensures none { IfOk result (λ diary. diary.state ≡ empty_state hasher) }
+    ensures room { IfOk result (λ diary. appointments ≤ room diary) }
 {
     KeyedItems::with_capacity(alloc, hasher, appointments as usize)
 }
@@ -193,9 +196,10 @@ pub fn try_widen(diary: &mut Diary, more: usize) -> Result<(), AllocError>
     diary.try_reserve(more)
 }
 
-/// Gives back the memory that the appointments don't need.
+/// Gives back the memory that the appointments and the vacant slots don't need.
 pub fn trim(diary: &mut Diary) -> Result<(), AllocError>
-    ensures { diary.new.state ≡ diary.old.state }
+    ensures slots { OnOk result (diary.new.memory.slots ≤ slot_count diary.old.state.store) }
+    ensures unchanged { diary.new.state ≡ diary.old.state }
 {
     diary.shrink_to_fit()
 }

@@ -2,10 +2,11 @@
 //!
 //! A look-up may miss a guest after an `overwrite` that changed a key, and no function here makes one. So some clauses
 //! hold where the table that is asked is in sync.
-ghost use Rattle.std.specs.Prelude.{◌≡◌, ℕ, IfNone, IfErr, IfSome, OnOk, OnErr};
+ghost use Rattle.std.specs.Prelude.{◌≡◌, ◌+◌, ℕ, IfNone, IfErr, IfOk, IfSome, OnOk, OnErr};
+ghost use Rattle.std.specs.String.{string_bytes};
 ghost use Rattle.iddqd_keyed.specs.Scan.{HasNoHit};
-ghost use Rattle.iddqd_keyed.specs.{AreInSync, IsInSync, first_key_index};
-ghost use Rattle.uses.specs.Guests.{is_called, Came, IsWhyNotSet, Leaves, SetsArrival};
+ghost use Rattle.iddqd_keyed.specs.{AreInSync, IsInSync, ListsAsScan, SecondKeysInSync, first_key_index, second_key_index, items_at};
+ghost use Rattle.uses.specs.Guests.{is_called, Came, HasArrival, HasNoArrival, IsBetween, IsWhyNotSet, Leaves, SetsArrival, listed};
 
 use iddqd_keyed::keyed_item::KeyedItem;
 use iddqd_keyed::keyed_items::{Keyed, KeyedItems, ReplaceRefusal};
@@ -63,8 +64,8 @@ pub fn arrival(guests: &Guests, name: &str) -> Option<u32>
     }
 }
 
-/// Sets when a guest came, who keeps name and index. While both tables are in sync, it is refused for want of memory,
-/// or because no guest has the name, or because another guest came then.
+/// Sets when a guest came, who keeps name and index. While both tables are in sync, it is refused because no guest has
+/// the name, or one has it and another guest came then, or one has it and memory ran out.
 pub fn set_arrival(
     alloc: Global,
     guests: &mut Guests,
@@ -91,8 +92,14 @@ pub fn set_arrival(
     }
 }
 
-/// The names in the order of the arrivals, each behind a space.
-pub fn names(alloc: Global, guests: &Guests) -> Result<String, AllocError> {
+/// The names in the order of the ordered table, each behind a space. While that table is in sync, it is the order of
+/// the arrivals.
+pub fn names(alloc: Global, guests: &Guests) -> Result<String, AllocError>
+    ensures listed { IfOk result (λ names.
+        string_bytes names ≡ listed (items_at guests.now.state.store guests.now.state.order)) }
+    ensures sorted { let key_index = second_key_index ⟦<Guests as Keyed>⟧.keys in
+        ListsAsScan key_index guests.now.state guests.now.state.order }
+{
     let mut names = String::new(alloc);
     for guest in guests.values_by_key2() {
         names.push_str(" ")?;
@@ -101,8 +108,17 @@ pub fn names(alloc: Global, guests: &Guests) -> Result<String, AllocError> {
     Ok(names)
 }
 
-/// The last to come of the guests who came from one time on, up to another one.
-pub fn last_within(guests: &Guests, from: u32, below: u32) -> Option<u32> {
+/// When the last guest came of those who came from one time on and before another. While the ordered table is in sync,
+/// it is none only where no guest came between the two.
+pub fn last_within(guests: &Guests, from: u32, below: u32) -> Option<u32>
+    ensures found { IfSome result (HasArrival guests.now.state.store) }
+    ensures within { SecondKeysInSync ⟦<Guests as Keyed>⟧.keys guests.now.state →
+        IfSome result (IsBetween from below) }
+    ensures last { SecondKeysInSync ⟦<Guests as Keyed>⟧.keys guests.now.state →
+        IfSome result (λ arrival. HasNoArrival guests.now.state.store (arrival + 1) below) }
+    ensures none { SecondKeysInSync ⟦<Guests as Keyed>⟧.keys guests.now.state →
+        IfNone result (HasNoArrival guests.now.state.store from below) }
+{
     let mut within = guests.range_by_key2(Bound::Included(&from), Bound::Excluded(&below));
     match within.next_back() {
         Some((_, guest)) => Some(guest.arrival),

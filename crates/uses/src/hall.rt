@@ -5,7 +5,7 @@ ghost use Rattle.iddqd_maps.specs.LiveItems.{live_items, live_pairs};
 ghost use Rattle.iddqd_maps.specs.Map.{FindsItem, Removes, RemovesAt, empty_map, room};
 ghost use Rattle.iddqd_maps.specs.Scan.{AnswersScan, HasNoHit};
 ghost use Rattle.iddqd_maps.specs.Sizes.{insertable};
-ghost use Rattle.iddqd_maps.specs.Store.{cleared, get, live_count, rebound, slot_limit};
+ghost use Rattle.iddqd_maps.specs.Store.{cleared, empty, get, live_count, rebound, slot_limit};
 ghost use Rattle.iddqd_maps.specs.Validation.{Tells, Validates, not_compact_text};
 ghost use Rattle.iddqd_maps.specs.ThreeKeys.{AreTaken};
 ghost use Rattle.uses.specs.Exchanges.{Exchanges, IsWhyNot, IsWhyNotAt};
@@ -50,14 +50,16 @@ pub fn hashed(alloc: Global, hasher: Base31) -> Hashed
 
 /// No seats, and room for so many, or for as many as there are indexes.
 pub fn with_room(alloc: Global, count: usize) -> Result<Hall, AllocError>
-    ensures { IfOk result (λ hall. min count slot_limit ≤ room hall) }
+    ensures none { IfOk result (λ hall. hall.store ≡ empty) }
+    ensures room { IfOk result (λ hall. min count slot_limit ≤ room hall) }
 {
     TriHashMap::with_capacity(alloc, count)
 }
 
 /// The same under a hasher of one's own.
 pub fn hashed_with_room(alloc: Global, count: usize, hasher: Base31) -> Result<Hashed, AllocError>
-    ensures { IfOk result (λ hall. min count slot_limit ≤ room hall) }
+    ensures none { IfOk result (λ hall. hall.store ≡ empty) }
+    ensures room { IfOk result (λ hall. min count slot_limit ≤ room hall) }
 {
     TriHashMap::with_capacity_and_hasher(alloc, count, hasher)
 }

@@ -5,7 +5,7 @@ ghost use Rattle.iddqd_maps.specs.LiveItems.{live_items, live_pairs};
 ghost use Rattle.iddqd_maps.specs.Map.{FindsItem, Removes, RemovesAt, empty_map, room};
 ghost use Rattle.iddqd_maps.specs.Scan.{AnswersScan, HasNoHit};
 ghost use Rattle.iddqd_maps.specs.Sizes.{insertable};
-ghost use Rattle.iddqd_maps.specs.Store.{cleared, get, live_count, rebound, slot_limit};
+ghost use Rattle.iddqd_maps.specs.Store.{cleared, empty, get, live_count, rebound, slot_limit};
 ghost use Rattle.iddqd_maps.specs.Validation.{Tells, Validates, not_compact_text};
 ghost use Rattle.iddqd_maps.specs.TwoKeys.{AreTaken};
 ghost use Rattle.uses.specs.Exchanges.{Exchanges, IsWhyNot, IsWhyNotAt, IsWhyNotTakenOver, TakesOver};
@@ -25,6 +25,7 @@ use std::alloc::{AllocError, Global};
 pub struct Locker {
     pub number: u32,
     pub holder: u32,
+    /// When it was opened; 0 if it never was.
     pub opened: u32,
 }
 
@@ -75,14 +76,16 @@ pub fn hashed(alloc: Global, hasher: Base31) -> Hashed
 
 /// No lockers, and room for so many, or for as many as there are indexes.
 pub fn with_room(alloc: Global, count: usize) -> Result<Lockers, AllocError>
-    ensures { IfOk result (λ lockers. min count slot_limit ≤ room lockers) }
+    ensures none { IfOk result (λ lockers. lockers.store ≡ empty) }
+    ensures room { IfOk result (λ lockers. min count slot_limit ≤ room lockers) }
 {
     BiHashMap::with_capacity(alloc, count)
 }
 
 /// The same under a hasher of one's own.
 pub fn hashed_with_room(alloc: Global, count: usize, hasher: Base31) -> Result<Hashed, AllocError>
-    ensures { IfOk result (λ lockers. min count slot_limit ≤ room lockers) }
+    ensures none { IfOk result (λ lockers. lockers.store ≡ empty) }
+    ensures room { IfOk result (λ lockers. min count slot_limit ≤ room lockers) }
 {
     BiHashMap::with_capacity_and_hasher(alloc, count, hasher)
 }
@@ -126,7 +129,7 @@ pub fn check(lockers: &Lockers) -> Result<(), ValidateRefusal<ValidationError>>
     lockers.validate(ValidateCompact::Compact)
 }
 
-/// Keeps the lockers that were opened, and tells how many they are.
+/// Keeps the lockers whose time of opening isn't 0, and tells how many they are.
 pub fn keep_opened(lockers: &mut Lockers) -> usize
     ensures stay { live_pairs lockers.new.store
         ≡ filter (λ pair. not (pair.1.opened == 0)) (live_pairs lockers.old.store) }
@@ -207,7 +210,8 @@ pub fn hand_over(
     lockers.insert_overwrite(locker)
 }
 
-/// Notes when the locker of this number was opened; none exactly where there is none.
+/// Notes when the locker of this number was opened; none exactly where there is none. With the time 0 it counts as
+/// never opened.
 pub fn open(lockers: &mut Lockers, number: u32, time: u32) -> Option<()>
     ensures { Updates lockers.old (has_number number) (opened_at time) result lockers.new }
 {

@@ -1,4 +1,5 @@
-//! Callers of the maps and of keyed items, a module each: they are proved, and the program prints what they answer.
+//! Callers of the maps and of keyed items, a module each. All are proved. The program prints what those answer that
+//! have a `line`; `board`, `depot`, `diary`, `hall` and `lockers` are proved only.
 #![tactic(auto)]
 
 mod badges;

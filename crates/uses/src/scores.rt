@@ -39,7 +39,7 @@ pub fn forget_before(scores: &mut IdOrdMap<Score>, hour: u32) -> usize
     ensures count { result ≡ live_count scores.new.store }
     ensures memory { scores.new.memory ≡ scores.old.memory }
 {
-    scores.retain(|score| score.hour >= hour);
+    scores.remove_range(Bound::Unbounded, Bound::Excluded(&hour), |_score| ());
     scores.len()
 }
 

@@ -2,11 +2,11 @@
 ghost use Rattle.std.specs.Prelude.{◌≡◌, ◌≤◌, ◌==◌, ◌⊎◌, ℕ, Some, length, IsOk, IfOk, IfErr, IfSome, OnOk, OnErr};
 ghost use Rattle.std.specs.Bool.{OnTrue, OnFalse};
 ghost use Rattle.iddqd_maps.specs.Map.{FindsItem, IsOnly, room};
-ghost use Rattle.iddqd_maps.specs.Scan.{HasNoHit};
+ghost use Rattle.iddqd_maps.specs.Scan.{HasNoHit, IsHit};
 ghost use Rattle.iddqd_maps.specs.Store.{IsFull, get, inserted, next_index, rebound};
 ghost use Rattle.iddqd_maps.specs.Validation.{Tells, Validates, not_compact_text};
 ghost use Rattle.uses.specs.Exchanges.{Exchanges};
-ghost use Rattle.uses.specs.Stock.{has_kind, same_kind, sum_of, with_one_less, IsWhyNotStored};
+ghost use Rattle.uses.specs.Stock.{has_kind, same_kind, sum_of, with_one_less};
 ghost use Rattle.uses.specs.declared.stock.Part.{Part};
 
 use iddqd_maps::id_hash_map::{IdHashItem, IdHashMap};
@@ -32,28 +32,21 @@ impl IdHashItem for Part {
     }
 }
 
-/// Why a part wasn't taken although room was taken ahead.
-#[derive(Clone, Copy, Debug, PartialEq, Eq)]
-pub enum Refused {
-    /// The index of the part of this kind.
-    There(ItemIndex),
-    /// There are as many kinds as the limit allows.
-    Full,
-}
-
-/// Adds a part. The caller has reserved room, so the contract proves that running out of memory is impossible here.
-pub fn add(stock: &mut IdHashMap<Part>, part: Part) -> Result<ItemIndex, Refused>
+/// Adds a part, or returns the index of the part of its kind. The caller has reserved room, so neither the limit nor
+/// memory refuses it.
+pub fn add(stock: &mut IdHashMap<Part>, part: Part) -> Result<ItemIndex, ItemIndex>
     requires { 1 ≤ room stock.old }
     ensures index { IfOk result (λ ix. ix ≡ next_index stock.old.store) }
     ensures stored { OnOk result (stock.new.store ≡ inserted stock.old.store part) }
-    ensures refused { IfErr result (IsWhyNotStored part stock.old.store) }
+    ensures refused { IfErr result (IsHit stock.old.store (same_kind part)) }
     ensures unchanged { OnErr result (stock.new.store ≡ stock.old.store) }
 {
+    // The clause `state` of `len`: without a vacant slot there are as many parts as slots.
+    let _len = stock.len();
     match stock.insert_unique(part) {
         Ok(ix) => Ok(ix),
-        Err(InsertRefusal::Duplicate { at, .. }) => Err(Refused::There(at)),
-        Err(InsertRefusal::Full(_)) => Err(Refused::Full),
-        Err(InsertRefusal::Memory(_)) => unreachable!(),
+        Err(InsertRefusal::Duplicate { at, .. }) => Err(at),
+        Err(InsertRefusal::Full(_)) | Err(InsertRefusal::Memory(_)) => unreachable!(),
     }
 }
 
@@ -88,7 +81,7 @@ pub fn part_of_kind(stock: &IdHashMap<Part>, kind: u32) -> Option<Part>
     stock.get(&kind).copied()
 }
 
-/// Takes one part of a kind, and returns whether there was one. The closure may be called where one is alone.
+/// Takes one part of a kind, and returns whether there was one.
 pub fn take_one(stock: &mut IdHashMap<Part>, kind: u32) -> bool
     ensures taken { OnTrue result ((was : Part) × (1 ≤ was.count)
         × Exchanges same_kind (has_kind kind) (with_one_less was) stock.old was stock.new) }
@@ -102,6 +95,7 @@ pub fn take_one(stock: &mut IdHashMap<Part>, kind: u32) -> bool
     if part.count == 0 {
         return false;
     }
+    // The count isn't 0 here, so the closure may subtract.
     let taken = stock.change(
         &kind,
         |was: &Part| Part {

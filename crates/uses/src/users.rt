@@ -1,5 +1,5 @@
 //! Items whose key is a text of their own. A text that is lent looks them up, so none is copied for it.
-ghost use Rattle.std.specs.Prelude.{◌≡◌, ◌≤◌, MatchOption, IfOk, IfErr, OnOk, OnErr, filter};
+ghost use Rattle.std.specs.Prelude.{◌≡◌, ◌≤◌, MatchOption, IfNone, IfOk, IfErr, OnOk, OnErr, filter};
 ghost use Rattle.std.specs.String.{string_bytes};
 ghost use Rattle.iddqd_maps.specs.LiveItems.{live_pairs};
 ghost use Rattle.iddqd_maps.specs.Map.{Removes};
@@ -84,23 +84,27 @@ pub fn rename(users: &mut IdHashMap<User>, from: &str, to: String) -> Result<(),
     ensures refused { IfErr result (IsWhyNotRenamed from.now (string_bytes to) users.old.store) }
     ensures unchanged { OnErr result (users.new ≡ users.old) }
 {
-    let Some(logins) = logins(users, from) else {
-        return Err(RenameError::Missing);
-    };
-    match users.replace(from, User { name: to, logins }) {
-        Ok(_) => Ok(()),
-        Err(ReplaceRefusal::Missing(_)) => Err(RenameError::Missing),
+    match users.change(
+        from,
+        |user| User {
+            name: to,
+            logins: user.logins,
+        },
+    ) {
+        Ok(Some(_)) => Ok(()),
+        Ok(None) => Err(RenameError::Missing),
         Err(ReplaceRefusal::Duplicate { .. }) => Err(RenameError::Taken),
-        // A map whose keys all go by their hashes takes no memory for it.
-        Err(ReplaceRefusal::Memory(_)) => unreachable!(),
+        // Where nobody has the name it returns `Ok(None)`, and a map whose keys all go by their hashes takes no memory.
+        Err(ReplaceRefusal::Missing(_)) | Err(ReplaceRefusal::Memory(_)) => unreachable!(),
     }
 }
 
 /// Counts a login of the user with this name, and returns how many they are then; none exactly where there is no such
 /// user.
 pub fn log_in(users: &mut IdHashMap<User>, name: &str) -> Option<u32>
-    ensures { let named = is_named name.now in MatchOption result (HasNoHit users.old.store named)
+    ensures counted { let named = is_named name.now in MatchOption result (HasNoHit users.old.store named)
         (λ count. LogsIn named count users.old users.new) }
+    ensures unchanged { IfNone result (users.new ≡ users.old) }
 {
     users.modify(name, |user| {
         user.logins = user.logins.saturating_add(1);

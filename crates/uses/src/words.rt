@@ -32,7 +32,7 @@ impl IdOrdClone for Word {
 pub fn up_to(words: &IdOrdMap<Word>, last: u32) -> Result<IdOrdMap<Word>, AllocError>
     ensures { IfOk result (λ some. ListsUpTo last words.now.store some.store) }
 {
-    let mut some = words.clone()?;
+    let mut some: IdOrdMap<Word> = words.clone()?;
     some.retain(|word| word.page <= last);
     Ok(some)
 }

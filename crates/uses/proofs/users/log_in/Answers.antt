@@ -33,5 +33,5 @@ logs_in g f counts old new test (Some count) hit =
       memory = hit.memory;
     }
 
-pub returns : goal.returns
-returns c = logs_in _ _ (λ user left count called. (search rules, search rules)) c.args.users.now c.modify.new.self (is_named c.args.name.now) c.modify.result c.modify.ensures.modifies
+pub returns-clause-counted : goal.returns-clause-counted
+returns-clause-counted c = logs_in _ _ (λ user left count called. (search rules, search rules)) c.args.users.now c.modify.new.self (is_named c.args.name.now) c.modify.result c.modify.ensures.modifies

@@ -1,0 +1,22 @@
+use Rattle.std.proofs.Common.{rules, ◌≡◌, ◌≤◌, ◌<◌, ℕ, nat_le, not, refl}
+use Rattle.std.specs.Ordering.{nat_cmp, is_lt}
+use Rattle.iddqd_maps.proofs.RetainedLemmas.{RetainsWithin-stays, RetainsWithin-gone}
+use Rattle.uses.specs.declared.scores.Score.{Score}
+use Rattle.uses.proofs.DropLemmas.{Drops-retained}
+use Rattle.uses.proofs.LedgerLemmas.{is_no_later, is_less}
+use Rattle.uses.proofs.board.forget_low.Goals as goal
+
+pub returns-clause-dropped : goal.returns-clause-dropped
+returns-clause-dropped c =
+    let (last, retains) = c.retain_range.ensures.asked in
+    Drops-retained c.args.board.now.store c.retain_range.new.self.store
+    (λ (score : Score). score.hour)
+    (λ (hour : ℕ). not (is_lt (nat_cmp c.args.hour hour)))
+    (λ (score : Score). nat_le c.args.least score.points)
+    (λ (score : Score). score.hour ≤ c.args.hour)
+    (λ (score : Score). score.points < c.args.least)
+    (λ (score : Score). is_no_later c.args.hour score.hour)
+    (λ (score : Score). is_less c.args.least score.points)
+    (RetainsWithin-stays _ (λ s. s.0.now ≡ c.args.least) _ (λ s x b t i asked. search rules) _ _ _ _ _ _ _ refl retains)
+    (RetainsWithin-gone _ (λ s. s.0.now ≡ c.args.least) _ (λ s x b t i asked. search rules) _ _ _ _ _ _ _ refl retains)
+    c.retain_range.ensures.others
