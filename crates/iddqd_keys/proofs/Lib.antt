@@ -1,5 +1,7 @@
 pub mod ScanLemmas
 pub mod CountLemmas
+pub mod KeyLemmas
 pub mod KeyWalkLemmas
+pub mod SortedLemmas
 pub mod RemovalLemmas
 pub mod NextLemmas
