@@ -1,13 +1,15 @@
 -- LinkedState tables that have no index, or whose links past all indexes were cut off, and how many heads there are.
-use Rattle.std.proofs.Common.{◌≡◌, ◌≤◌, ◌<◌, ◌∙◌, ◌+◌, ◌-◌, inl, inr, cond, is_some, None, length, ℕ, List, [], length-take, min, max, take, Some, IsSome, sym, ap, subst, arith}
+use Rattle.std.proofs.Common.{◌≡◌, ◌≤◌, ◌<◌, ◌∙◌, ◌+◌, ◌-◌, inl, inr, cond, is_some, None, length, ℕ, List, [], length-take, min, max, take, Some, IsSome, Result, Ok, Err, OnErr, sym, ap, subst, arith}
 use Rattle.std.specs.Ordering.{nat_cmp}
 use Rattle.std.specs.FinMap as finite
 use Rattle.std.specs.FinMap.{FinMap}
 use Rattle.std.proofs.lemmas.Bool.{cases_eq}
 use Rattle.std.proofs.lemmas.Cmp.{nat_cmp_total}
 use Rattle.iddqd.specs.Store.{sentinel}
+use Rattle.iddqd_hash.specs.OpenTableSizes.{least_cells}
+use Rattle.iddqd_hash.proofs.LeastCellsLemmas.{least_cells-grows}
 use Rattle.iddqd_hash.proofs.MemberLemmas.{filed_hash, filed_at}
-use Rattle.iddqd_by_hash.specs.LinkedTable.{AreHeadsOf, IsLinkedTable, LinkedState, kept_linked}
+use Rattle.iddqd_by_hash.specs.LinkedTable.{AreHeadsOf, IsLinkedTable, LinkedState, kept_linked, needed_linked}
 use Rattle.iddqd_by_hash.specs.Links.{filed_by, next_of, prev_of, IsChained, AreHeads}
 use Rattle.iddqd_by_hash.specs.declared.linked_table.links.Link.{Link}
 use Rattle.iddqd_by_hash.proofs.LinksLemmas.{link_at-take, filed_by-none, filed_by-take, len-within}
@@ -160,6 +162,42 @@ pub capacity_at_least :
     → min wanted links ≤ links'
     → min (min heads links) (max least len) ≤ min heads' links'
 capacity_at_least heads links least len wanted heads' links' holds most for_heads for_links = omega arith
+
+-- what holds in any case holds after a refusal
+pub OnErr-anyway : {A E : Type 0} (r : Result A E) (holds : Type 0) → holds → OnErr r holds
+OnErr-anyway (Ok x) holds is = tt
+OnErr-anyway (Err e) holds is = is
+
+-- where the heads kept their cells, or the links their memory, there is more than is needed
+pub needed-heads :
+    (kept count slots cells links : ℕ)
+    → kept ≤ count
+    → least_cells count < cells
+    → max slots kept ≤ links
+    → needed_linked (max slots kept) kept < cells + links
+needed-heads kept count slots cells links below fewer within =
+    let least = least_cells-grows kept count below in
+    omega (arith, least, fewer, within)
+
+pub needed-links :
+    (kept capacity slots cells links : ℕ)
+    → kept ≤ capacity
+    → least_cells capacity ≤ cells
+    → max slots kept < links
+    → needed_linked (max slots kept) kept < cells + links
+needed-links kept capacity slots cells links below enough fewer =
+    let least = least_cells-grows kept capacity below in
+    omega (arith, least, enough, fewer)
+
+pub needed-enough :
+    (kept capacity slots cells links : ℕ)
+    → kept ≤ capacity
+    → least_cells capacity ≤ cells
+    → max slots kept ≤ links
+    → needed_linked (max slots kept) kept ≤ cells + links
+needed-enough kept capacity slots cells links below enough within =
+    let least = least_cells-grows kept capacity below in
+    omega (arith, least, enough, within)
 
 -- where no cell may be left over, no index is asked for
 pub none_kept : (slots count : ℕ) → kept_linked slots count ≡ 0 → count ≡ 0

@@ -1,18 +1,18 @@
 -- For callers: what asks up to a slot leave, where each item that is refused is removed before the next is asked about;
 -- that each index is live when it is removed; and which indexes a hash table keeps by a test.
-use Rattle.std.proofs.Common.{◌≡◌, ◌≢◌, ◌∙◌, inl, inr, ℕ, suc, ◌+◌, ◌<◌, ◌≤◌, List, [], ◌∷◌, ◌++◌, length, get_or, take, set, map, filter, cond, not, Bool, true, false, Option, Some, None, slice_get, refl, sym, ap, subst, arith, Contains, ◌==◌, eqb-true, eq-eqb, length-set, length-take-le, append-nil}
+use Rattle.std.proofs.Common.{◌≡◌, ◌≢◌, ◌∙◌, inl, inr, ℕ, suc, ◌+◌, ◌<◌, ◌≤◌, List, [], ◌∷◌, ◌++◌, length, get_or, take, drop, set, map, filter, cond, not, Bool, true, false, Option, Some, None, slice_get, refl, sym, ap, subst, arith, Contains, ◌==◌, eqb-true, eq-eqb, length-set, length-take-le, append-nil}
 use Rattle.std.specs.Ordering.{nat_cmp}
 use Rattle.std.specs.FinMap as finite
 use Rattle.std.specs.FinMap.{FinMap}
 use Rattle.std.specs.List.{FoldsTo}
 use Rattle.std.proofs.lemmas.Bool.{cases_eq, cases_lt}
 use Rattle.std.proofs.lemmas.Fn.{FoldsTo-push}
-use Rattle.std.proofs.lemmas.List.{map-append, length-map, get_or-map, take_all, take_more, take-set, get_or_past, get_or-set_same, get_or-set_other}
+use Rattle.std.proofs.lemmas.List.{at_drop_more, map-append, length-map, get_or-map, take_all, take_more, take-set, get_or_past, get_or-set_same, get_or-set_other}
 use Rattle.std.proofs.lemmas.List.Elements.{filter-append}
 use Rattle.std.proofs.lemmas.List.Sorted.{IsPermutation-sym, Contains-permutation}
 use Rattle.std.proofs.lemmas.Option.{slice_get_read}
 use Rattle.iddqd.specs.Store.{Store, get, live_count, removed}
-use Rattle.iddqd.specs.LiveItems.{pairs_from, live_pairs, live_items}
+use Rattle.iddqd.specs.LiveItems.{pairs_from, live_pairs, items_in, live_items}
 use Rattle.iddqd.proofs.StoreLemmas.{contains_head, contains_tail, contains_cases, contains_none}
 use Rattle.iddqd.proofs.LiveLemmas.{live_at, get-removed_other}
 use Rattle.iddqd.proofs.LiveItemLemmas.{pairs_from-append, length-pairs_from, items_of_pairs, IsWalkOf-live_pairs}
@@ -23,7 +23,7 @@ use Rattle.iddqd_hash.proofs.FiledLemmas.{filed_from_under, under_from_filed}
 use Rattle.iddqd_hash.proofs.RetainLemmas.{Contains-values, RetainsPairs-tested}
 use Rattle.iddqd_keys.specs.Scan.{IsLive}
 use Rattle.iddqd_keys.specs.Removals.{removed_all}
-use Rattle.iddqd_by_hash.specs.Retain.{MayAsk, kept_of, removed_of, RetainsTo}
+use Rattle.iddqd_by_hash.specs.Retain.{MayAsk, MayAskInTurn, AsksInTurn, kept_of, removed_of, RetainsTo}
 
 module _ {T : Type 0} where
   -- the walk over one slot more
@@ -132,6 +132,48 @@ module _ {F T : Type 0} (takes : F → T → Type 0) (ask : F → T → Bool →
   pub MayAsk-can : (f : F) (items : List T) → MayAsk takes ask f items → CanAsk takes ask f items
   MayAsk-can f items may = may (CanAsk-everywhere takes ask f items)
 
+  pub AsksInTurn-everywhere :
+      (f : F) (items : List T)
+      → ((s : F) (x : T) → takes s x)
+      → AsksInTurn takes ask f items
+  AsksInTurn-everywhere f [] asks = tt
+  AsksInTurn-everywhere f (x ∷ items) asks = (asks f x, λ b f' called. AsksInTurn-everywhere f' items asks)
+
+  -- what may be called on items in any order may be called on some of them in turn
+  pub AsksInTurn-can :
+      (f : F) (items all : List T)
+      → ((x : T) → Contains items x → Contains all x)
+      → CanAsk takes ask f all
+      → AsksInTurn takes ask f items
+  AsksInTurn-can f [] all among can = tt
+  AsksInTurn-can f (x ∷ items) all among can =
+      let here = among x (contains_head x items) in (
+        CanAsk-takes takes ask f all x can here,
+        λ b f' called.
+            AsksInTurn-can f' items all (λ y there. among y (contains_tail x y items there))
+            (CanAsk-asked takes ask f all x b f' can here called),
+      )
+
+  -- it may be called in turn where an invariant of its states allows each call, and each call keeps it
+  pub AsksInTurn-by :
+      (I : F → Type 0) (items : List T)
+      → ((s : F) (x : T) → Contains items x → I s → takes s x)
+      → ((s : F) (x : T) (b : Bool) (t : F) → Contains items x → I s → ask s x b t → I t)
+      → (f : F)
+      → I f
+      → AsksInTurn takes ask f items
+  AsksInTurn-by I [] asks keeps f i = tt
+  AsksInTurn-by I (x ∷ items) asks keeps f i = (
+    asks f x (contains_head x items) i,
+    λ b f' called.
+        AsksInTurn-by I items (λ s y there. asks s y (contains_tail x y items there))
+        (λ s y c t there. keeps s y c t (contains_tail x y items there)) f'
+        (keeps f x b f' (contains_head x items) i called),
+  )
+
+  pub MayAskInTurn-asks : (f : F) (items : List T) → MayAskInTurn takes ask f items → AsksInTurn takes ask f items
+  MayAskInTurn-asks f items may = may (AsksInTurn-everywhere f items)
+
   -- the slots before p were asked about, and from p on all is as it was
   pub record Retaining (f : F) (old now : Store T) (p : ℕ) (state : F) : Type 0 where
     pub asks : List ((ℕ × T) × Bool)
@@ -141,10 +183,10 @@ module _ {F T : Type 0} (takes : F → T → Type 0) (ask : F → T → Bool →
     pub left : now ≡ removed_all old (removed_of asks)
     pub rest : (ix : ℕ) → p ≤ ix → get now ix ≡ get old ix
     pub counted : length now.items ≡ length old.items
-    pub can : CanAsk takes ask state (live_items old)
+    pub can : AsksInTurn takes ask state (items_in (drop p old.items))
 
-  pub Retaining-none : (f : F) (old : Store T) → CanAsk takes ask f (live_items old) → Retaining f old old 0 f
-  Retaining-none f old can = record {
+  pub Retaining-first : (f : F) (old : Store T) → AsksInTurn takes ask f (live_items old) → Retaining f old old 0 f
+  Retaining-first f old can = record {
     asks = [];
     each_once = refl;
     were_asked = refl;
@@ -154,6 +196,9 @@ module _ {F T : Type 0} (takes : F → T → Type 0) (ask : F → T → Bool →
     counted = refl;
     can = can;
   }
+
+  pub Retaining-none : (f : F) (old : Store T) → CanAsk takes ask f (live_items old) → Retaining f old old 0 f
+  Retaining-none f old can = Retaining-first f old (AsksInTurn-can f (live_items old) (live_items old) (λ x here. here) can)
 
   -- all slots were asked about
   pub Retaining-all :
@@ -172,6 +217,14 @@ module _ {F T : Type 0} (takes : F → T → Type 0) (ask : F → T → Bool →
   module _
       (f : F) (old now : Store T) (p : ℕ) (state : F) (w : Retaining f old now p state) (within : p < length old.items)
     where
+      -- the items to come are that of this slot, if it has one, and those behind it
+      to_come :
+          (slot : Option T)
+          → get old p ≡ slot
+          → items_in (drop p old.items) ≡ items_in (slot ∷ drop (p + 1) old.items)
+      to_come slot is =
+          at_drop_more items_in old.items p None within ∙ ap (λ o. items_in (o ∷ drop (p + 1) old.items)) is
+
       -- a slot without an item
       pub Retaining-vacant : get now p ≡ None → Retaining f old now (p + 1) state
       Retaining-vacant vacant = record {
@@ -182,16 +235,19 @@ module _ {F T : Type 0} (takes : F → T → Type 0) (ask : F → T → Bool →
         left = w.left;
         rest = λ ix from. w.rest ix (omega arith);
         counted = w.counted;
-        can = w.can;
+        can = subst (AsksInTurn takes ask state) (to_come None (sym (w.rest p (omega arith)) ∙ vacant)) w.can;
       }
 
       module _ (item : T) (live : get now p ≡ Some item) where
         was_live : get old p ≡ Some item
         was_live = sym (w.rest p (omega arith)) ∙ live
 
+        can-next : AsksInTurn takes ask state (item ∷ items_in (drop (p + 1) old.items))
+        can-next = subst (AsksInTurn takes ask state) (to_come (Some item) was_live) w.can
+
         -- its item may be asked about
         pub takes-next : takes state item
-        takes-next = CanAsk-takes takes ask state (live_items old) item w.can (Contains-live old p item was_live)
+        takes-next = can-next.0
 
         each-more :
             (b : Bool)
@@ -200,10 +256,6 @@ module _ {F T : Type 0} (takes : F → T → Type 0) (ask : F → T → Bool →
             map-append (λ (a : (ℕ × T) × Bool). a.0) w.asks (((p, item), b) ∷ [])
             ∙ ap (λ l. l ++ (p, item) ∷ []) w.each_once
             ∙ sym (pairs_more old.items p (Some item) within was_live)
-
-        can-more : (b : Bool) (next : F) → ask state item b next → CanAsk takes ask next (live_items old)
-        can-more b next asked =
-            CanAsk-asked takes ask state (live_items old) item b next w.can (Contains-live old p item was_live) asked
 
         -- it was answered true
         pub Retaining-kept : (next : F) → ask state item true next → Retaining f old now (p + 1) next
@@ -218,7 +270,7 @@ module _ {F T : Type 0} (takes : F → T → Type 0) (ask : F → T → Bool →
           left = w.left ∙ ap (removed_all old) (sym (refused-push w.asks ((p, item), true) ∙ append-nil _));
           rest = λ ix from. w.rest ix (omega arith);
           counted = w.counted;
-          can = can-more true next asked;
+          can = can-next.1 true next asked;
         }
 
         -- it was answered false, and removed
@@ -247,7 +299,7 @@ module _ {F T : Type 0} (takes : F → T → Type 0) (ask : F → T → Bool →
               rest =
                   λ ix from. get_or-set_other now.items p ix None None (λ same. omega arith) ∙ w.rest ix (omega arith);
               counted = long ∙ counted;
-              can = can-more false next asked;
+              can = can-next.1 false next asked;
             })
 
 -- ---- each index that is removed is live then

@@ -1,10 +1,11 @@
 -- What a contract sees of a table of indexes under hashes, where many indexes may share a hash.
-use Rattle.std.specs.Prelude.{◌≡◌, ◌+◌, ◌≤◌, ℕ, List, length, refl}
+use Rattle.std.specs.Prelude.{◌≡◌, ◌+◌, ◌≤◌, ℕ, List, length, min, max, refl}
 use Rattle.std.specs.Coded.{Coded, code_by, coded×, coded_ℕ}
 use Rattle.std.specs.Ordering.{nat_cmp}
 use Rattle.std.specs.FinMap as finite
 use Rattle.std.specs.FinMap.{FinMap}
 use Rattle.iddqd.specs.Store.{sentinel}
+use Rattle.iddqd_hash.specs.OpenTableSizes.{least_cells}
 use Rattle.iddqd_hash.specs.Sizes.{most_cells}
 use Rattle.iddqd_by_hash.specs.Links.{filed_by, next_of, prev_of, AreHeads}
 use Rattle.iddqd_by_hash.specs.declared.linked_table.links.Link.{Link}
@@ -37,6 +38,14 @@ most_linked count = most_cells count + count
 -- the most that a shrink leaves, with `slots` links and `count` heads
 abbrev pub kept_linked : ℕ → ℕ → ℕ
 kept_linked slots count = most_cells count + slots
+
+-- the least that `count` heads and `slots` links need
+abbrev pub needed_linked : ℕ → ℕ → ℕ
+needed_linked slots count = least_cells count + slots
+
+-- how many indexes a table can still hold after a shrink to `least`
+abbrev pub kept_room : LinkedState → ℕ → ℕ
+kept_room t least = min t.capacity (max least (finite.len t.filed))
 
 -- no memory was taken or given back
 pub record KeepsLinkMemory (old new : LinkedState) : Type 0 where

@@ -1,6 +1,6 @@
 -- The links of the indexes of a table. A link has the hash of its index, and the next and the previous index under that
 -- hash: its neighbours.
-use Rattle.std.specs.Prelude.{◌≡◌, ◌≢◌, ◌==◌, ◌↔◌, ◌<◌, ℕ, zero, suc, List, [], ◌∷◌, Some, if◌then◌else◌, slice_index_or, IsSome, nat_eq}
+use Rattle.std.specs.Prelude.{◌≡◌, ◌≢◌, ◌==◌, ◌↔◌, ◌<◌, ◌≤◌, ℕ, zero, suc, List, [], ◌∷◌, Some, if◌then◌else◌, slice_index_or, IsSome, length, nat_eq}
 use Rattle.std.specs.List.{Contains, IsDistinct}
 use Rattle.std.specs.Ordering.{nat_cmp}
 use Rattle.std.specs.FinMap as finite
@@ -103,6 +103,11 @@ pub record RenamesLinks (name : ℕ → ℕ) (old new : List Link) : Type 0 wher
       (ix : ℕ) → IsSome (finite.get (filed_by old) ix) → next_of new (name ix) ≡ renamed name (next_of old ix)
   pub prevs :
       (ix : ℕ) → IsSome (finite.get (filed_by old) ix) → prev_of new (name ix) ≡ renamed name (prev_of old ix)
+
+-- an iterator along the links that goes on at `at` comes to an end, and there are no more links than indexes
+pub record IsWalk (links : List Link) (at : ℕ) : Type 0 where
+  pub ends : EndsWithin (next_of links) (length links) (length links) at
+  pub small : length links ≤ sentinel
 
 -- the list has exactly the indexes under the hash, each once, in any order
 pub record AreUnder (filed : FinMap nat_cmp ℕ) (hash : ℕ) (indexes : List ℕ) : Type 0 where

@@ -1,7 +1,7 @@
 -- How `retain` of `Map` and of `KeyedItems` calls its closure, and which items it leaves in the store. (`IdOrdMap` has
 -- a definition of its own in place of `RetainsTo`, since its `retain` goes in the order of the keys.) The calls that
 -- use these definitions are those of `iddqd_map`, `iddqd_ord_map` and `iddqd_driver`.
-use Rattle.std.specs.Prelude.{◌≡◌, ℕ, Bool, not, List, map, filter}
+use Rattle.std.specs.Prelude.{◌≡◌, ℕ, Bool, not, List, [], ◌∷◌, map, filter}
 use Rattle.std.specs.List.{FoldsTo}
 use Rattle.iddqd.specs.Store.{Store}
 use Rattle.iddqd.specs.LiveItems.{live_pairs}
@@ -26,6 +26,16 @@ module _ {F T : Type 0} (takes : F → T → Type 0) (ask : F → T → Bool →
   -- so that the proof search finds it by itself for a closure without `requires`: a caller then needs no proof file.
   abbrev pub MayAsk : F → List T → Type 0
   MayAsk f items = (((p : F) (x : T) → takes p x) → CanAsk takes ask f items) → CanAsk takes ask f items
+
+  -- The closure may be called on these items in turn, once on each, whatever it answers. This is weaker than `CanAsk`:
+  -- once it was called on the last, it may not be called again.
+  abbrev pub AsksInTurn : F → List T → Type 0
+  AsksInTurn f [] = Unit {0}
+  AsksInTurn f (x ∷ items) = takes f x × ((b : Bool) (f' : F) → ask f x b f' → AsksInTurn f' items)
+
+  -- equivalent to `AsksInTurn`, and in the form of `MayAsk` for the same reason
+  abbrev pub MayAskInTurn : F → List T → Type 0
+  MayAskInTurn f items = (((p : F) (x : T) → takes p x) → AsksInTurn f items) → AsksInTurn f items
 
 -- `ask p x b q`: called on x in the state p, the closure may answer b and be in the state q afterwards
 module _ {F T : Type 0} (ask : F → T → Bool → F → Type 0) where

@@ -1,9 +1,10 @@
 //! Iterates over the indexes of the items whose keys match a query, where several items may have one key.
 //!
 //! A linked table has the indexes under each hash as one chain. So the iterator reads no index under another hash.
-ghost use Rattle.std.specs.Prelude.{◌≡◌, ℕ, Contains, IfSome, IsSome, length};
+ghost use Rattle.std.specs.Prelude.{◌≡◌, ◌≤◌, ℕ, Contains, IfSome, IsSome, length};
 ghost use Rattle.std.specs.Iterator.{YieldsFirst, item_count, at_most, UpTo};
 ghost use Rattle.std.specs.Iterator.SizeHint.{IsWithinCount};
+ghost use Rattle.iddqd.specs.Store.{sentinel};
 ghost use Rattle.iddqd_keys.specs.Scan.{IsLive, passes_by};
 ghost use Rattle.iddqd_by_hash.specs.Hashed.{AreLive};
 ghost use Rattle.iddqd_by_hash.specs.HashedGroup.{FindsFirst, IsGroupOf};
@@ -80,6 +81,9 @@ impl<'a, T, E: KeyOf<T>, Q: Equivalent<E::Key> + Drop> Iterator for Group<'a, T,
         ensures upper { IfSome result.1 (UpTo (at_most (length self.now))) }
         ensures least { result.0 ≡ 0 }
         ensures bounded { IsSome result.1 }
+
+        // There are no more indexes than that.
+        ensures few { IfSome result.1 (λ most. most ≤ sentinel) }
     {
         self.indexes.size_hint()
     }

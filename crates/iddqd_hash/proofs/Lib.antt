@@ -1,5 +1,6 @@
 pub mod AskLemmas
 pub mod FiledLemmas
+pub mod LeastCellsLemmas
 pub mod MemberLemmas
 pub mod RenameLemmas
 pub mod RetainLemmas

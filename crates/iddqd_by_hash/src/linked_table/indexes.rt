@@ -1,7 +1,8 @@
 //! Iterates over the indexes of a linked table that have one hash.
-ghost use Rattle.std.specs.Prelude.{◌≡◌, IfSome, IsSome, length};
+ghost use Rattle.std.specs.Prelude.{◌≡◌, ◌≤◌, IfSome, IsSome, length};
 ghost use Rattle.std.specs.Iterator.{YieldsFirst, item_count, at_most, UpTo};
 ghost use Rattle.std.specs.Iterator.SizeHint.{IsWithinCount};
+ghost use Rattle.iddqd.specs.Store.{sentinel};
 ghost use Rattle.iddqd_by_hash.specs.Links.{AreUnder};
 
 use super::LinkedTable;
@@ -24,13 +25,13 @@ pub struct LinkedIndexes<'a> {
 
 impl<'a> Model for LinkedIndexes<'a> {
     ghost use Rattle.std.specs.Prelude.{ℕ, List, length};
-    ghost use Rattle.iddqd_by_hash.specs.Links.{chain, next_of, EndsWithin};
+    ghost use Rattle.iddqd_by_hash.specs.Links.{chain, next_of, IsWalk};
 
     ghost Value = { List ℕ };
 
     ghost view = { λ it. chain (next_of it.links.now) (length it.links.now) it.at };
 
-    ghost invariant = { λ it. EndsWithin (next_of it.links.now) (length it.links.now) (length it.links.now) it.at };
+    ghost invariant = { λ it. IsWalk it.links.now it.at };
 }
 
 impl LinkedTable {
@@ -69,6 +70,9 @@ impl<'a> Iterator for LinkedIndexes<'a> {
         ensures upper { IfSome result.1 (UpTo (at_most (length self.now))) }
         ensures least { result.0 ≡ 0 }
         ensures bounded { IsSome result.1 }
+
+        // There are no more indexes than that.
+        ensures few { IfSome result.1 (λ most. most ≤ sentinel) }
     {
         (0, Some(self.links.len()))
     }

@@ -1,7 +1,7 @@
 //! Memory that a linked table takes ahead, and gives back.
 ghost use Rattle.std.specs.Prelude.{◌≡◌, ◌+◌, ◌≤◌, ◌<◌, min, max, IsOk, IfOk, OnOk, OnErr};
 ghost use Rattle.std.specs.FinMap as finite;
-ghost use Rattle.iddqd_by_hash.specs.LinkedTable.{most_linked, kept_linked};
+ghost use Rattle.iddqd_by_hash.specs.LinkedTable.{most_linked, kept_linked, kept_room, needed_linked};
 
 use super::LinkedTable;
 use iddqd_hash::hash_table::MapHashTable;
@@ -52,7 +52,8 @@ impl LinkedTable {
     /// Keeps memory for at most `max(slots, least)` links, where `slots` is the length of the array, and for the cells
     /// that `max(len, least)` heads need.
     ///
-    /// Shrinking may reallocate, which can fail: then the indexes stay.
+    /// Shrinking may reallocate, which can fail. Then the indexes stay, and there is more memory than is needed for the
+    /// room that stays.
     pub fn shrink_to(&mut self, least: usize) -> Result<(), AllocError>
         ensures contents { self.new.filed ≡ self.old.filed }
         ensures slots { self.new.slots ≡ self.old.slots }
@@ -61,6 +62,10 @@ impl LinkedTable {
         ensures shrunk { OnOk result (self.new.memory
             ≤ kept_linked (max least self.old.slots) (max least (finite.len self.old.filed))) }
         ensures refused { OnErr result (max least (finite.len self.old.filed) < self.new.memory) }
+        ensures needed { OnErr result (needed_linked (max self.old.slots (kept_room self.old least))
+            (kept_room self.old least) < self.new.memory) }
+        ensures enough { needed_linked (max self.old.slots (kept_room self.old least)) (kept_room self.old least)
+            ≤ self.new.memory }
         ensures succeeds { kept_linked (max least self.old.slots) (max least (finite.len self.old.filed)) ≡ 0
             → IsOk result }
     {

@@ -17,7 +17,7 @@ impl LinkedTable {
     /// Checks that the table has `expected_len` indexes and, if `compactness` is `Compact`, that they are 0, 1, and so
     /// on.
     ///
-    /// It sorts a copy of the indexes, for which memory may run out.
+    /// It copies the indexes twice, and sorts the second copy, so it can run out of memory.
     pub fn validate(
         &self,
         expected_len: usize,

@@ -1,8 +1,9 @@
 //! How a table of indexes reserves memory, and gives it back.
-ghost use Rattle.std.specs.Prelude.{◌≡◌, ◌+◌, ◌≤◌, min, max, IfOk};
+ghost use Rattle.std.specs.Prelude.{◌≡◌, ◌+◌, ◌≤◌, ◌<◌, min, max, IfOk, OnErr};
 ghost use Rattle.std.specs.FinMap as finite;
 ghost use Rattle.iddqd_hash.specs.HashTable.{capacity, room, memory};
 ghost use Rattle.iddqd_hash.specs.MapHashTable.{filed};
+ghost use Rattle.iddqd_hash.specs.OpenTableSizes.{least_cells};
 ghost use Rattle.iddqd_hash.specs.Sizes.{most_cells, Reserves, TakesRoom, Shrinks};
 
 use super::MapHashTable;
@@ -46,11 +47,14 @@ impl MapHashTable {
 
     /// Gives back memory that is needed neither for the indexes in the table nor for a table of `least` indexes.
     ///
-    /// If the smaller memory can't be allocated, the indexes stay. If none is needed, it can't fail.
+    /// If the smaller memory can't be allocated, the indexes stay, and there are more cells than the least number that
+    /// is needed. If none is needed, it can't fail.
     pub fn shrink_to(&mut self, least: usize) -> Result<(), AllocError>
         ensures contents { filed self.new ≡ filed self.old }
         ensures memory { Shrinks least (finite.len (filed self.old)) self.old result self.new }
         ensures capacity { min (capacity self.old) (max least (finite.len (filed self.old))) ≤ capacity self.new }
+        ensures needed { OnErr result (least_cells (max least (finite.len (filed self.old))) < memory self.new) }
+        ensures enough { least_cells (capacity self.new) ≤ memory self.new }
     {
         self.table.shrink_to(least)
     }

@@ -1,9 +1,9 @@
 //! How a table with open addressing reserves memory, and gives it back.
-ghost use Rattle.std.specs.Prelude.{◌≡◌, ◌⊎◌, ◌<◌, ◌≤◌, [], length, IfOk, vec_len};
+ghost use Rattle.std.specs.Prelude.{◌≡◌, ◌⊎◌, ◌<◌, ◌≤◌, [], max, length, IfOk, OnErr, vec_len};
 ghost use Rattle.std.specs.List.Sorted.{IsPermutation};
-ghost use Rattle.iddqd_hash.specs.HashTable.{entries, HasNoMemory};
+ghost use Rattle.iddqd_hash.specs.HashTable.{capacity, entries, memory, HasNoMemory};
 ghost use Rattle.iddqd_hash.specs.OpenTable.{pairs, slots_of, IsPowerOfTwo};
-ghost use Rattle.iddqd_hash.specs.OpenTableSizes.{FewerCells};
+ghost use Rattle.iddqd_hash.specs.OpenTableSizes.{FewerCells, least_cells};
 ghost use Rattle.iddqd_hash.specs.Sizes.{Reserves, most_cells, TakesRoom, Shrinks};
 
 use super::OpenHashTable;
@@ -68,11 +68,13 @@ impl<T, C: Cell<T>> OpenHashTable<T, C> {
 
     /// Gives back memory that is needed neither for the pairs in the table nor for a table of `least` pairs.
     ///
-    /// It moves every pair into fewer cells. If these can't be allocated, the pairs stay. If no cell is needed, it
-    /// can't fail.
+    /// It moves every pair into fewer cells. If these can't be allocated, the pairs stay, and there are more cells than
+    /// the least number that is needed. If no cell is needed, it can't fail.
     pub fn shrink_to(&mut self, least: usize) -> Result<(), AllocError>
         ensures contents { IsPermutation (entries self.old) (entries self.new) }
         ensures memory { Shrinks least (length (entries self.old)) self.old result self.new }
+        ensures needed { OnErr result (least_cells (max least (length (entries self.old))) < memory self.new) }
+        ensures enough { least_cells (capacity self.new) ≤ memory self.new }
     {
         let needed = least.max(self.len);
         if needed == 0 {

@@ -10,13 +10,16 @@ pub invariant_of-result : goal.invariant_of-result
 invariant_of-result c =
     let heads = filed c.self.inside.heads in
     let links = c.self.inside.links.items in
-    elim c.match-next.branch [
-      | in-Some w ↦
-          let led = head_under heads c.args.hash _ w.in-Some.head _ c.indexes_under.ensures w.in-Some.ensures.steps in
-          rw (c.as_slice.ensures.value, w.result-is)
-          (EndsWithin-head heads links c.self.invariant.linked w.in-Some.head c.args.hash led)
-      | in-None w ↦ EndsWithin-stop _ _ _ _ w.result-is
-    ]
+    record {
+      ends = elim c.match-next.branch [
+        | in-Some w ↦
+            let led = head_under heads c.args.hash _ w.in-Some.head _ c.indexes_under.ensures w.in-Some.ensures.steps in
+            rw (c.as_slice.ensures.value, w.result-is)
+            (EndsWithin-head heads links c.self.invariant.linked w.in-Some.head c.args.hash led)
+        | in-None w ↦ EndsWithin-stop _ _ _ _ w.result-is
+      ];
+      small = rw c.as_slice.ensures.value c.self.invariant.small;
+    }
 
 pub returns : goal.returns
 returns c =

@@ -1,8 +1,10 @@
-use Rattle.std.proofs.Common.{◌∙◌, ap, arith}
+use Rattle.std.proofs.Common.{◌∙◌, max, ap, arith}
+use Rattle.std.specs.FinMap as finite
+use Rattle.iddqd_hash.specs.{filed, capacity}
 use Rattle.iddqd_by_hash.specs.LinkedTable.{LinkedState}
 use Rattle.iddqd_by_hash.specs.Links.{filed_by}
 use Rattle.iddqd_by_hash.proofs.LinksLemmas.{length-filed_by}
-use Rattle.iddqd_by_hash.proofs.LinkedSizeLemmas.{IsLinkedTable-kept, capacity_at_least, len-heads, none_kept}
+use Rattle.iddqd_by_hash.proofs.LinkedSizeLemmas.{IsLinkedTable-kept, capacity_at_least, len-heads, needed-enough, needed-heads, needed-links, none_kept, OnErr-anyway}
 use Rattle.iddqd_by_hash.proofs.linked_table.LinkedTable.shrink_to.Goals as goal
 
 pub invariant_of-self : goal.invariant_of-self
@@ -96,3 +98,59 @@ returns-clause-shrunk c =
       c.in_ok-shrink_to.ensures.memory.shrunk,
       c.max.ensures,
     ))
+
+pub returns-in_err-shrink_to-clause-needed : goal.returns-in_err-shrink_to-clause-needed
+returns-in_err-shrink_to-clause-needed c =
+    let within = length-filed_by c.self.inside.links.items in
+    let heads = len-heads c.self.invariant.linked in
+    let counted = c.self.invariant.counted in
+    rw (← c.self.view_is)
+    (OnErr-anyway _ _
+    (needed-heads _ (max c.max.result (finite.len (filed c.self.inside.heads))) _ _ _
+    (omega (arith, counted, c.max.ensures))
+    c.in_err-shrink_to.ensures.needed
+    (omega (arith, within, c.len.ensures, c.max-wanted.ensures, c.shrink_to.ensures.lower_bound))))
+
+pub returns-then-wanted-capacity-clause-needed : goal.returns-then-wanted-capacity-clause-needed
+returns-then-wanted-capacity-clause-needed c =
+    let within = length-filed_by c.self.inside.links.items in
+    let heads = len-heads c.self.invariant.linked in
+    let counted = c.self.invariant.counted in
+    rw (← c.self.view_is)
+    (needed-links _ (capacity c.shrink_to-2.new.self) _ _ _
+    (omega (arith, counted, heads, c.max.ensures, c.shrink_to-2.ensures.capacity))
+    c.shrink_to-2.ensures.enough
+    (omega (arith, within, c.len.ensures, c.max-wanted.ensures, c.capacity.ensures, c.if-wanted-capacity.true)))
+
+pub returns-in_err-shrink_to-clause-enough : goal.returns-in_err-shrink_to-clause-enough
+returns-in_err-shrink_to-clause-enough c =
+    let within = length-filed_by c.self.inside.links.items in
+    let heads = len-heads c.self.invariant.linked in
+    let counted = c.self.invariant.counted in
+    rw (← c.self.view_is)
+    (needed-enough _ (capacity c.shrink_to-2.new.self) _ _ _
+    (omega (arith, counted, heads, c.max.ensures, c.shrink_to-2.ensures.capacity))
+    c.shrink_to-2.ensures.enough
+    (omega (arith, within, c.len.ensures, c.max-wanted.ensures, c.shrink_to.ensures.lower_bound)))
+
+pub returns-then-wanted-capacity-clause-enough : goal.returns-then-wanted-capacity-clause-enough
+returns-then-wanted-capacity-clause-enough c =
+    let within = length-filed_by c.self.inside.links.items in
+    let heads = len-heads c.self.invariant.linked in
+    let counted = c.self.invariant.counted in
+    rw (← c.self.view_is)
+    (needed-enough _ (capacity c.shrink_to-2.new.self) _ _ _
+    (omega (arith, counted, heads, c.max.ensures, c.shrink_to-2.ensures.capacity))
+    c.shrink_to-2.ensures.enough
+    (omega (arith, within, c.len.ensures, c.max-wanted.ensures, c.shrink_to.ensures.lower_bound)))
+
+pub returns-clause-enough : goal.returns-clause-enough
+returns-clause-enough c =
+    let within = length-filed_by c.self.inside.links.items in
+    let heads = len-heads c.self.invariant.linked in
+    let counted = c.self.invariant.counted in
+    rw (← c.self.view_is)
+    (needed-enough _ (capacity c.shrink_to-2.new.self) _ _ _
+    (omega (arith, counted, heads, c.max.ensures, c.shrink_to-2.ensures.capacity))
+    c.shrink_to-2.ensures.enough
+    (omega (arith, within, c.len.ensures, c.max-wanted.ensures, c.shrink_to.ensures.lower_bound)))

@@ -28,3 +28,10 @@ returns-clause-capacity c =
     let moved = length_permutation _ _ c.shrink_to.ensures.contents in
     let stays = c.shrink_to.ensures.memory.room_stays in
     rw (← c.self.view_is, ← long) (omega (arith, moved, stays))
+
+pub returns-clause-needed : goal.returns-clause-needed
+unfolding filed
+returns-clause-needed c =
+    let long : length (entries c.self.inside.table) ≡ finite.len (filed_from (entries c.self.inside.table)) =
+    len_filed _ c.self.invariant in
+    rw (← c.self.view_is, ← long) c.shrink_to.ensures.needed

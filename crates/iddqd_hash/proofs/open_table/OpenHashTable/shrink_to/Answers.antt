@@ -1,11 +1,13 @@
-use Rattle.std.proofs.Common.{◌≡◌, ◌≤◌, ◌<◌, inl, inr, [], length, arith}
+use Rattle.std.proofs.Common.{◌≡◌, ◌≤◌, ◌<◌, inl, inr, [], length, ap, arith}
 use Rattle.std.proofs.lemmas.Grind.{common_steps}
 use Rattle.std.proofs.lemmas.List.{nil_from_length}
-use Rattle.std.proofs.lemmas.List.Sorted.{IsPermutation-refl}
-use Rattle.iddqd_hash.specs.HashTable.{entries, memory}
-use Rattle.iddqd_hash.specs.OpenTable.{usable_of}
+use Rattle.std.proofs.lemmas.List.Sorted.{IsPermutation-refl, length_permutation}
+use Rattle.iddqd_hash.specs.HashTable.{capacity, entries, memory}
+use Rattle.iddqd_hash.specs.OpenTable.{usable_of, IsPowerOfTwo}
+use Rattle.iddqd_hash.specs.OpenTableSizes.{least_cells}
 use Rattle.iddqd_hash.proofs.OpenTableLemmas.{entries-table_of, memory-table_of}
 use Rattle.iddqd_hash.proofs.SizeLemmas.{Shrinks-same, Shrinks-placed}
+use Rattle.iddqd_hash.proofs.LeastCellsLemmas.{enough-none, enough-table_of, enough-placed, needed-placed}
 use Rattle.iddqd_hash.proofs.open_table.OpenHashTable.shrink_to.Goals as goal
 
 pub give_back-requires : goal.give_back-requires
@@ -53,3 +55,38 @@ resize-requires-clause-power g c = elim c.fewer_cells-count.ensures.halved [ inl
 
 pub fewer_cells-count-requires-clause-count : goal.fewer_cells-count-requires-clause-count
 fewer_cells-count-requires-clause-count g c = grind (arith, common_steps)
+
+pub returns-then-needed-eq0-clause-enough : goal.returns-then-needed-eq0-clause-enough
+returns-then-needed-eq0-clause-enough g c =
+    enough-none _ c.give_back.ensures.memory (ap length c.give_back.ensures.empty)
+
+pub returns-then-count-len-clause-enough : goal.returns-then-count-len-clause-enough
+returns-then-count-len-clause-enough g c = rw (← c.self.view_is) (enough-table_of _ _ _ _ c.self.invariant.sound)
+
+pub returns-clause-enough : goal.returns-clause-enough
+returns-clause-enough g c =
+    let counted : c.self.inside.len ≡ length (entries c.args.self.now) =
+    rw (← c.self.view_is, entries-table_of) c.self.invariant.sound.counted in
+    let was : least_cells (capacity c.args.self.now) ≤ memory c.args.self.now =
+    rw (← c.self.view_is) (enough-table_of _ _ _ _ c.self.invariant.sound) in
+    let power : IsPowerOfTwo c.fewer_cells-count.result =
+    elim c.fewer_cells-count.ensures.halved [ inl same ↦ absurd (omega arith) | inr fewer ↦ fewer.power ] in
+    let fits : c.max-needed.result ≤ usable_of c.fewer_cells-count.result =
+    elim c.fewer_cells-count.ensures.halved [ inl same ↦ absurd (omega arith) | inr fewer ↦ fewer.fits ] in
+    enough-placed c.args.self.now _ c.fewer_cells-count.result power c.resize.result c.resize.ensures.refused c.resize.ensures.room c.resize.ensures.memory
+    (length_permutation _ _ c.resize.ensures.contents) (omega (arith, counted, fits)) was
+
+pub returns-clause-needed : goal.returns-clause-needed
+returns-clause-needed g c =
+    let counted : c.self.inside.len ≡ length (entries c.args.self.now) =
+    rw (← c.self.view_is, entries-table_of) c.self.invariant.sound.counted in
+    let held : memory c.args.self.now ≡ length c.self.inside.tags.items =
+    rw (← c.self.view_is, memory-table_of) c.self.invariant.sound.probed.same_length in
+    let power : IsPowerOfTwo c.fewer_cells-count.result =
+    elim c.fewer_cells-count.ensures.halved [ inl same ↦ absurd (omega arith) | inr fewer ↦ fewer.power ] in
+    let fits : c.max-needed.result ≤ usable_of c.fewer_cells-count.result =
+    elim c.fewer_cells-count.ensures.halved [ inl same ↦ absurd (omega arith) | inr fewer ↦ fewer.fits ] in
+    let fewer : c.fewer_cells-count.result < length c.self.inside.tags.items =
+    elim c.fewer_cells-count.ensures.halved [ inl same ↦ absurd (omega arith) | inr fewer ↦ omega (arith, fewer.fewer) ] in
+    needed-placed c.args.self.now _ c.fewer_cells-count.result power _ c.resize.result c.resize.ensures.refused
+    (omega (arith, fits, counted)) (omega (arith, fewer, held))
