@@ -9,9 +9,9 @@
 //! of the table.
 //!
 //! In `iddqd_by_hash` it is a premise that a query stands for one key; here it is a law of `Comparable`.
-ghost use Rattle.std.specs.Prelude.{◌≡◌, ◌≤◌};
+ghost use Rattle.std.specs.Prelude.{◌≡◌};
 ghost use Rattle.std.specs.Range.Bound.{bound_map};
-ghost use Rattle.iddqd_order.specs.{capacity, entry_table, indexes_ahead, order_of, without};
+ghost use Rattle.iddqd_order.specs.{NeedsNoMoreBlocks, capacity, entry_table, indexes_ahead, order_of, without};
 ghost use Rattle.iddqd_keys.specs.Scan.{IsLive, IsKeyAt};
 ghost use Rattle.iddqd_keys.specs.OrderedQuery.{is_within};
 ghost use Rattle.iddqd_by_order.specs.Ordered.{AreLive, IsEntryOf, Holds, LooksUp, Takes};
@@ -29,7 +29,8 @@ use std::ops::Bound;
 
 /// The index of an item whose key the query compares Equal with.
 ///
-/// It compares the query with at most 4 + 2d keys, where the number of indexes in the table has d binary digits.
+/// It is one search of the table, by `find_by`. The contract of that call allows 4 + 2d comparisons, where the number
+/// of indexes in the table has d binary digits; the contract here doesn't count them.
 pub fn find<T, E, Q>(table: &MapBTreeTable, items: &ItemSet<T>, query: &Q) -> Option<ItemIndex>
 where
     E: KeyOf<T>,
@@ -50,7 +51,7 @@ where
 /// The occupied entry of the index that `find` would return, or else a vacant entry at the place where an index with
 /// that key belongs.
 ///
-/// It compares the query with as many keys as `find` does, and takes no memory.
+/// It is one search of the table, as `find`, and takes no memory.
 pub fn entry<'t, T, E, Q>(table: &'t mut MapBTreeTable, items: &ItemSet<T>, query: &Q) -> Entry<'t>
 where
     E: KeyOf<T>,
@@ -89,6 +90,9 @@ where
 
 /// Removes a live index from the table, whatever its key is now: by a search for the key, or by a scan if the search
 /// misses. It takes no memory.
+///
+/// Blocks that `blocks_anywhere` of the table allocated before it are still enough for a move, and if the index was in
+/// the table, for an insert.
 pub fn remove_index<T, E>(table: &mut MapBTreeTable, items: &ItemSet<T>, ix: ItemIndex)
 where
     E: KeyOf<T>,
@@ -96,7 +100,7 @@ where
     requires live { IsLive items.now.store ix }
     requires all_live { AreLive items.now.store (order_of table.old) }
     ensures taken { order_of table.new ≡ without (order_of table.old) ix }
-    ensures no_higher { table.new.height ≤ table.old.height }
+    ensures no_more_blocks { NeedsNoMoreBlocks table.old table.new }
     ensures memory { capacity table.new ≡ capacity table.old }
 {
     let key = key_at::<T, E>(items, ix);
@@ -115,8 +119,8 @@ where
 /// The indexes whose items have keys between two bounds, in the order of the keys: none if the lower bound is above the
 /// upper one. If the list isn't sorted, the result is some consecutive part of it, whatever the keys there are.
 ///
-/// It compares each query with at most 4 + 2d keys, where the number of indexes in the table has d binary digits, and
-/// takes no memory.
+/// It is one search of the table for each bound that there is, of 4 + 2d comparisons at most, as `find`. It takes no
+/// memory.
 pub fn range<'t, T, E, Q>(
     table: &'t MapBTreeTable,
     items: &ItemSet<T>,

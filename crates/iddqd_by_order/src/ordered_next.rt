@@ -23,8 +23,8 @@ use std::ops::Bound;
 
 /// The first index whose item's key is within the bounds, by key and then by index.
 ///
-/// It compares the query of the lower bound with at most 4 + 2d keys, where the number of indexes in the table has d
-/// binary digits, and that of the upper bound with one. It takes no memory.
+/// It is one search of the table by the lower bound, of 4 + 2d comparisons at most, as `ordered::find`, and one
+/// comparison by the upper bound. It takes no memory.
 pub fn first_between<T, E, Q>(
     table: &MapBTreeTable,
     items: &ItemSet<T>,
@@ -49,8 +49,8 @@ where
 
 /// The next index behind a live one, by key and then by index, if its item's key is within the upper bound.
 ///
-/// It compares the live one's key with at most 4 + 2d keys, where the number of indexes in the table has d binary
-/// digits, and the query with one. It takes no memory.
+/// It is one search of the table by the live one's key, of 4 + 2d comparisons at most, as `ordered::find`, and one
+/// comparison by the query. It takes no memory.
 pub fn next_between<T, E, Q>(
     table: &MapBTreeTable,
     items: &ItemSet<T>,

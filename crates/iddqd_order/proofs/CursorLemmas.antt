@@ -1,5 +1,5 @@
 -- A gap of a tree and the gaps beside it, one level at a time, and what a walk has left between two gaps.
-use Rattle.iddqd_order.proofs.Names.{◌≡◌, ◌≢◌, ◌∙◌, ℕ, zero, suc, ◌+◌, ◌-◌, ◌<◌, ◌≤◌, List, [], ◌∷◌, ◌++◌, End, Front, Back, opposite, Option, Some, None, IfSome, length, take, drop, get_or, length-set, set-get_or, slice_index, slice_set, refl, sym, ap, subst, arith, sub-one, append-nil, drop_all, length-append, length-drop, length-map, length-take-le, slice_get-get_or, cases_lt, inl, inr, Compares, Ordering, Less, Equal, Greater, Node, row, children, child, before, flat, IsFormed, ReachesGap, place, in_order, IsTree, place_in, AreBeside, AtEdge, StepsOver, IsAt, IsBehind, IsGap, IsLeafParent, Steps, next_behind, edge_of, leaf, leaf_parent, to_gap, CAPACITY, LEVELS, InGap}
+use Rattle.iddqd_order.proofs.Names.{◌≡◌, ◌≢◌, ◌∙◌, ℕ, zero, suc, ◌+◌, ◌-◌, ◌<◌, ◌≤◌, List, [], ◌∷◌, ◌++◌, End, Front, Back, opposite, Option, Some, None, IfSome, length, take, drop, get_or, length-set, set-get_or, slice_index, slice_set, refl, sym, ap, subst, arith, sub-one, append-nil, drop_all, length-append, length-drop, length-map, length-take-le, slice_get-get_or, cases_lt, inl, inr, Compares, Ordering, Less, Equal, Greater, Node, row, children, child, before, flat, IsFormed, ReachesGap, place, in_order, IsTree, place_in, AreBeside, AtEdge, StepsOver, IsAt, IsBehind, IsGap, IsLeafParent, Steps, next_behind, edge_of, leaf, leaf_parent, to_gap, most_in_row, most_levels, InGap}
 use Rattle.std.proofs.Common.{get_or-drop}
 use Rattle.std.proofs.Math.Seq.{drop-cons, take-suc}
 use Rattle.std.proofs.lemmas.Option.{slice_get_past}
@@ -369,7 +369,7 @@ moved (suc h) n p q g le same =
     }
 
 -- a leaf has at most eleven indexes, and stands as a part in the whole list
-pub leaf-few : (h : ℕ) (n : Node) (p : List ℕ) → IsFormed h n → ReachesGap h n p → length (leaf h n p) ≤ CAPACITY
+pub leaf-few : (h : ℕ) (n : Node) (p : List ℕ) → IsFormed h n → ReachesGap h n p → length (leaf h n p) ≤ most_in_row
 leaf-few zero n p f g = rw (leaf-zero 0 n p refl) (formed-within 0 n f)
 leaf-few (suc h) n p f g =
     let at = goes-inner (suc h) n p (λ e. absurd (omega arith)) g in
@@ -405,7 +405,7 @@ leaf-read (suc h) n p f g lt =
 pub IsAt-whole :
     (t : Option Node) (h : ℕ) (n : Node) (p row : List ℕ) (at : ℕ)
     → t ≡ Some n
-    → length p ≡ LEVELS
+    → length p ≡ most_levels
     → ReachesGap h n p
     → row ≡ leaf h n p
     → at ≡ slice_index p 0
@@ -483,7 +483,7 @@ pub IsGap-few :
     → t ≡ Some n
     → IsTree t h
     → IsGap t h p at
-    → at ≤ CAPACITY
+    → at ≤ most_in_row
 IsGap-few t h n p at e tree g =
     let goes : ReachesGap h n (to_gap p at) = rw e at g.goes in
     let formed : IsTree (Some n) h = subst (λ t. IsTree t h) e tree in
@@ -495,7 +495,7 @@ pub IsAt-few :
     (t : Option Node) (h : ℕ) (p row : List ℕ) (at : ℕ)
     → IsTree t h
     → IsAt t h p row at
-    → length row ≤ CAPACITY
+    → length row ≤ most_in_row
 IsAt-few None h p row at t a = let none = ap length a.leaf in omega arith
 IsAt-few (Some n) h p row at t a =
     let few = leaf-few h n (to_gap p at) t.0 a.gap.goes in let len = ap length a.leaf in omega arith
@@ -589,7 +589,7 @@ pub next-leaf_parent :
 next-leaf_parent None h b p row_is at q tree a end l lt eq = absurd l
 next-leaf_parent (Some n) h b p row_is at q tree a end l lt eq =
     let whole = a.gap.whole in
-    let len : length q ≡ LEVELS = ap length eq ∙ length-set p 1 _ ∙ whole in
+    let len : length q ≡ most_levels = ap length eq ∙ length-set p 1 _ ∙ whole in
     let r : List ℕ = to_gap p at in
     let s : List ℕ = to_gap q 0 in
     let was : slice_index r 0 ≡ at = path-here p r 0 at whole (omega arith) refl in
@@ -784,5 +784,5 @@ at-same (Some n) h p row i q other j t a b same =
     ∙ path-here q (to_gap q j) 0 j b.gap.whole (omega arith) refl
 
 -- a place of a leaf
-pub IsAt-low : (t : Option Node) (h : ℕ) (p row : List ℕ) (at : ℕ) → IsTree t h → IsAt t h p row at → at ≤ CAPACITY
+pub IsAt-low : (t : Option Node) (h : ℕ) (p row : List ℕ) (at : ℕ) → IsTree t h → IsAt t h p row at → at ≤ most_in_row
 IsAt-low t h p row at tree a = let few = IsAt-few t h p row at tree a in let within = a.within in omega arith

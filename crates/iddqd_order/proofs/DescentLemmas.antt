@@ -1,5 +1,5 @@
 -- A walk down a tree: what the search of a row says of the search of the tree.
-use Rattle.iddqd_order.proofs.Names.{◌*◌, LeadsToIndex, get_or_default, append-nil, cases_lt, get_or_at, get_or_append_left, sub-one, ◌≡◌, ◌≢◌, ◌∙◌, ℕ, zero, suc, ◌+◌, ◌-◌, ◌<◌, ◌≤◌, List, [], ◌∷◌, ◌++◌, length, get_or, drop, slice_index, Contains, refl, sym, ap, subst, arith, inl, inr, Option, Some, None, Result, Ok, Err, IfOk, length-append, append_assoc, sub-one, add-one, cases_lt, true≢false, get_or-append-add, length-map, Contains-append_cases, Ordering, Greater, Mut, Asking, Node, row, children, child, weave, before, after, flat, IsFormed, place_at_level, FullBelow, IsFullBelow, Askable, CanSearch, with_ties, IsRising, IsPlace, SearchesWithin, Searches, Finds, end_at, level_of, IfErr-weaker, index_at, Descends, FindsIn, CAPACITY, row_asks, InGap}
+use Rattle.iddqd_order.proofs.Names.{◌*◌, LeadsToIndex, get_or_default, append-nil, cases_lt, get_or_at, get_or_append_left, sub-one, ◌≡◌, ◌≢◌, ◌∙◌, ℕ, zero, suc, ◌+◌, ◌-◌, ◌<◌, ◌≤◌, List, [], ◌∷◌, ◌++◌, length, get_or, drop, slice_index, Contains, refl, sym, ap, subst, arith, inl, inr, Option, Some, None, Result, Ok, Err, IfOk, length-append, append_assoc, sub-one, add-one, cases_lt, true≢false, get_or-append-add, length-map, Contains-append_cases, Ordering, Greater, Mut, Asking, Node, row, children, child, weave, before, after, flat, IsFormed, place_at_level, FullBelow, IsFullBelow, Askable, CanSearch, with_ties, IsRising, IsPlace, SearchesWithin, Searches, Finds, end_at, level_of, IfErr-weaker, index_at, Descends, FindsIn, most_in_row, row_asks, InGap}
 use Rattle.iddqd.proofs.StoreLemmas.{contains_cases}
 use Rattle.iddqd_order.proofs.AskLemmas.{asks_none, asks_wider, CanAsk-fewer, CanAsk-later, Steady-fewer}
 pub use Rattle.iddqd_order.proofs.NodeLemmas.{lists-one_more, lists-at, child-within, child-formed, path-here, path-above, holds-here, below-holds}
@@ -165,8 +165,8 @@ full-at k (suc l) n p h below = (h, rw sub-one at (below (λ e. absurd (omega ar
 -- what `full_from` makes of `full` at the node n, which has the level l
 pub record Counts (n : Node) (full l full_below : ℕ) : Type 0 where
   pub above : l < full
-  pub not_full : length (row n) < CAPACITY → full_below ≡ l
-  pub is_full : CAPACITY ≤ length (row n) → full_below ≡ full
+  pub not_full : length (row n) < most_in_row → full_below ≡ l
+  pub is_full : most_in_row ≤ length (row n) → full_below ≡ full
 
 -- and so whether the node n is full
 pub counts_here :
@@ -175,7 +175,7 @@ pub counts_here :
     → (l ≤ k → k ≡ full_below)
     → FullBelow k l n × (l < k → k ≡ full)
 counts_here n full l full_below k c on =
-    elim (cases_lt (length (row n)) CAPACITY) [
+    elim (cases_lt (length (row n)) most_in_row) [
       | inl lt ↦ (let is = c.not_full lt in ((λ up. absurd (omega arith), λ e. lt), λ up. absurd (omega arith)))
       | inr ge ↦ (let is = c.is_full ge in let up = c.above in ((λ _. ge, λ e. absurd (omega arith)), λ up. omega arith))
     ]

@@ -1,8 +1,9 @@
 -- For callers. Which blocks an insert at a gap needs.
-use Rattle.std.proofs.Common.{◌≡◌, ◌<◌, ◌≤◌, ℕ, length, arith, inl, inr}
+use Rattle.std.proofs.Common.{◌≡◌, ◌<◌, ◌≤◌, ◌==◌, ℕ, List, Bool, true, false, not, IsTrue, length, refl, ap, arith, inl, inr, le_refl}
 use Rattle.std.proofs.lemmas.Bool.{cases_lt}
-use Rattle.iddqd_order.specs.MapBTreeTable.{Order, HasSameTree, order_of, capacity, capacity_of, move_blocks}
-use Rattle.iddqd_order.specs.Gap.{Fits, gap_place, gap_blocks}
+use Rattle.std.proofs.lemmas.List.Sums.{length-filter, count_by-le-length}
+use Rattle.iddqd_order.specs.MapBTreeTable.{Order, HasSameTree, order_of, capacity, capacity_of, move_blocks, without}
+use Rattle.iddqd_order.specs.Gap.{Fits, NeedsNoMoreBlocks, gap_place, gap_blocks}
 use Rattle.iddqd_order.specs.declared.btree_table.gap.Gap.{Gap}
 use Rattle.iddqd_order.specs.Tree.{in_order, place_in}
 use Rattle.iddqd_order.proofs.RoomLemmas.{none-fresh, enough-blocks, move-none, move-most}
@@ -35,7 +36,7 @@ none-below t gap fits lt =
     none-fresh t.root t.height t.reserved gap.full gap.path fits.tree fits.goes fits.full fits.levels lt
 
 -- after a removal, the blocks of a move are enough for an insert at any gap
-pub enough-after :
+enough-after :
     (old t : Order) (gap : Gap) (blocks : ℕ)
     → Fits t gap
     → length (order_of t) < length (order_of old)
@@ -50,7 +51,7 @@ enough-after old t gap blocks fits fewer lower same most =
     omega (arith, enough)
 
 -- and a move needs no more than before
-pub move-after :
+move-after :
     (old t : Order)
     → length (order_of t) ≤ length (order_of old)
     → t.height ≤ old.height
@@ -61,3 +62,32 @@ move-after old t fewer lower same =
       | inl past ↦ (let full : capacity old < length (order_of old) = omega (arith, past, fewer, same) in omega (arith, move-most t past, move-most old full, lower))
       | inr within ↦ omega (arith, move-none t within)
     ]
+
+-- a table that got no longer and no higher
+pub NeedsNoMoreBlocks-lower :
+    (old new : Order)
+    → length (order_of new) ≤ length (order_of old)
+    → new.height ≤ old.height
+    → new.reserved ≡ old.reserved
+    → NeedsNoMoreBlocks old new
+unfolding capacity
+NeedsNoMoreBlocks-lower old new no_longer lower reserved =
+    let same : capacity new ≡ capacity old = ap capacity_of reserved in
+    record {
+      for_move = move-after old new no_longer lower same;
+      for_insert = λ fewer gap fits. enough-after old new gap (move_blocks old) fits fewer lower same (le_refl (move_blocks old));
+    }
+
+-- a removal leaves no more indexes
+pub without-no_longer : (xs : List ℕ) (ix : ℕ) → length (without xs ix) ≤ length xs
+without-no_longer xs ix =
+    omega (arith, length-filter (λ j. not (j == ix)) xs, count_by-le-length (λ j. not (j == ix)) xs)
+
+-- the same, whether the index was found or not
+pub no_longer-found :
+    (found : Bool) (old new : Order) (ix : ℕ)
+    → (IsTrue found → order_of new ≡ without (order_of old) ix)
+    → (found ≡ false → new ≡ old)
+    → length (order_of new) ≤ length (order_of old)
+no_longer-found true old new ix removed kept = rw (removed refl) (without-no_longer (order_of old) ix)
+no_longer-found false old new ix removed kept = rw (kept refl) (le_refl (length (order_of old)))

@@ -1,5 +1,5 @@
 -- How many inner nodes a tree of so many indexes has at most.
-use Rattle.iddqd_order.proofs.Names.{LEAST}
+use Rattle.iddqd_order.proofs.Names.{least_in_row}
 use Rattle.std.proofs.Common.{All, ◌≡◌, ℕ, zero, suc, ◌+◌, ◌*◌, ◌≤◌, List, [], ◌∷◌, length, map, sum_by, arith}
 use Rattle.std.proofs.lemmas.List.{length-append}
 use Rattle.std.proofs.lemmas.List.Elements.{All-head, All-tail}
@@ -25,8 +25,8 @@ wide f g (x ∷ xs) (n ∷ ns) e a =
 pub inners-below :
     (h : ℕ) (n : Node)
     → IsFormed h n
-    → LEAST ≤ length (row n)
-    → 30 * inners h n + LEAST ≤ length (flat h n)
+    → least_in_row ≤ length (row n)
+    → 30 * inners h n + least_in_row ≤ length (flat h n)
 unfolding inners flat IsFormed
 inners-below zero n f le = omega arith
 inners-below (suc h) n f le =

@@ -1,5 +1,5 @@
 -- What an insert leaves of a node.
-use Rattle.iddqd_order.proofs.Names.{IsChild, IsPut, ◌≡◌, ◌≢◌, ℕ, zero, suc, ◌+◌, ◌-◌, ◌<◌, ◌≤◌, List, [], ◌∷◌, ◌++◌, length, set, get_or, slice_index, refl, ap, sym, ◌∙◌, arith, inl, inr, All, cases_lt, insert, length-append, length-set, length-map, length-insert, get_or_default, map-set, map-append, All-set, Node, row, children, child, child_room, weave, before, flat, IsInner, IsFormed, ReachesGap, place, IsFullBelow, IsSplit, CAPACITY, LEAST, CHILDREN, InGap}
+use Rattle.iddqd_order.proofs.Names.{IsChild, IsPut, ◌≡◌, ◌≢◌, ℕ, zero, suc, ◌+◌, ◌-◌, ◌<◌, ◌≤◌, List, [], ◌∷◌, ◌++◌, length, set, get_or, slice_index, refl, ap, sym, ◌∙◌, arith, inl, inr, All, cases_lt, insert, length-append, length-set, length-map, length-insert, get_or_default, map-set, map-append, All-set, Node, row, children, child, child_room, weave, before, flat, IsInner, IsFormed, ReachesGap, place, IsFullBelow, IsSplit, most_in_row, least_in_row, most_children, InGap}
 use Rattle.std.proofs.lemmas.List.Sums.{sum_by-set, sum_by-insert, sum_by-append}
 use Rattle.iddqd_order.specs.Node.{inners}
 use Rattle.iddqd_order.specs.Removal.{inners_of}
@@ -31,7 +31,7 @@ pub record Taken (h : ℕ) (old : Node) (p : List ℕ) (i : ℕ) (g : Node) : Ty
   pub here : i < length (children old)
   pub node : IsInner old
   pub below : AreChildren (h - 1) (children old)
-  pub least : LEAST ≤ length (row g)
+  pub least : least_in_row ≤ length (row g)
   pub formed : IsFormed (h - 1) g
   pub goes : ReachesGap (h - 1) g p
   pub list : get_or (lists (h - 1) (children old)) i [] ≡ flat (h - 1) g
@@ -61,8 +61,8 @@ taken h old p i g t =
 -- an index was put in, and the node is split about the index m
 pub record Split (h : ℕ) (old new : Node) (m : ℕ) (up : Node) (p : List ℕ) (x : ℕ) : Type 0 where
   pub items : flat h new ++ m ∷ flat h up ≡ insert (flat h old) (place h old p) x
-  pub low : (LEAST ≤ length (row new)) × IsFormed h new
-  pub high : (LEAST ≤ length (row up)) × IsFormed h up
+  pub low : (least_in_row ≤ length (row new)) × IsFormed h new
+  pub high : (least_in_row ≤ length (row up)) × IsFormed h up
   pub inner : inners h new + inners h up ≡ inners h old + h
 
 -- the inner nodes below, where k stands in the place of the child that the path takes
@@ -82,7 +82,7 @@ pub put_below :
     → IsPut (h - 1) g k p x more
     → row new ≡ row old
     → children new ≡ set (children old) i k
-    → CHILDREN ≤ child_room new
+    → most_children ≤ child_room new
     → IsPut h old new p x more
 put_below h old new p x i g k t d er ek rm =
     let b = taken h old p i g t in
@@ -92,7 +92,7 @@ put_below h old new p x i g k t d er ek rm =
     let few = b.node.within in
     let counted = lists-one_more h old t.inner t.formed in
     let here = b.here in
-    let k_least : LEAST ≤ length (row k) = let a = b.least in let l = d.longer in omega arith in
+    let k_least : least_in_row ≤ length (row k) = let a = b.least in let l = d.longer in omega arith in
     let e1 : lists (h - 1) (children new) ≡ set ls i (f k) =
     ap (λ z. lists (h - 1) z) ek ∙ map-set f (children old) i k in
     let e2 =
@@ -113,10 +113,10 @@ pub put_here :
     (h : ℕ) (old new : Node) (p : List ℕ) (x : ℕ) (i : ℕ) (g k : Node) (m : ℕ) (u : Node)
     → IsTaken h old p i g
     → Split (h - 1) g k m u p x
-    → length (row old) < CAPACITY
+    → length (row old) < most_in_row
     → row new ≡ insert (row old) i m
     → children new ≡ insert (set (children old) i k) (i + 1) u
-    → CHILDREN ≤ child_room new
+    → most_children ≤ child_room new
     → IsPut h old new p x (h - 1)
 put_here h old new p x i g k m u t d lt er ek rm =
     let b = taken h old p i g t in
@@ -146,10 +146,11 @@ put_here h old new p x i g k m u t d lt er ek rm =
 split_sizes :
     {xs : List ℕ} {i x : ℕ} {low : List ℕ} {m : ℕ} {high : List ℕ}
     → IsSplit xs i x low m high
-    → (LEAST ≤ length low) × (length low ≤ LEAST + 1) × (LEAST ≤ length high) × (length high ≤ LEAST + 1)
+    → (least_in_row ≤ length low) × (length low ≤ least_in_row + 1)
+    × (least_in_row ≤ length high) × (length high ≤ least_in_row + 1)
 split_sizes {i = i} c =
     let sum = c.high_length in
-    elim (cases_lt LEAST i) [
+    elim (cases_lt least_in_row i) [
       | inl q ↦ let e = c.low_length.1 q in (omega arith, omega arith, omega arith, omega arith)
       | inr q ↦ let e = c.low_length.0 q in (omega arith, omega arith, omega arith, omega arith)
     ]
@@ -162,8 +163,8 @@ pub split_here :
     → IsSplit (row old) i m (row new) m2 (row up)
     → children new ++ children up ≡ insert (set (children old) i k) (i + 1) u
     → length (children new) ≡ length (row new) + 1
-    → CHILDREN ≤ child_room new
-    → CHILDREN ≤ child_room up
+    → most_children ≤ child_room new
+    → most_children ≤ child_room up
     → Split h old new m2 up p x
 split_here h old new m2 up p x i g k m u t d c ek lk rm ru =
     let b = taken h old p i g t in
@@ -214,7 +215,7 @@ pub put_leaf :
     → IsFormed h old
     → ReachesGap h old p
     → i ≡ slice_index p h
-    → length (row old) < CAPACITY
+    → length (row old) < most_in_row
     → row new ≡ insert (row old) i x
     → children new ≡ children old
     → IsPut h old new p x 0
@@ -267,7 +268,7 @@ full_child k h old p i g t f =
     rw same on
 
 -- a full node, among full ones
-pub full_row : (h : ℕ) (n : Node) (p : List ℕ) → IsFormed h n → IsFullBelow (h + 1) h n p → length (row n) ≡ CAPACITY
+pub full_row : (h : ℕ) (n : Node) (p : List ℕ) → IsFormed h n → IsFullBelow (h + 1) h n p → length (row n) ≡ most_in_row
 full_row h n p f full =
     let most = formed-within h n f in
     let least = (full-here (h + 1) h n p full).0 (omega arith) in

@@ -1,5 +1,5 @@
 -- For callers too. What lawful keys give a table in order by key, ties by index.
-use Rattle.iddqd_order.proofs.Names.{◌≡◌, ◌∙◌, ℕ, ◌+◌, ◌<◌, ◌==◌, ◌⊎◌, inl, inr, List, None, Some, length, map, get_or, insert, Contains, refl, sym, ap, eqb-true, zero, suc, [], ◌∷◌, ◌≤◌, Ordering, arith, IsTotalOrder, nat_cmp_is, IsStrictlySortedBy, nat_cmp, ordering_then, ordering_reverse, Less, Equal, Greater, nat_cmp_total, on_total, then_total, tied_itself, alike_right, by_ranked, cond_both, ranked, get_or_default, get_or-map, length-map, Contains-get_or, Less-from_sorted, recursion_from_All, All-from_recursion, sorted_from_all_adjacent, greater_before_in, key_then_index, IsInKeyOrder, ComparesKeys, with_ties, IsRising, IsPlace}
+use Rattle.iddqd_order.proofs.Names.{◌≡◌, ◌∙◌, ℕ, ◌+◌, ◌<◌, ◌==◌, ◌⊎◌, inl, inr, List, None, Some, length, map, get_or, insert, Contains, refl, sym, ap, eqb-true, zero, suc, [], ◌∷◌, ◌≤◌, Ordering, arith, IsTotalOrder, nat_cmp_is, IsStrictlySortedBy, nat_cmp, ordering_then, ordering_reverse, Less, Equal, Greater, nat_cmp_total, on_total, then_total, tied_itself, alike_right, by_ranked, cond_both, ranked, get_or_default, get_or-map, length-map, Contains-get_or, Less-from_sorted, recursion_from_All, All-from_recursion, sorted_from_all_adjacent, greater_before_in, key_then_index, IsInKeyOrder, ComparesKeys, InsertsInKeyOrder, StaysInKeyOrder, with_ties, IsRising, IsPlace, without, IsStrictlySortedBy-filter, Bool, true, false, not, IsTrue, subst}
 use Rattle.iddqd_order.proofs.NodeLemmas.{All-insert}
 
 -- if a is greater than b, b is less than a
@@ -116,6 +116,44 @@ module _ {K : Type 0} {cmp : K → K → Ordering} (o : IsTotalOrder cmp) (key :
       (greater_before_in o sought)
       (λ a b equal. alike_right o a b sought equal)
       xs answer
+
+-- a list with an index inserted
+pub InsertsInKeyOrder-insert : (xs : List ℕ) (place ix : ℕ) → InsertsInKeyOrder xs place ix (insert xs place ix)
+InsertsInKeyOrder-insert xs place ix =
+    record { keeps = λ compare total sorted belongs. IsInKeyOrder-insert total (λ i. i) ix (compare ix) xs sorted (λ j d lt. refl) place belongs }
+
+-- a list without an index
+pub StaysInKeyOrder-without : (xs : List ℕ) (ix : ℕ) → StaysInKeyOrder xs (without xs ix)
+StaysInKeyOrder-without xs ix =
+    record { keeps = λ compare sorted. IsStrictlySortedBy-filter (key_then_index compare (λ i. i)) (λ j. not (j == ix)) xs sorted }
+
+-- a removal that may have missed
+pub StaysInKeyOrder-found :
+    (found : Bool) (old new : List ℕ) (ix : ℕ)
+    → (IsTrue found → new ≡ without old ix)
+    → (found ≡ false → new ≡ old)
+    → StaysInKeyOrder old new
+StaysInKeyOrder-found true old new ix removed kept =
+    subst (StaysInKeyOrder old) (sym (removed refl)) (StaysInKeyOrder-without old ix)
+StaysInKeyOrder-found false old new ix removed kept =
+    subst (StaysInKeyOrder old) (sym (kept refl)) (record { keeps = λ compare sorted. sorted })
+
+-- keys of any type: an insert where the new key belongs, and a removal, keep their order
+pub IsInKeyOrder-inserted :
+    {K : Type 0} {cmp : K → K → Ordering} (total : IsTotalOrder cmp) (key : ℕ → K) (old new : List ℕ) (place ix : ℕ)
+    → InsertsInKeyOrder old place ix new
+    → IsInKeyOrder cmp key old
+    → IsPlace (with_ties (Some ix) (λ j. cmp (key ix) (key j))) old place
+    → IsInKeyOrder cmp key new
+IsInKeyOrder-inserted {K} {cmp} total key old new place ix inserts sorted belongs =
+    inserts.keeps (λ i j. cmp (key i) (key j)) (on_total key total) sorted belongs
+
+pub IsInKeyOrder-removed :
+    {K : Type 0} (cmp : K → K → Ordering) (key : ℕ → K) (old new : List ℕ)
+    → StaysInKeyOrder old new
+    → IsInKeyOrder cmp key old
+    → IsInKeyOrder cmp key new
+IsInKeyOrder-removed cmp key old new stays sorted = stays.keeps (λ i j. cmp (key i) (key j)) sorted
 
 -- numbers that rise keep their comparison
 less_again : (a b c d : ℕ) → (a < b → c < d) → nat_cmp a b ≡ Less → nat_cmp c d ≡ Less

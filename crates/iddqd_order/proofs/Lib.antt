@@ -16,6 +16,7 @@ pub mod MoveLemmas
 mod Names
 pub mod NodeLemmas
 mod NodeRenameLemmas
+mod OrderedTableLemmas
 mod PartLemmas
 mod RangeLemmas
 mod ReckoningLemmas

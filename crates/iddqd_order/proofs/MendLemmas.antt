@@ -1,5 +1,5 @@
 -- What mending leaves of nodes.
-use Rattle.iddqd_order.proofs.Names.{◌≡◌, ◌∙◌, ℕ, zero, suc, ◌+◌, ◌-◌, ◌<◌, ◌≤◌, List, [], ◌∷◌, ◌++◌, length, take, drop, set, get_or, map, remove, Option, Some, None, option_to_list, IsSome, ◌↔◌, append_assoc, subst, refl, ap, sym, arith, add-one, sub-one, length-append, length-drop, length-take, length-take-le, length-map, get_or-remove_below, get_or_default, set_comm, All, All-append, All-cons, All-nil, inl, inr, cases_eq, map-append, nil_from_length, Node, row, children, child_room, weave, flat, IsFormed, IsChild, MayLackOne, IsMended, CAPACITY, LEAST}
+use Rattle.iddqd_order.proofs.Names.{◌≡◌, ◌∙◌, ℕ, zero, suc, ◌+◌, ◌-◌, ◌<◌, ◌≤◌, List, [], ◌∷◌, ◌++◌, length, take, drop, set, get_or, map, remove, Option, Some, None, option_to_list, IsSome, ◌↔◌, append_assoc, subst, refl, ap, sym, arith, add-one, sub-one, length-append, length-drop, length-take, length-take-le, length-map, get_or-remove_below, get_or_default, set_comm, All, All-append, All-cons, All-nil, inl, inr, cases_eq, map-append, nil_from_length, Node, row, children, child_room, weave, flat, IsFormed, IsChild, MayLackOne, IsMended, most_in_row, least_in_row}
 use Rattle.std.proofs.Common.{get_or-take, get_or-drop, take-suc, take-suc-set, drop-set-lt, length-set}
 use Rattle.std.proofs.lemmas.List.{set_split, set_at}
 use Rattle.iddqd_order.proofs.WeaveLemmas.{All-front, All-back, rest, weave-more}
@@ -18,15 +18,15 @@ arity-joined : (h a b c : ℕ) → c ≡ a + suc b → arity h c ≡ arity h a +
 arity-joined zero a b c e = omega arith
 arity-joined (suc h) a b c e = omega arith
 
-arity-fits : (h a b : ℕ) → a + b < CAPACITY → arity h a + arity h b ≤ arity h CAPACITY
+arity-fits : (h a b : ℕ) → a + b < most_in_row → arity h a + arity h b ≤ arity h most_in_row
 arity-fits zero a b few = omega arith
 arity-fits (suc h) a b few = omega arith
 
 -- the counts of a node, a leaf or not
 pub record IsSized (h : ℕ) (n : Node) : Type 0 where
-  pub within : length (row n) ≤ CAPACITY
+  pub within : length (row n) ≤ most_in_row
   pub count : length (children n) ≡ arity h (length (row n))
-  pub has_room : arity h CAPACITY ≤ child_room n
+  pub has_room : arity h most_in_row ≤ child_room n
 
 pub formed-sized : (h : ℕ) (n : Node) → IsFormed h n → IsSized h n × All (IsChild (h - 1)) (children n)
 unfolding IsFormed
@@ -60,13 +60,13 @@ flat-pair (suc h) l x r sl sr =
 
 -- the i-th child and the next one, one of which may lack an index
 pub record AreNeighbours (h i : ℕ) (xs : List ℕ) (ks : List Node) (l r : Node) : Type 0 where
-  pub within : length xs ≤ CAPACITY
+  pub within : length xs ≤ most_in_row
   pub one_more : length ks ≡ length xs + 1
   pub here : i < length xs
   pub left : l ≡ get_or ks i l
   pub right : r ≡ get_or ks (suc i) r
-  pub left_is : (LEAST ≤ length (row l) + 1) × IsFormed h l
-  pub right_is : (LEAST ≤ length (row r) + 1) × IsFormed h r
+  pub left_is : (least_in_row ≤ length (row l) + 1) × IsFormed h l
+  pub right_is : (least_in_row ≤ length (row r) + 1) × IsFormed h r
   pub before : All (IsChild h) (take i ks)
   pub behind : All (IsChild h) (drop (suc (suc i)) ks)
 
@@ -82,7 +82,7 @@ pub neighbours :
 neighbours h i j xs ks l r low high lt f el er =
     let o = f.one_more in let before = length-take i ks in let behind = length-drop (suc (suc i)) ks in
     let right : r ≡ get_or ks (suc i) r = er ∙ ap (λ z. get_or ks z r) (add-one i) in
-    let each : (k : ℕ) (d : Node) → k < length ks → (LEAST ≤ length (row (get_or ks k d)) + 1) × IsFormed h (get_or ks k d) = λ k d w. elim (cases_eq k j) [
+    let each : (k : ℕ) (d : Node) → k < length ks → (least_in_row ≤ length (row (get_or ks k d)) + 1) × IsFormed h (get_or ks k d) = λ k d w. elim (cases_eq k j) [
       | inl e ↦ rw e (f.at d)
       | inr ne ↦ (let c = f.others k d w ne in let five = c.0 in (omega arith, c.1))
     ] in
@@ -170,8 +170,8 @@ mended-shared :
     → AreNeighbours h i xs ks l r
     → row new_l ++ m ∷ row new_r ≡ row l ++ get_or xs i 0 ∷ row r
     → children new_l ++ children new_r ≡ children l ++ children r
-    → (LEAST ≤ length (row new_l)) × IsSized h new_l
-    → (LEAST ≤ length (row new_r)) × IsSized h new_r
+    → (least_in_row ≤ length (row new_l)) × IsSized h new_l
+    → (least_in_row ≤ length (row new_r)) × IsSized h new_r
     → IsMended h xs ks (set xs i m) (set (set ks i new_l) (i + 1) new_r)
 mended-shared h i xs ks l r new_l m new_r n rows below left right =
     let o = n.one_more in let at = n.here in
@@ -244,8 +244,8 @@ passed h l x r new_l m new_r moved p one =
 pub moved-right :
     (h i : ℕ) (xs : List ℕ) (ks : List Node) (l r new_l new_r : Node) (x last : ℕ) (moved : Option Node)
     → AreNeighbours h i xs ks l r
-    → LEAST < length (row l)
-    → length (row r) < LEAST
+    → least_in_row < length (row l)
+    → length (row r) < least_in_row
     → x ≡ get_or xs i 0
     → IsPassed l x r new_l last new_r moved
     → IsSome moved ↔ (0 < length (children l))
@@ -264,8 +264,8 @@ moved-right h i xs ks l r new_l new_r x last moved n more few ex p some same_roo
 pub moved-left :
     (h i : ℕ) (xs : List ℕ) (ks : List Node) (l r new_l new_r : Node) (x first : ℕ) (moved : Option Node)
     → AreNeighbours h i xs ks l r
-    → LEAST < length (row r)
-    → length (row l) < LEAST
+    → least_in_row < length (row r)
+    → length (row l) < least_in_row
     → x ≡ get_or xs i 0
     → IsPassed new_l first new_r l x r moved
     → IsSome moved ↔ (0 < length (children r))
@@ -286,7 +286,7 @@ pub room-for-one :
     (h : ℕ) (from to : Node) (moved : Option Node)
     → IsFormed h from
     → IsFormed h to
-    → length (row to) < LEAST
+    → length (row to) < least_in_row
     → IsSome moved ↔ (0 < length (children from))
     → length (option_to_list moved) + length (children to) ≤ child_room to
 room-for-one h from to moved ff ft few some =
@@ -296,7 +296,7 @@ room-for-one h from to moved ff ft few some =
 -- two neighbours that fit into one
 pub record JoinFits (h i : ℕ) (xs : List ℕ) (ks : List Node) (l r : Node) : Type 0 where
   pub pair : AreNeighbours h i xs ks l r
-  pub fits : length (row l) + length (row r) < CAPACITY
+  pub fits : length (row l) + length (row r) < most_in_row
   pub room_is : length (children l) + length (children r) ≤ child_room l
 
 pub join-fits :
@@ -305,7 +305,7 @@ pub join-fits :
     → j ≤ i + 1
     → i < length xs
     → MayLackOne h j xs ks
-    → ((d : Node) → length (row (get_or ks i d)) + length (row (get_or ks (i + 1) d)) < CAPACITY)
+    → ((d : Node) → length (row (get_or ks i d)) + length (row (get_or ks (i + 1) d)) < most_in_row)
     → l ≡ get_or (remove ks (i + 1)) i l
     → r ≡ get_or ks (i + 1) r
     → JoinFits h i xs ks l r
@@ -315,9 +315,9 @@ join-fits h j i xs ks l r low high lt f few el er =
     let er2 : get_or ks (i + 1) l ≡ r = get_or_default ks (i + 1) l r (omega arith) ∙ sym er in
     let n = neighbours h i j xs ks l r low high lt f el2 er in
     let a = (formed-sized h l n.left_is.1).0 in let b = (formed-sized h r n.right_is.1).0 in
-    let sum : length (row l) + length (row r) < CAPACITY =
-    subst (λ z. length (row l) + length (row z) < CAPACITY) er2
-    (subst (λ z. length (row z) + length (row (get_or ks (i + 1) l)) < CAPACITY) (sym el2) (few l)) in
+    let sum : length (row l) + length (row r) < most_in_row =
+    subst (λ z. length (row l) + length (row z) < most_in_row) er2
+    (subst (λ z. length (row z) + length (row (get_or ks (i + 1) l)) < most_in_row) (sym el2) (few l)) in
     record {
       pair = n;
       fits = sum;

@@ -9,7 +9,7 @@ pub use Rattle.iddqd_order.specs.Copies.{IsCopy}
 pub use Rattle.iddqd_order.specs.Descent.{Descends, FindsIn, index_at, EndsIn, stop_of, end_at, level_of}
 pub use Rattle.iddqd_order.specs.Digits.{bound, digits_within, row_asks}
 unfoldable pub use Rattle.iddqd_order.specs.Digits.{digits}
-pub use Rattle.iddqd_order.specs.KeyOrder.{ComparesKeys, IsInKeyOrder, key_then_index}
+pub use Rattle.iddqd_order.specs.KeyOrder.{ComparesKeys, InsertsInKeyOrder, IsInKeyOrder, StaysInKeyOrder, key_then_index}
 pub use Rattle.iddqd_order.specs.MapBTreeTable.{IsIndexList, sentinel, without, Order}
 pub use Rattle.iddqd_order.specs.Node.{AtIndex, FullBelow, InGap, Stop, IsInner, IsLeaf, after, before, child, children, child_room, row, weave, IsPlaceIn, ReachesGap, ReachesIndex, LeadsToIndex, IsPut, place, Reaches}
 unfoldable pub use Rattle.iddqd_order.specs.Node.{IsFormed, IsFullBelow, flat, place_at_level, Passes}
@@ -21,11 +21,9 @@ pub use Rattle.iddqd_order.specs.SpotCursor.{IsSpotCursor, SamePlaces, StepsToNe
 pub use Rattle.iddqd_order.specs.declared.btree_table.asking.Asking.{Asking}
 pub use Rattle.iddqd_order.specs.declared.btree_table.node.Node.{Node}
 pub use Rattle.iddqd_order.specs.declared.btree_table.gap.Gap.{Gap}
-pub use Rattle.iddqd_order.specs.declared.btree_table.node.TheConstants.{CHILDREN}
+pub use Rattle.iddqd_order.specs.Shape.{most_children, most_levels, free_indexes, indexes_of_a_block, most_in_row, least_in_row}
 pub use Rattle.iddqd_order.specs.declared.btree_table.path.Spot.{Spot}
-pub use Rattle.iddqd_order.specs.declared.btree_table.path.TheConstants.{LEVELS}
-pub use Rattle.iddqd_order.specs.declared.btree_table.reserve.TheConstants.{FREE_INDEXES, INDEXES_OF_A_BLOCK, MOST_INDEXES}
-pub use Rattle.iddqd_order.specs.declared.btree_table.row.TheConstants.{CAPACITY, LEAST}
+pub use Rattle.iddqd_order.specs.declared.btree_table.reserve.TheConstants.{MOST_INDEXES}
 pub use Rattle.iddqd_order.specs.declared.btree_table.node.Node.TheOpen.{Node-F}
 pub use Rattle.iddqd_order.specs.declared.btree_table.node.Node.TheViews.{out-Node, out-roll-Node, roll-Node, roll-out-Node}
 pub use Rattle.iddqd_order.specs.declared.btree_table.spot_cursor.SpotCursor.{SpotCursor}

@@ -1,11 +1,11 @@
 -- One level of a tree at a time, and of a path down it.
-use Rattle.iddqd_order.proofs.Names.{true, false, ◌∙◌, sym, slice_set, get_or-set_same, get_or-set_other, nat_eq, eq-eqb, ne_eqb, cases_eq, inl, inr, IsPlaceIn, Passes, Reaches, ReachesIndex, place_at_level, ◌≡◌, ℕ, zero, suc, ◌+◌, ◌-◌, ◌<◌, ◌≤◌, ◌≢◌, List, [], ◌∷◌, length, get_or, map, slice_index, refl, ap, arith, sub-one, All, vec_capacity, insert, length-map, get_or-map, All-permutation, IsPermutation-insert, All-cons, Node, Node-F, roll-Node, out-roll-Node, row, children, child, child_room, weave, before, flat, IsInner, IsLeaf, IsFormed, ReachesGap, place, FullBelow, IsFullBelow, CAPACITY, LEAST, CHILDREN, LEVELS, Stop, AtIndex, InGap}
+use Rattle.iddqd_order.proofs.Names.{true, false, ◌∙◌, sym, slice_set, get_or-set_same, get_or-set_other, nat_eq, eq-eqb, ne_eqb, cases_eq, inl, inr, IsPlaceIn, Passes, Reaches, ReachesIndex, place_at_level, ◌≡◌, ℕ, zero, suc, ◌+◌, ◌-◌, ◌<◌, ◌≤◌, ◌≢◌, List, [], ◌∷◌, length, get_or, map, slice_index, refl, ap, arith, sub-one, All, vec_capacity, insert, length-map, get_or-map, All-permutation, IsPermutation-insert, All-cons, Node, Node-F, roll-Node, out-roll-Node, row, children, child, child_room, weave, before, flat, IsInner, IsLeaf, IsFormed, ReachesGap, place, FullBelow, IsFullBelow, most_in_row, least_in_row, most_children, most_levels, Stop, AtIndex, InGap}
 use Rattle.iddqd_order.proofs.WeaveLemmas.{within, index_place}
 use Rattle.iddqd_order.proofs.WeaveRemovalLemmas.{weave-within, weave-within_at}
 
 -- what the children of a node at level h + 1 are
 abbrev pub AreChildren : ℕ → List Node → Type 0
-AreChildren h ks = All (λ k. (LEAST ≤ length (row k)) × IsFormed h k) ks
+AreChildren h ks = All (λ k. (least_in_row ≤ length (row k)) × IsFormed h k) ks
 
 -- their lists
 abbrev pub lists : ℕ → List Node → List (List ℕ)
@@ -39,7 +39,7 @@ unfolding IsFormed
 inner-formed zero n e i b = absurd (e refl)
 inner-formed (suc h) n e i b = (i, rw sub-one at b)
 
-pub formed-within : (h : ℕ) (n : Node) → IsFormed h n → length (row n) ≤ CAPACITY
+pub formed-within : (h : ℕ) (n : Node) → IsFormed h n → length (row n) ≤ most_in_row
 unfolding IsFormed
 formed-within zero n f = f.within
 formed-within (suc h) n f = f.0.within
@@ -81,7 +81,7 @@ pub child-least :
     → h ≢ 0
     → IsFormed h n
     → i < length (children n)
-    → LEAST ≤ length (row (child n i))
+    → least_in_row ≤ length (row (child n i))
 child-least h n i ne f lt = ((formed-inner h n ne f).below i n lt).0
 
 pub full-on :
@@ -120,11 +120,16 @@ children-roll r = ap (λ z. z.children.items) (out-roll-Node r)
 pub room-roll : (r : Node-F Node) → child_room (roll-Node r) ≡ vec_capacity r.children
 room-roll r = ap (λ z. vec_capacity z.children) (out-roll-Node r)
 
-pub room-from : (r : Node-F Node) → CHILDREN ≤ vec_capacity r.children → CHILDREN ≤ child_room (roll-Node r)
+pub room-from : (r : Node-F Node) → most_children ≤ vec_capacity r.children → most_children ≤ child_room (roll-Node r)
 room-from r h = rw room-roll h
 
 -- what a write to a path leaves
-pub path-here : (p q : List ℕ) (l i : ℕ) → length p ≡ LEVELS → l < LEVELS → q ≡ slice_set p l i → slice_index q l ≡ i
+pub path-here :
+    (p q : List ℕ) (l i : ℕ)
+    → length p ≡ most_levels
+    → l < most_levels
+    → q ≡ slice_set p l i
+    → slice_index q l ≡ i
 path-here p q l i len le e = ap (λ z. slice_index z l) e ∙ get_or-set_same p l i 0 (omega arith)
 
 pub path-above : (p q : List ℕ) (l i m : ℕ) → q ≡ slice_set p l i → l < m → slice_index q m ≡ slice_index p m
@@ -273,7 +278,7 @@ place_at_level-within {stop = stop} l (suc h) n p f w =
 pub record GoesDown (stop : Stop) (h l i : ℕ) (n : Node) (p : List ℕ) : Type 0 where
   pub inner : h ≢ 0
   pub here : i < length (children n)
-  pub five : LEAST ≤ length (row (child n i))
+  pub five : least_in_row ≤ length (row (child n i))
   pub formed : IsFormed (h - 1) (child n i)
   pub holds : Reaches stop l (h - 1) (child n i) p
   pub within : IsPlaceIn stop (place_at_level l (h - 1) (child n i) p) (length (flat (h - 1) (child n i)))

@@ -1,5 +1,5 @@
 -- New names for the indexes of a node and of all below it; a copy has the same names.
-use Rattle.iddqd_order.proofs.Names.{◌≡◌, ◌≢◌, ℕ, ◌+◌, ◌-◌, ◌<◌, ◌≤◌, List, [], ◌∷◌, ◌++◌, length, get_or, map, refl, ap, sym, ◌∙◌, subst, arith, All, length-map, get_or-map, map-append, same_lists, All-nil, All-cons, All-head, All-tail, Node, IsCopy, row, children, child_room, weave, flat, IsFormed, before, after, CAPACITY}
+use Rattle.iddqd_order.proofs.Names.{◌≡◌, ◌≢◌, ℕ, ◌+◌, ◌-◌, ◌<◌, ◌≤◌, List, [], ◌∷◌, ◌++◌, length, get_or, map, refl, ap, sym, ◌∙◌, subst, arith, All, length-map, get_or-map, map-append, same_lists, All-nil, All-cons, All-head, All-tail, Node, IsCopy, row, children, child_room, weave, flat, IsFormed, before, after, most_in_row}
 use Rattle.std.proofs.lemmas.List.{map-id}
 use Rattle.iddqd_order.proofs.WeaveLemmas.{All-front, All-back, apart}
 use Rattle.iddqd_order.proofs.NodeLemmas.{lists, lists-one_more, formed-inner, flat-inner}
@@ -50,7 +50,7 @@ pub renamed :
     (f : ℕ → ℕ) (h : ℕ) (old new : Node)
     → IsFormed h old
     → row new ≡ map f (row old)
-    → arity h CAPACITY ≤ child_room new
+    → arity h most_in_row ≤ child_room new
     → length (children new) ≡ length (children old)
     → ((j : ℕ) (d : Node) → j < length (children old) → IsRenamed f (h - 1) (get_or (children old) j d)
     (get_or (children new) j d))
@@ -83,7 +83,7 @@ pub copied :
     (h : ℕ) (n m : Node)
     → IsFormed h n
     → row m ≡ row n
-    → arity h CAPACITY ≤ child_room m
+    → arity h most_in_row ≤ child_room m
     → length (children m) ≡ length (children n)
     → ((j : ℕ) (d : Node) → j < length (children n) → IsCopy (h - 1) (get_or (children n) j d)
     (get_or (children m) j d))

@@ -1,5 +1,5 @@
 -- How many indexes a tree has at least, and so how many levels it has and how many asks a search takes at most.
-use Rattle.iddqd_order.proofs.Names.{◌≡◌, ℕ, zero, suc, ◌+◌, ◌*◌, ◌/◌, ◌^◌, ◌<◌, ◌≤◌, List, [], ◌∷◌, length, All, arith, inl, inr, length-append, eqb, nat_eq, mul-le-mul_right, pow-suc, one-le-pow, pow-le-pow_right, IsDistinct, cases_lt, length-map, All-head, All-tail, All-map, Any-from_list_any, eqb-true, length-le_from_distinct_below, Node, digits, bound, row, children, weave, flat, IsFormed, LEAST, LEVELS, MOST_INDEXES, row_asks}
+use Rattle.iddqd_order.proofs.Names.{◌≡◌, ℕ, zero, suc, ◌+◌, ◌*◌, ◌/◌, ◌^◌, ◌<◌, ◌≤◌, List, [], ◌∷◌, length, All, arith, inl, inr, length-append, eqb, nat_eq, mul-le-mul_right, pow-suc, one-le-pow, pow-le-pow_right, IsDistinct, cases_lt, length-map, All-head, All-tail, All-map, Any-from_list_any, eqb-true, length-le_from_distinct_below, Node, digits, bound, row, children, weave, flat, IsFormed, least_in_row, most_levels, MOST_INDEXES, row_asks}
 use Rattle.iddqd_order.proofs.DigitLemmas.{digits-half}
 use Rattle.iddqd_order.proofs.NodeLemmas.{lists}
 
@@ -27,7 +27,7 @@ least m (suc h) n f le =
     let power : 6 ^ suc h ≡ 6 ^ h * 6 = pow-suc 6 h in
     let every : All (λ k. 6 ^ suc h ≤ length k + 1) (lists h (children n)) =
     All-map (λ k. 6 ^ suc h ≤ length k + 1) (λ k. flat h k) (children n)
-    (λ i d lt. let e = f.1 i d lt in let l = least LEAST h _ e.1 e.0 in omega arith) in
+    (λ i d lt. let e = f.1 i d lt in let l = least least_in_row h _ e.1 e.0 in omega arith) in
     let len = length-map (children n) (λ k. flat h k) in
     let w = wide (6 ^ suc h) (row n) (lists h (children n)) (omega arith) every in
     let more : (m + 1) * 6 ^ suc h ≤ length (lists h (children n)) * 6 ^ suc h =
@@ -66,13 +66,13 @@ pub twelve_levels :
     → IsFormed h n
     → 1 ≤ length (row n)
     → length (flat h n) ≤ MOST_INDEXES + 1
-    → h < LEVELS
+    → h < most_levels
 twelve_levels h n f one few =
-    elim (cases_lt h LEVELS) [
+    elim (cases_lt h most_levels) [
       | inl low ↦ low
       | inr high ↦
           (let many = least 1 h n f one in
-          let more : 6 ^ LEVELS ≤ 6 ^ h = pow-le-pow_right (omega arith) {i = LEVELS} {j = h} (omega arith) in
+          let more : 6 ^ most_levels ≤ 6 ^ h = pow-le-pow_right (omega arith) {i = most_levels} {j = h} (omega arith) in
           absurd (omega arith))
     ]
 

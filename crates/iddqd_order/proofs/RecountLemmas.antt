@@ -1,5 +1,5 @@
 -- How many inner nodes a removal, and what mends nodes, leave.
-use Rattle.iddqd_order.proofs.Names.{◌≡◌, ◌≢◌, ◌∙◌, ℕ, zero, suc, ◌+◌, ◌-◌, ◌<◌, ◌≤◌, List, [], ◌∷◌, ◌++◌, length, set, get_or, remove, min, refl, ap, arith, sub-one, length-set, Node, children, child_room, IsFormed, CHILDREN}
+use Rattle.iddqd_order.proofs.Names.{◌≡◌, ◌≢◌, ◌∙◌, ℕ, zero, suc, ◌+◌, ◌-◌, ◌<◌, ◌≤◌, List, [], ◌∷◌, ◌++◌, length, set, get_or, remove, min, refl, ap, arith, sub-one, length-set, Node, children, child_room, IsFormed, most_children}
 use Rattle.std.proofs.lemmas.List.Edits.{length-remove}
 use Rattle.std.proofs.lemmas.List.Sums.{sum_by-set, sum_by-remove, sum_by-append, sum_by-cons, get_or-le-sum_by}
 unfoldable use Rattle.iddqd_order.specs.Node.{inners}
@@ -57,7 +57,7 @@ pub children-some : (h : ℕ) (n : Node) → IsFormed h n → min 1 (length (chi
 children-some zero n f = omega (arith, (formed-sized zero n f).0.count)
 children-some (suc h) n f = omega (arith, (formed-sized (suc h) n f).0.count)
 
-pub children-room : (h : ℕ) (n : Node) → IsFormed h n → 0 < length (children n) → CHILDREN ≤ child_room n
+pub children-room : (h : ℕ) (n : Node) → IsFormed h n → 0 < length (children n) → most_children ≤ child_room n
 children-room zero n f some = absurd (omega (arith, (formed-sized zero n f).0.count))
 children-room (suc h) n f some = (formed-sized (suc h) n f).0.has_room
 

@@ -1,5 +1,5 @@
 -- What a removal below a node leaves of the node.
-use Rattle.iddqd_order.proofs.Names.{get_or_default, ◌≡◌, ◌≢◌, ℕ, zero, suc, ◌+◌, ◌-◌, ◌<◌, ◌≤◌, List, [], ◌∷◌, ◌++◌, length, take, drop, set, get_or, remove, slice_index, refl, ap, sym, ◌∙◌, subst, arith, sub-one, length-set, get_or-set_same, get_or-set_other, All, vec_capacity, Option, Some, None, map, length-map, map-set, length_push, nil_from_length, append-nil, take_more, take_all, drop_all, length-remove, Node, Node-F, roll-Node, row, children, child, child_room, weave, before, flat, IsInner, IsFormed, ReachesIndex, place_at_level, IsChild, MayLackOne, IsMended, IsEmptied, in_order, IsTree, LEAST, CHILDREN}
+use Rattle.iddqd_order.proofs.Names.{get_or_default, ◌≡◌, ◌≢◌, ℕ, zero, suc, ◌+◌, ◌-◌, ◌<◌, ◌≤◌, List, [], ◌∷◌, ◌++◌, length, take, drop, set, get_or, remove, slice_index, refl, ap, sym, ◌∙◌, subst, arith, sub-one, length-set, get_or-set_same, get_or-set_other, All, vec_capacity, Option, Some, None, map, length-map, map-set, length_push, nil_from_length, append-nil, take_more, take_all, drop_all, length-remove, Node, Node-F, roll-Node, row, children, child, child_room, weave, before, flat, IsInner, IsFormed, ReachesIndex, place_at_level, IsChild, MayLackOne, IsMended, IsEmptied, in_order, IsTree, least_in_row, most_children}
 use Rattle.iddqd_order.specs.Tree.{inners_in}
 use Rattle.std.specs.List.{sum_by}
 unfoldable use Rattle.iddqd_order.specs.Node.{inners}
@@ -59,8 +59,8 @@ took h i old g k xs left ne f some lt is_g same fk few items =
     let fs = formed-inner h old ne f in
     let w = fs.inner.within in let om = fs.inner.one_more in
     let n = length-set (children old) i k in
-    let five : LEAST ≤ length (row g) = rw is_g (fs.below i old lt).0 in
-    let four : LEAST ≤ length (row k) + 1 = omega arith in
+    let five : least_in_row ≤ length (row g) = rw is_g (fs.below i old lt).0 in
+    let four : least_in_row ≤ length (row k) + 1 = omega arith in
     record {
       ne = ne;
       inner = fs.inner;
@@ -337,7 +337,7 @@ bare (suc h) (Some m) n s e none =
 -- the only child of a root without indexes is a tree of one level less, and holds the same
 pub record IsLowered (h : ℕ) (r : Option Node) (n : Node) (left : List Node) (k : Node) : Type 0 where
   pub alone : left ≡ []
-  pub has_room : CHILDREN ≤ child_room n
+  pub has_room : most_children ≤ child_room n
   pub inners : inners_in r h ≡ inners (h - 1) k + 1
   pub tree : IsTree (Some k) (h - 1)
   pub items : flat (h - 1) k ≡ in_order r h
@@ -365,7 +365,7 @@ lowered (suc h) (Some m) n left k s e is =
     let five = c.0 in let high = e.2 in
     record {
       alone = alone;
-      has_room = subst (λ z. CHILDREN ≤ child_room z) same e.0.0.has_room;
+      has_room = subst (λ z. most_children ≤ child_room z) same e.0.0.has_room;
       inners = rw sub-one (omega (arith, ap (sum_by (λ k. inners h k)) one));
       tree = rw sub-one (c.1, omega arith, omega arith);
       items = rw sub-one (sym (ap (λ z. weave z (map (λ k. flat h k) (children m))) e.1 ∙ ap (λ z. weave [] (map (λ k. flat h k) z)) one));

@@ -108,7 +108,8 @@ module _ {F : Type 0} (g : Mut F (ℕ × Unit {0}) Bool) where
       subst (λ z. RetainsTo g f z (take t ys) now) (take_all p xs over) w.kept
 
 -- what holds of all indexes holds of those that are kept
-all_kept : (P : ℕ → Type 0) (asks : List (ℕ × Bool)) → All P (map (λ (a : ℕ × Bool). a.0) asks) → All P (kept_of asks)
+pub all_kept :
+    (P : ℕ → Type 0) (asks : List (ℕ × Bool)) → All P (map (λ (a : ℕ × Bool). a.0) asks) → All P (kept_of asks)
 all_kept P asks all =
     let each : All (λ (a : ℕ × Bool). P a.0) asks = λ j d lt. subst P (get_or-map (λ (a : ℕ × Bool). a.0) asks j d d.0 lt) (all j d.0 (omega (arith, length-map asks (λ (a : ℕ × Bool). a.0)))) in
     All-map P (λ (a : ℕ × Bool). a.0) (filter (λ (a : ℕ × Bool). a.1) asks)

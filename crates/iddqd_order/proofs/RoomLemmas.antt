@@ -1,5 +1,5 @@
 -- An insert below the capacity needs no more blocks than are reserved.
-use Rattle.iddqd_order.proofs.Names.{LEAST, LEVELS, INDEXES_OF_A_BLOCK, FREE_INDEXES}
+use Rattle.iddqd_order.proofs.Names.{least_in_row, most_levels, indexes_of_a_block, free_indexes}
 use Rattle.std.proofs.Common.{All, ◌≡◌, ℕ, zero, suc, ◌+◌, ◌-◌, ◌*◌, ◌<◌, ◌≤◌, List, [], ◌∷◌, true, false, nat_lt, Option, Some, None, length, map, sum_by, get_or, slice_index, arith, inl, inr}
 use Rattle.std.proofs.lemmas.Bool.{cases_lt, lt-ltb, le-ltb}
 use Rattle.std.proofs.lemmas.List.{length-append}
@@ -55,7 +55,7 @@ widened h k n p f g some le =
 path-full :
     (h k : ℕ) (n : Node) (p : List ℕ)
     → IsFormed h n
-    → LEAST ≤ length (row n)
+    → least_in_row ≤ length (row n)
     → ReachesGap h n p
     → 1 ≤ k
     → k ≤ h + 1
@@ -119,7 +119,7 @@ pub none-fresh :
     → ReachesGapIn r h p
     → FullIn k r h p
     → k ≤ h + 1
-    → length (in_order r h) < INDEXES_OF_A_BLOCK * blocks + FREE_INDEXES
+    → length (in_order r h) < indexes_of_a_block * blocks + free_indexes
     → blocks_for h k - (blocks - inners_in r h) ≡ 0
 none-fresh None h blocks k p t g full le lt = rw (t, full) (omega arith)
 none-fresh (Some n) h blocks k p t g full le lt = let w = root-full h k n p t.0 t.1 g le full in omega arith
@@ -133,7 +133,7 @@ pub move-most : (t : Order) → capacity t < length (order_of t) → move_blocks
 move-most t lt =
     let b : nat_lt (capacity t) (length (order_of t)) ≡ true = lt-ltb (capacity t) (length (order_of t)) lt in rw b
 
-pub move-few : (t : Order) → t.height < LEVELS → move_blocks t ≤ LEVELS
+pub move-few : (t : Order) → t.height < most_levels → move_blocks t ≤ most_levels
 move-few t low = elim (cases_lt (capacity t) (length (order_of t))) [ inl lt ↦ omega (arith, move-most t lt) | inr le ↦ omega (arith, move-none t le) ]
 
 -- what an insert takes is there: below the capacity beside the tree, and else in the blocks of a move

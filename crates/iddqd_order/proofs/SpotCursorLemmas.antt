@@ -1,5 +1,5 @@
 -- What a step of a spot cursor leaves, and where paths go after an index is replaced.
-use Rattle.iddqd_order.proofs.Names.{◌≡◌, ◌≢◌, ◌∙◌, ℕ, zero, suc, ◌+◌, ◌-◌, ◌<◌, ◌≤◌, List, [], ◌++◌, length, get_or, set, slice_index, slice_set, refl, sym, ap, subst, arith, Option, Some, None, is_some, true, false, sub-one, length-append, length-set, get_or-set_same, get_or-set_other, inl, inr, cases_eq, length-map, map-set, All-set, Node, SpotCursor, row, children, child, child_room, weave, before, after, flat, IsFormed, ReachesIndex, place_at_level, StepsToNext, SamePlaces, IsSpotCursor, get_or_default, add-one, set-get_or, CAPACITY, LEAST, LEVELS}
+use Rattle.iddqd_order.proofs.Names.{◌≡◌, ◌≢◌, ◌∙◌, ℕ, zero, suc, ◌+◌, ◌-◌, ◌<◌, ◌≤◌, List, [], ◌++◌, length, get_or, set, slice_index, slice_set, refl, sym, ap, subst, arith, Option, Some, None, is_some, true, false, sub-one, length-append, length-set, get_or-set_same, get_or-set_other, inl, inr, cases_eq, length-map, map-set, All-set, Node, SpotCursor, row, children, child, child_room, weave, before, after, flat, IsFormed, ReachesIndex, place_at_level, StepsToNext, SamePlaces, IsSpotCursor, get_or_default, add-one, set-get_or, most_in_row, least_in_row, most_levels}
 use Rattle.iddqd_order.proofs.NodeLemmas.{lists, AreChildren, formed-within, formed-leaf, leaf-formed, flat-leaf, formed-inner, inner-formed, flat-inner}
 use Rattle.iddqd_order.proofs.RemovalLemmas.{GoesBelow, goes-below, ends-inner, holds-leaf, holds-at, holds-level, holds-below, place_at_level-leaf, place_at_level-at, place_at_level-below}
 use Rattle.iddqd_order.proofs.DescentLemmas.{after-last, before-next, lists-one_more, lists-at, child-formed, child-read, child_is, holds-here, below-holds, place_at_level-row}
@@ -168,7 +168,7 @@ holds-row (suc h) l i n p e ei w = rw ei (holds-at l (suc h) n p (λ z. absurd (
 pub record EndsHere (h l i : ℕ) (n : Node) (p : List ℕ) : Type 0 where
   pub level : h ≡ l
   pub within : i < length (row n)
-  pub low : i < CAPACITY
+  pub low : i < most_in_row
   pub spot_is : slice_index (flat h n) (place_at_level l h n p) ≡ slice_index (row n) i
 
 pub ends-here :
@@ -295,7 +295,7 @@ put-inner :
     → length (row m) ≡ length (row n)
     → children m ≡ set (children n) i k
     → child_room n ≤ child_room m
-    → (LEAST ≤ length (row k)) × IsFormed (h - 1) k
+    → (least_in_row ≤ length (row k)) × IsFormed (h - 1) k
     → SamePlaces (h - 1) (child n i) k
     → weave (row m) (lists (h - 1) (set (children n) i k)) ≡ set (weave (row n) (lists (h - 1) (children n)))
     (place_at_level l h n p) x
@@ -306,7 +306,7 @@ put-inner h l i x n k m p ne f here rows ek more child_is same woven =
     let count = ap length ek ∙ length-set (children n) i k in
     let formed : IsFormed h m =
     inner-formed h m ne (record { within = omega arith; one_more = omega arith; has_room = omega arith })
-    (subst (AreChildren (h - 1)) (sym ek) (All-set (λ z. (LEAST ≤ length (row z)) × IsFormed (h - 1) z) (children n) i k child_is fs.below)) in
+    (subst (AreChildren (h - 1)) (sym ek) (All-set (λ z. (least_in_row ≤ length (row z)) × IsFormed (h - 1) z) (children n) i k child_is fs.below)) in
     let items : flat h m ≡ set (flat h n) (place_at_level l h n p) x =
     flat-inner h m ne ∙ ap (λ z. weave (row m) (lists (h - 1) z)) ek ∙ woven
     ∙ ap (λ z. set z (place_at_level l h n p) x) (sym (flat-inner h n ne)) in
@@ -392,8 +392,8 @@ pub IsSpotCursor-first :
     (h : ℕ) (n : Node) (w : SpotCursor)
     → IsFormed h n
     → 1 ≤ length (row n)
-    → h < LEVELS
-    → length w.spot.path ≡ LEVELS
+    → h < most_levels
+    → length w.spot.path ≡ most_levels
     → ((l : ℕ) → slice_index w.spot.path l ≡ 0)
     → w.spot.level ≡ 0
     → w.place ≡ 0

@@ -1,5 +1,5 @@
 -- What an insert leaves of a tree.
-use Rattle.iddqd_order.proofs.Names.{ReachesGapIn, place_in, IsPlaceIn, ReachesIn, place_at_level_in, ◌≡◌, ℕ, ◌+◌, ◌-◌, ◌<◌, ◌≤◌, ◌≢◌, List, [], ◌∷◌, length, refl, ap, ◌∙◌, arith, Option, Some, None, insert, length-insert, All-cons, All-nil, Node, row, children, child_room, flat, IsFormed, ReachesGap, place, in_order, IsTree, IsChild, CHILDREN, LEVELS, MOST_INDEXES, Stop, InGap}
+use Rattle.iddqd_order.proofs.Names.{ReachesGapIn, place_in, IsPlaceIn, ReachesIn, place_at_level_in, ◌≡◌, ℕ, ◌+◌, ◌-◌, ◌<◌, ◌≤◌, ◌≢◌, List, [], ◌∷◌, length, refl, ap, ◌∙◌, arith, Option, Some, None, insert, length-insert, All-cons, All-nil, Node, row, children, child_room, flat, IsFormed, ReachesGap, place, in_order, IsTree, IsChild, most_children, most_levels, MOST_INDEXES, Stop, InGap}
 use Rattle.iddqd_order.proofs.NodeLemmas.{AreChildren, leaf-formed, flat-leaf, inner-formed, flat-inner, place-within, place_at_level-within}
 use Rattle.iddqd_order.proofs.InsertLemmas.{Split}
 use Rattle.iddqd_order.proofs.ReckoningLemmas.{twelve_levels}
@@ -10,7 +10,7 @@ use Rattle.iddqd_order.proofs.RecountLemmas.{inners-inner}
 
 -- a root at level h, and the indexes of its tree
 pub record IsRoot (h : ℕ) (n : Node) (xs : List ℕ) : Type 0 where
-  pub low : h < LEVELS
+  pub low : h < most_levels
   pub formed : IsFormed h n
   pub root : 1 ≤ length (row n)
   pub items : flat h n ≡ xs
@@ -33,7 +33,7 @@ pub new_root :
     → Split h old lower m upper p x
     → row new ≡ m ∷ []
     → children new ≡ lower ∷ upper ∷ []
-    → CHILDREN ≤ child_room new
+    → most_children ≤ child_room new
     → length (flat h old) ≤ MOST_INDEXES
     → IsRoot (h + 1) new (insert (flat h old) (place h old p) x)
 new_root h old lower new m upper p x f g c er ek rm small =
@@ -69,7 +69,7 @@ new_root-inners h old lower new m upper p x c ek =
     omega (arith, inners-inner (h + 1) new ne)
 
 -- a tree has at most twelve levels
-pub IsTree-low : (r : Option Node) (h : ℕ) → IsTree r h → h < LEVELS
+pub IsTree-low : (r : Option Node) (h : ℕ) → IsTree r h → h < most_levels
 IsTree-low None h t = omega arith
 IsTree-low (Some n) h t = t.2
 

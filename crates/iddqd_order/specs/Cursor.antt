@@ -9,7 +9,7 @@ use Rattle.iddqd_order.specs.declared.btree_table.cursor.End.TheVariants.{Front,
 use Rattle.iddqd_order.specs.declared.btree_table.node.Node.{Node}
 use Rattle.iddqd_order.specs.Node.{row, child, flat, ReachesGap, place}
 use Rattle.iddqd_order.specs.Tree.{ReachesGapIn, place_in}
-use Rattle.iddqd_order.specs.declared.btree_table.path.TheConstants.{LEVELS}
+use Rattle.iddqd_order.specs.Shape.{most_levels}
 
 -- r is how gap i compares with gap j
 abbrev pub Compares : Ordering → ℕ → ℕ → Type 0
@@ -83,7 +83,7 @@ to_gap path at = slice_set path 0 at
 
 -- the path goes to a leaf that has a gap at the place `at`
 pub record IsGap (t : Option Node) (h : ℕ) (path : List ℕ) (at : ℕ) : Type 0 where
-  pub whole : length path ≡ LEVELS
+  pub whole : length path ≡ most_levels
   pub goes : ReachesGapIn t h (to_gap path at)
 
 -- the path goes to the leaf `row`, which has a gap at the place `at`

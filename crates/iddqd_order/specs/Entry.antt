@@ -13,7 +13,7 @@ use Rattle.iddqd_order.specs.declared.btree_table.entry.Entry.{Entry}
 use Rattle.iddqd_order.specs.declared.btree_table.entry.Entry.TheVariants.{Occupied, Vacant}
 use Rattle.iddqd_order.specs.declared.btree_table.entry.OccupiedEntry.{OccupiedEntry}
 use Rattle.iddqd_order.specs.declared.btree_table.entry.VacantEntry.{VacantEntry}
-use Rattle.iddqd_order.specs.declared.btree_table.path.TheConstants.{LEVELS}
+use Rattle.iddqd_order.specs.Shape.{most_levels}
 
 -- the table that an occupied entry borrows
 abbrev pub occupied_table : OccupiedEntry → MutBor Order
@@ -66,4 +66,4 @@ pub record PreparesFill (v : VacantEntry) (ix : ℕ) (p : Prepared) : Type 0 whe
   pub table : order_of (table_of p).now ≡ order_of (vacant_table v).now
   pub index : index_of p ≡ ix
   pub place : place_of p ≡ vacant_place v
-  pub few_blocks : blocks_of p ≤ LEVELS
+  pub few_blocks : blocks_of p ≤ most_levels

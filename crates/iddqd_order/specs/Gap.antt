@@ -1,9 +1,9 @@
 -- What a contract sees of a gap, which borrows no table.
-use Rattle.std.specs.Prelude.{◌≡◌, ◌≢◌, ◌+◌, ◌≤◌, ℕ, All, Contains, Some, None, Result, Ok, Err, length}
+use Rattle.std.specs.Prelude.{◌≡◌, ◌≢◌, ◌+◌, ◌<◌, ◌≤◌, ℕ, All, Contains, Some, None, Result, Ok, Err, length}
 use Rattle.std.specs.Fn.{Mut}
 use Rattle.std.specs.declared.cmp.Ordering.{Ordering}
 use Rattle.std.specs.declared.cmp.Ordering.TheVariants.{Equal}
-use Rattle.iddqd_order.specs.MapBTreeTable.{Order, order_of, fresh_for}
+use Rattle.iddqd_order.specs.MapBTreeTable.{Order, order_of, fresh_for, move_blocks}
 use Rattle.iddqd_order.specs.Search.{SearchAsks, IsSteady, IsSteadyRising, IsPlace, with_ties}
 use Rattle.iddqd_order.specs.Tree.{IsTree, ReachesGapIn, FullIn, place_in}
 use Rattle.iddqd_order.specs.declared.btree_table.asking.Asking.{Asking}
@@ -23,6 +23,13 @@ gap_place t gap = place_in t.root t.height gap.path
 -- how many blocks an insert at the gap takes beyond the spare ones of the table
 abbrev pub gap_blocks : Order → Gap → ℕ
 gap_blocks t gap = fresh_for t gap.full
+
+-- Blocks that were allocated for a move in the old table are enough for a move in the new one. If the new table has
+-- fewer indexes, they are also enough for an insert at any of its gaps.
+pub record NeedsNoMoreBlocks (old new : Order) : Type 0 where
+  pub for_move : move_blocks new ≤ move_blocks old
+  pub for_insert : length (order_of new) < length (order_of old) →
+      (gap : Gap) → Fits new gap → gap_blocks new gap ≤ move_blocks old
 
 -- A search in the indexes of t; `read` turns an answer into an `Ordering`. It returns `Err` of a stored index: if the
 -- answers are steady, the answer there is Equal. Or it returns `Ok` of a gap: if the answers also rise, that is where

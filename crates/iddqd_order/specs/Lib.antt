@@ -11,15 +11,21 @@ pub mod Iter
 pub mod KeyOrder
 pub mod MapBTreeTable
 pub mod Node
+pub mod OrderedIter
+pub mod OrderedTable
 pub mod PreparedBTreeInsert
 pub mod PreparedBTreeMove
 pub mod PreparedBTreeRemove
+pub mod PreparedInsert
+pub mod PreparedRemove
+pub mod Prepares
 pub mod Range
 pub mod Removal
 pub mod Reserve
 pub mod Retain
 pub mod Row
 pub mod Search
+pub mod Shape
 pub mod Sizes
 pub mod State
 pub mod Tree
@@ -28,6 +34,7 @@ pub mod SpotCursor
 pub use Rattle.iddqd.specs.Compaction
 pub use Rattle.iddqd.specs.Compaction.{remapped, CanRemap}
 pub use Rattle.iddqd_order.specs.MapBTreeTable.{order_of, without, capacity, room, needed_blocks, capacity_for}
+pub use Rattle.iddqd_order.specs.Gap.{NeedsNoMoreBlocks}
 pub use Rattle.iddqd_order.specs.KeyOrder.{IsInKeyOrder}
 pub use Rattle.iddqd_order.specs.Search.{CanSearch, IsSteadyRising, with_ties, IsPlace}
 pub use Rattle.iddqd_order.specs.Iter.{indexes_left}

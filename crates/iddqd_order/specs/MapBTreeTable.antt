@@ -9,7 +9,7 @@ use Rattle.iddqd_order.specs.declared.btree_table.path.Spot.{Spot}
 use Rattle.iddqd_order.specs.Node.{AtIndex}
 use Rattle.iddqd_order.specs.Tree.{in_order, inners_in, blocks_for, ReachesIndexIn, place_at_level_in, ReachesIn-prop}
 pub use Rattle.iddqd.specs.Compaction.{sentinel}
-use Rattle.iddqd_order.specs.declared.btree_table.reserve.TheConstants.{INDEXES_OF_A_BLOCK, FREE_INDEXES}
+use Rattle.iddqd_order.specs.Shape.{indexes_of_a_block, free_indexes}
 
 -- The model of a table: its root, the number of levels above its leaves, and how many blocks are reserved for its inner
 -- nodes. The list of its indexes, in their order, is `order_of`.
@@ -29,11 +29,11 @@ pub record HasSameTree (t u : Order) : Type 0 where
 
 -- the number of indexes for which `blocks` blocks always suffice
 abbrev pub capacity_of : ℕ → ℕ
-capacity_of blocks = INDEXES_OF_A_BLOCK * blocks + FREE_INDEXES
+capacity_of blocks = indexes_of_a_block * blocks + free_indexes
 
 -- how many blocks `indexes` indexes need at most
 abbrev pub needed_blocks : ℕ → ℕ
-needed_blocks indexes = (indexes + (INDEXES_OF_A_BLOCK - FREE_INDEXES - 1)) / INDEXES_OF_A_BLOCK
+needed_blocks indexes = (indexes + (indexes_of_a_block - free_indexes - 1)) / indexes_of_a_block
 
 -- the capacity of a table that is made for `indexes` indexes
 abbrev pub capacity_for : ℕ → ℕ

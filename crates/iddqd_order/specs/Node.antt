@@ -5,8 +5,7 @@ use Rattle.std.specs.List.{insert}
 use Rattle.std.specs.declared.alloc.Global.{Global}
 use Rattle.iddqd_order.specs.declared.btree_table.node.Node.{Node}
 use Rattle.iddqd_order.specs.declared.btree_table.node.Node.TheViews.{out-Node}
-use Rattle.iddqd_order.specs.declared.btree_table.node.TheConstants.{CHILDREN}
-use Rattle.iddqd_order.specs.declared.btree_table.row.TheConstants.{CAPACITY, LEAST}
+use Rattle.iddqd_order.specs.Shape.{most_children, most_in_row, least_in_row}
 
 -- the indexes that a node itself holds
 abbrev pub row : Node → List ℕ
@@ -58,19 +57,19 @@ inners (suc h) n = suc (sum_by (λ k. inners h k) (children n))
 
 -- at most eleven indexes, and no child
 pub record IsLeaf (n : Node) : Type 0 where
-  pub within : length (row n) ≤ CAPACITY
+  pub within : length (row n) ≤ most_in_row
   pub childless : children n ≡ []
 
 -- at most eleven indexes, one child more than indexes, and room for twelve children
 pub record IsInner (n : Node) : Type 0 where
-  pub within : length (row n) ≤ CAPACITY
+  pub within : length (row n) ≤ most_in_row
   pub one_more : length (children n) ≡ length (row n) + 1
-  pub has_room : CHILDREN ≤ child_room n
+  pub has_room : most_children ≤ child_room n
 
 -- all leaves are equally deep, and each node below the root has five indexes or more
 unfoldable pub IsFormed : ℕ → Node → Type 0
 IsFormed zero n = IsLeaf n
-IsFormed (suc h) n = IsInner n × All (λ k. (LEAST ≤ length (row k)) × IsFormed h k) (children n)
+IsFormed (suc h) n = IsInner n × All (λ k. (least_in_row ≤ length (row k)) × IsFormed h k) (children n)
 
 -- where a path ends: at an index, or else in a gap
 pub data Stop : Type 0 where
@@ -118,7 +117,7 @@ place h n p = place_at_level 0 h n p
 
 -- n, a node at level l, is full if l is below k, and isn't full if l is k
 abbrev pub FullBelow : ℕ → ℕ → Node → Type 0
-FullBelow k l n = (l < k → CAPACITY ≤ length (row n)) × (l ≡ k → length (row n) < CAPACITY)
+FullBelow k l n = (l < k → most_in_row ≤ length (row n)) × (l ≡ k → length (row n) < most_in_row)
 
 -- On a path, the nodes at levels below k are full, and the node at level k isn't. If k is the number of levels, all
 -- nodes are full.
@@ -128,7 +127,7 @@ IsFullBelow k (suc h) n p = FullBelow k (suc h) n × IsFullBelow k h (child n (s
 
 -- an empty block with room for twelve children
 abbrev pub IsSpare : Vec Node Global → Type 0
-IsSpare s = (s.items ≡ []) × (CHILDREN ≤ vec_capacity s)
+IsSpare s = (s.items ≡ []) × (most_children ≤ vec_capacity s)
 
 -- the index x was inserted at the path's gap; the node is still well-formed, and has `more` more inner nodes
 pub record IsPut (h : ℕ) (old new : Node) (p : List ℕ) (x more : ℕ) : Type 0 where

@@ -1,16 +1,16 @@
 -- What a contract sees of a `PreparedBTreeInsert`.
-use Rattle.std.specs.Prelude.{◌≡◌, ◌≤◌, ℕ, List, Some, Result, length}
+use Rattle.std.specs.Prelude.{◌≡◌, ◌≤◌, ℕ, List, Result}
 use Rattle.std.specs.Borrow.{RestsIfErr, Fml, MutBor}
 use Rattle.std.specs.Fn.{Mut}
 use Rattle.std.specs.declared.cmp.Ordering.{Ordering}
 use Rattle.iddqd_order.specs.Gap.{gap_place}
 use Rattle.iddqd_order.specs.MapBTreeTable.{Order, order_of}
-use Rattle.iddqd_order.specs.Search.{IsSteadyRising, IsPlace, with_ties}
+use Rattle.iddqd_order.specs.Prepares.{PreparesInsertAt}
 use Rattle.iddqd_order.specs.contracts.btree_table.blocks.BlocksHoldsBlocks.TheImpl.{ghosts}
 use Rattle.iddqd_order.specs.contracts.btree_table.table.MapBTreeTable.{the_row}
 use Rattle.iddqd_order.specs.declared.btree_table.asking.Asking.{Asking}
 use Rattle.iddqd_order.specs.declared.btree_table.prepared_insert.PreparedBTreeInsert.{PreparedBTreeInsert}
-use Rattle.iddqd_order.specs.declared.btree_table.path.TheConstants.{LEVELS}
+use Rattle.iddqd_order.specs.Shape.{most_levels}
 
 -- a prepared insert with its blocks, which a contract sees as their number
 abbrev pub Prepared : Type 0
@@ -36,13 +36,9 @@ blocks_of p = p.blocks
 abbrev pub unchanged_if_out_of_memory : {E : Type 0} → MutBor Order → Result Prepared E → Fml
 unchanged_if_out_of_memory t r = RestsIfErr the_row t (λ p. p.table.ghost_name) r (λ n. n ≡ t.now)
 
--- An insert of ix among the indexes xs is prepared, and nothing is added yet. If the answers are steady and, with ties
--- broken, rise, ix will stand where Greater then ends. `read` turns an answer into an `Ordering`.
+-- an insert of ix among the indexes xs is prepared, with blocks for one path at most; `read` turns an answer into an
+-- `Ordering`
 module _ {F R : Type 0} (g : Mut F (ℕ × Unit {0}) R) (read : R → Ordering) (xs : List ℕ) (ix : ℕ) where
   pub record PreparesInsert (old : Asking F) (p : Prepared) : Type 0 where
-    pub table : order_of (table_of p).now ≡ xs
-    pub index : index_of p ≡ ix
-    pub within : place_of p ≤ length xs
-    pub few_blocks : blocks_of p ≤ LEVELS
-    pub place : (answer : ℕ → Ordering) → IsSteadyRising g xs (Some ix) read answer old →
-        IsPlace (with_ties (Some ix) answer) xs (place_of p)
+    pub prepared : PreparesInsertAt g read xs ix old (order_of (table_of p).now) (index_of p) (place_of p)
+    pub few_blocks : blocks_of p ≤ most_levels

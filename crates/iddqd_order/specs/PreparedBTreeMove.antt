@@ -9,7 +9,7 @@ use Rattle.iddqd_order.specs.contracts.btree_table.blocks.BlocksHoldsBlocks.TheI
 use Rattle.iddqd_order.specs.contracts.btree_table.table.MapBTreeTable.{the_row}
 use Rattle.iddqd_order.specs.declared.btree_table.asking.Asking.{Asking}
 use Rattle.iddqd_order.specs.declared.btree_table.prepared_move.PreparedBTreeMove.{PreparedBTreeMove}
-use Rattle.iddqd_order.specs.declared.btree_table.path.TheConstants.{LEVELS}
+use Rattle.iddqd_order.specs.Shape.{most_levels}
 
 -- a prepared move with its blocks, which a contract sees as their number
 abbrev pub PreparedMove : Type 0
@@ -39,7 +39,7 @@ unchanged_if_out_of_memory t r = RestsIfErr the_row t (λ p. p.table.ghost_name)
 pub record PreparesMove (xs : List ℕ) (ix : ℕ) (p : PreparedMove) : Type 0 where
   pub table : order_of (table_of p).now ≡ xs
   pub index : index_of p ≡ ix
-  pub few_blocks : blocks_of p ≤ LEVELS
+  pub few_blocks : blocks_of p ≤ most_levels
 
 -- ix is inserted among the indexes xs. If the answers are steady and, with ties broken, rise, it stands where Greater
 -- then ends. `read` turns an answer into an `Ordering`.

@@ -3,25 +3,24 @@ use Rattle.std.specs.Prelude.{◌≡◌, ◌≢◌, ℕ, ◌+◌, ◌<◌, ◌�
 use Rattle.iddqd_order.specs.declared.btree_table.node.Node.{Node}
 use Rattle.iddqd_order.specs.Node.{row, weave, flat, inners, IsFormed}
 use Rattle.iddqd_order.specs.Reserve.{Reserved}
-use Rattle.iddqd_order.specs.declared.btree_table.path.TheConstants.{LEVELS}
-use Rattle.iddqd_order.specs.declared.btree_table.row.TheConstants.{CAPACITY, LEAST}
+use Rattle.iddqd_order.specs.Shape.{most_levels, most_in_row, least_in_row}
 
 -- a well-formed node other than the root, with h levels below it
 abbrev pub IsChild : ℕ → Node → Type 0
-IsChild h k = (LEAST ≤ length (row k)) × IsFormed h k
+IsChild h k = (least_in_row ≤ length (row k)) × IsFormed h k
 
 -- a node's indexes and its children: well-formed, except that child i may have one index too few
 pub record MayLackOne (h i : ℕ) (xs : List ℕ) (ks : List Node) : Type 0 where
   pub some : 1 ≤ length xs
-  pub within : length xs ≤ CAPACITY
+  pub within : length xs ≤ most_in_row
   pub one_more : length ks ≡ length xs + 1
   pub here : i < length ks
-  pub at : (d : Node) → (LEAST ≤ length (row (slice_index_or ks i d)) + 1) × IsFormed h (slice_index_or ks i d)
+  pub at : (d : Node) → (least_in_row ≤ length (row (slice_index_or ks i d)) + 1) × IsFormed h (slice_index_or ks i d)
   pub others : (j : ℕ) (d : Node) → j < length ks → j ≢ i → IsChild h (slice_index_or ks j d)
 
 -- what mending makes of a node's indexes and its children: they are well-formed, and all indexes are in the same order
 pub record IsMended (h : ℕ) (xs : List ℕ) (ks : List Node) (new_xs : List ℕ) (new_ks : List Node) : Type 0 where
-  pub within : length new_xs ≤ CAPACITY
+  pub within : length new_xs ≤ most_in_row
   pub fewer : length xs ≤ length new_xs + 1
   pub one_more : length new_ks ≡ length new_xs + 1
   pub below : All (IsChild h) new_ks
@@ -39,4 +38,4 @@ pub record Recounts (r new : Reserved) (was now : ℕ) : Type 0 where
 -- a root without indexes
 abbrev pub IsEmptied : Option Node → ℕ → Type 0
 IsEmptied None h = ⊥
-IsEmptied (Some n) h = IsFormed h n × (row n ≡ []) × (h < LEVELS)
+IsEmptied (Some n) h = IsFormed h n × (row n ≡ []) × (h < most_levels)

@@ -1,7 +1,7 @@
 -- How a table takes blocks in advance, and gives them back.
 use Rattle.std.specs.Prelude.{◌≡◌, ◌+◌, ◌<◌, ◌≤◌, ℕ, [], min, max, Result, IsOk, IfOk, OnOk, OnErr, length}
 use Rattle.iddqd_order.specs.MapBTreeTable.{Order, order_of, capacity, room, capacity_for, HasSameTree}
-use Rattle.iddqd_order.specs.declared.btree_table.reserve.TheConstants.{FREE_INDEXES}
+use Rattle.iddqd_order.specs.Shape.{free_indexes}
 
 -- A new table is made for `indexes` indexes: its capacity is that of the blocks that they need. If they need none, the
 -- call takes no memory and succeeds.
@@ -9,7 +9,7 @@ pub record TakesRoom {E : Type 0} (indexes : ℕ) (result : Result Order E) : Ty
   pub empty : IfOk result (λ t. order_of t ≡ [])
   pub made : IfOk result (λ t. capacity t ≡ capacity_for indexes)
   pub roomy : IfOk result (λ t. indexes ≤ capacity t)
-  pub succeeds : indexes ≤ FREE_INDEXES → IsOk result
+  pub succeeds : indexes ≤ free_indexes → IsOk result
 
 -- Room was made for `additional` more indexes: the capacity is that of the blocks that all indexes will then need. On
 -- an error nothing changes. If there was room already, the call succeeds and nothing changes.

@@ -3,7 +3,7 @@ use Rattle.std.specs.Prelude.{◌≡◌, ℕ, ◌+◌, ◌<◌, ◌≤◌, List,
 use Rattle.iddqd_order.specs.declared.btree_table.node.Node.{Node}
 use Rattle.iddqd_order.specs.declared.btree_table.spot_cursor.SpotCursor.{SpotCursor}
 use Rattle.iddqd_order.specs.Node.{flat, ReachesIndex, place_at_level}
-use Rattle.iddqd_order.specs.declared.btree_table.path.TheConstants.{LEVELS}
+use Rattle.iddqd_order.specs.Shape.{most_levels}
 
 -- A step from the index to which the path p goes at level l. With `Some m` the path q goes to the next index, at level
 -- m. With `None` there is no further index below n.
@@ -13,7 +13,7 @@ StepsToNext h n l p (Some m) q = ReachesIndex m h n q × (place_at_level m h n q
 
 -- the cursor's path goes, at its level, to the index at its place, if the place isn't the end of the list
 pub record IsSpotCursor (h : ℕ) (n : Node) (w : SpotCursor) : Type 0 where
-  pub path : length w.spot.path ≡ LEVELS
+  pub path : length w.spot.path ≡ most_levels
   pub within : w.place ≤ length (flat h n)
   pub holds : w.place < length (flat h n) → ReachesIndex w.spot.level h n w.spot.path
   pub leads : w.place < length (flat h n) → place_at_level w.spot.level h n w.spot.path ≡ w.place

@@ -6,7 +6,7 @@ use native.Mathlib.Nat.{ℕ_set}
 use Rattle.iddqd.specs.Compaction.{sentinel}
 use Rattle.iddqd_order.specs.declared.btree_table.node.Node.{Node}
 use Rattle.iddqd_order.specs.Node.{row, child, flat, inners, IsFormed, Stop, AtIndex, InGap, IsPlaceIn, Passes, Reaches, place_at_level, FullBelow, IsFullBelow}
-use Rattle.iddqd_order.specs.declared.btree_table.path.TheConstants.{LEVELS}
+use Rattle.iddqd_order.specs.Shape.{most_levels}
 
 -- its indexes, in order
 abbrev pub in_order : Option Node → ℕ → List ℕ
@@ -21,7 +21,7 @@ inners_in (Some n) h = inners h n
 -- the root has an index, and there are at most twelve levels
 abbrev pub IsTree : Option Node → ℕ → Type 0
 IsTree None h = h ≡ 0
-IsTree (Some n) h = IsFormed h n × (1 ≤ length (row n)) × (h < LEVELS)
+IsTree (Some n) h = IsFormed h n × (1 ≤ length (row n)) × (h < most_levels)
 
 -- a path goes down to level l, and there to an index, or else to a gap; in an empty tree, to its only gap
 abbrev pub ReachesIn : Stop → ℕ → Option Node → ℕ → List ℕ → Type 0

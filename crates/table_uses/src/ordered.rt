@@ -34,6 +34,52 @@ pub fn find_number(table: &MapBTreeTable, numbers: &[u32], sought: u32) -> Optio
     table.find_index(&Same(&sought), &mut asking)
 }
 
+/// Adds an index at the place of its number, ties by index. A table that is in order by the numbers stays so.
+pub fn add_number(
+    table: &mut MapBTreeTable,
+    numbers: &[u32],
+    ix: ItemIndex,
+) -> Result<(), AllocError>
+    requires live { All (λ at. at < length numbers.now) (order_of table.old) }
+    requires own { ix < length numbers.now }
+    requires assigned { ix ≢ sentinel }
+    requires absent { Contains (order_of table.old) ix → ⊥ }
+    requires in_order { IsInKeyOrder nat_cmp (slice_index numbers.now) (order_of table.old) }
+    ensures added { OnOk result ((at : ℕ) × (order_of table.new ≡ insert (order_of table.old) at ix)) }
+    ensures in_order { OnOk result (IsInKeyOrder nat_cmp (slice_index numbers.now) (order_of table.new)) }
+    ensures refused { OnErr result (order_of table.new ≡ order_of table.old) }
+{
+    let number = numbers[ix.as_u32() as usize];
+    let mut asking = Asking::new(
+        |at: ItemIndex|
+            requires { at < length numbers.now }
+            ensures { result.now ≡ slice_index numbers.entry.now at }
+        { &numbers[at.as_u32() as usize] },
+    );
+    table
+        .prepare_insert(ix, &Same(&number), &mut asking)?
+        .insert();
+    Ok(())
+}
+
+/// Removes a stored index, which is found by its number. A table that is in order by the numbers stays so.
+pub fn take_number(table: &mut MapBTreeTable, numbers: &[u32], ix: ItemIndex)
+    requires live { All (λ at. at < length numbers.now) (order_of table.old) }
+    requires stored { Contains (order_of table.old) ix }
+    requires in_order { IsInKeyOrder nat_cmp (slice_index numbers.now) (order_of table.old) }
+    ensures taken { order_of table.new ≡ without (order_of table.old) ix }
+    ensures in_order { IsInKeyOrder nat_cmp (slice_index numbers.now) (order_of table.new) }
+{
+    let number = numbers[ix.as_u32() as usize];
+    let mut asking = Asking::new(
+        |at: ItemIndex|
+            requires { at < length numbers.now }
+            ensures { result ≡ slice_index numbers.entry.now at }
+        { numbers[at.as_u32() as usize] },
+    );
+    table.prepare_remove(ix, &number, &mut asking).remove();
+}
+
 /// Adds an index at the place to which the answers lead. If they rise, that is its place in order, ties by index.
 pub fn add_by<F: FnMut(ItemIndex) -> Ordering>(
     table: &mut MapBTreeTable,

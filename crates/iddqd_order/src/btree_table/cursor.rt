@@ -5,13 +5,14 @@
 //! leaf took twice as long for 1,000 indexes, and 1.4 times as long for a million.
 ghost use Rattle.std.specs.Prelude.{◌≡◌, ℕ, ◌<◌, ◌≤◌, length, slice_index, IfSome, IsNone};
 ghost use Rattle.iddqd_order.specs.Cursor.{AreBeside, AtEdge, Compares, StepsOver, Steps, IsGap, Stands, edge_of, gap_of, leaf, leaf_parent, opposite, to_gap};
+ghost use Rattle.iddqd_order.specs.Shape.{most_in_row, most_levels};
 ghost use Rattle.iddqd_order.specs.declared.btree_table.node.Node.{Node as NodeOf};
 ghost use Rattle.iddqd_order.specs.Node.{flat, ReachesGap, IsFormed, place};
 ghost use Rattle.iddqd_order.specs.Tree.{IsTree, ReachesGapIn, in_order, place_in};
 
 use crate::btree_table::node::Node;
-use crate::btree_table::path::{LEVELS, Path};
-use crate::btree_table::row::{CAPACITY, Row};
+use crate::btree_table::path::Path;
+use crate::btree_table::row::Row;
 use iddqd::item_index::ItemIndex;
 use std::cmp::Ordering;
 
@@ -181,7 +182,7 @@ impl<'a> Cursor<'a> {
 
     // The path to the gap, with `at` as its entry for level 0.
     pub(super) fn gap(&self) -> Path
-        requires { self.now.at ≤ CAPACITY }
+        requires { self.now.at ≤ most_in_row }
         ensures { result ≡ to_gap self.now.path self.now.at }
     {
         let mut path = self.path;
@@ -206,7 +207,7 @@ impl<'a> Cursor<'a> {
 impl Path {
     // Compares the gaps to which two paths go, by their places from `level` down.
     pub(super) fn compare(&self, other: &Path, level: usize) -> Ordering
-        requires { level < LEVELS }
+        requires { level < most_levels }
         ensures { (n : NodeOf) → IsFormed level n → ReachesGap level n self.now → ReachesGap level n other.now →
             Compares result (place level n self.now) (place level n other.now) }
     {
@@ -245,10 +246,10 @@ impl Node {
     // Extends the path to the first or last gap below this node, and returns the leaf of that gap.
     fn edge(&self, level: usize, path: &mut Path, end: End) -> &[ItemIndex]
         requires formed { IsFormed level self.now }
-        requires levels { level < LEVELS }
-        requires path { length path.old ≡ LEVELS }
+        requires levels { level < most_levels }
+        requires path { length path.old ≡ most_levels }
         ensures edge { AtEdge end level self.now result.now path.new }
-        ensures path { length path.new ≡ LEVELS }
+        ensures path { length path.new ≡ most_levels }
         ensures above { (m : ℕ) → level < m → slice_index path.new m ≡ slice_index path.old m }
     {
         let place = edge_place(&self.row, end);
@@ -262,7 +263,7 @@ impl Node {
     // The leaf to which a path goes.
     fn leaf(&self, level: usize, path: &Path) -> &[ItemIndex]
         requires formed { IsFormed level self.now }
-        requires levels { level < LEVELS }
+        requires levels { level < most_levels }
         requires goes { ReachesGap level self.now path.now }
         ensures { result.now ≡ leaf level self.now path.now }
     {
@@ -275,7 +276,7 @@ impl Node {
     // The node above the leaf to which a path goes. None if this node is the leaf.
     fn leaf_parent(&self, level: usize, path: &Path) -> Option<&Node>
         requires formed { IsFormed level self.now }
-        requires levels { level < LEVELS }
+        requires levels { level < most_levels }
         requires goes { ReachesGap level self.now path.now }
         ensures { IfSome result (λ k. (0 < level) × (k.now ≡ leaf_parent level self.now path.now)) }
     {
@@ -297,13 +298,13 @@ impl Node {
         towards: End,
     ) -> Option<(ItemIndex, &[ItemIndex])>
         requires formed { IsFormed level self.now }
-        requires levels { level < LEVELS }
-        requires path { length path.old ≡ LEVELS }
+        requires levels { level < most_levels }
+        requires path { length path.old ≡ most_levels }
         requires goes { ReachesGap level self.now path.old }
         ensures ended { IsNone result → place level self.now path.old ≡ edge_of towards (length (flat level self.now)) }
         ensures unchanged { IsNone result → path.new ≡ path.old }
         ensures over { IfSome result (λ r. StepsOver towards level self.now path.old r.0 r.1.now path.new) }
-        ensures path { length path.new ≡ LEVELS }
+        ensures path { length path.new ≡ most_levels }
         ensures above { (m : ℕ) → level < m → slice_index path.new m ≡ slice_index path.old m }
     {
         let place = path.get(level);

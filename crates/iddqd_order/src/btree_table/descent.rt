@@ -8,10 +8,11 @@ ghost use Rattle.iddqd_order.specs.Digits.{row_asks};
 ghost use Rattle.iddqd_order.specs.MapBTreeTable.{StandsAt};
 ghost use Rattle.iddqd_order.specs.Node.{flat, IsFormed, LeadsToIndex};
 ghost use Rattle.iddqd_order.specs.Search.{CanSearch, SearchesWithin};
+ghost use Rattle.iddqd_order.specs.Shape.{most_in_row, most_levels};
 
 use crate::btree_table::asking::Asking;
 use crate::btree_table::node::Node;
-use crate::btree_table::path::{LEVELS, Path};
+use crate::btree_table::path::Path;
 use crate::btree_table::reading::Reads;
 use crate::btree_table::row::{CAPACITY, Row};
 use crate::btree_table::search::search;
@@ -57,10 +58,10 @@ impl Node {
         path: &mut Path,
     ) -> Result<usize, usize>
         requires formed { IsFormed height self.now }
-        requires levels { height < LEVELS }
-        requires path { length path.old ≡ LEVELS }
+        requires levels { height < most_levels }
+        requires path { length path.old ≡ most_levels }
         requires can_search { CanSearch F.FnMut (flat height self.now) sought.now asking.old }
-        ensures path { length path.new ≡ LEVELS }
+        ensures path { length path.new ≡ most_levels }
         ensures descends { Descends F.FnMut (H.reading how.now) sought.now (row_asks * (height + 1)) (height + 1)
             height self.now asking.old path.new result asking.new }
     {
@@ -89,11 +90,11 @@ impl Node {
     // Finds an index by a walk over all nodes, which asks nothing. Writes the path to the index, and returns its level.
     pub(super) fn locate(&self, height: usize, ix: ItemIndex, path: &mut Path) -> Option<usize>
         requires formed { IsFormed height self.now }
-        requires levels { height < LEVELS }
-        requires path { length path.old ≡ LEVELS }
+        requires levels { height < most_levels }
+        requires path { length path.old ≡ most_levels }
         ensures there { IfSome result (λ l. LeadsToIndex l height self.now path.new ix) }
         ensures missing { IsNone result → Contains (flat height self.now) ix → ⊥ }
-        ensures path { length path.new ≡ LEVELS }
+        ensures path { length path.new ≡ most_levels }
         ensures above { (l : ℕ) → height < l → slice_index path.new l ≡ slice_index path.old l }
     {
         if let Some(i) = position(self.row.as_slice(), ix) {
@@ -119,9 +120,9 @@ impl Node {
 pub(super) fn full_from(row: &Row, level: usize, full: usize) -> usize
     requires { level < full }
     ensures above { level ≤ result }
-    ensures not_full { length row.now < CAPACITY → result ≡ level }
-    ensures is_full { CAPACITY ≤ length row.now → result ≡ full }
-    ensures few { length row.now ≤ CAPACITY }
+    ensures not_full { length row.now < most_in_row → result ≡ level }
+    ensures is_full { most_in_row ≤ length row.now → result ≡ full }
+    ensures few { length row.now ≤ most_in_row }
 {
     if row.len() < CAPACITY { level } else { full }
 }

@@ -10,11 +10,12 @@ ghost use Rattle.iddqd_order.specs.Cursor.{IsBehind};
 ghost use Rattle.iddqd_order.specs.Descent.{Descends};
 ghost use Rattle.iddqd_order.specs.Node.{row, flat, IsFormed, IsFullBelow};
 ghost use Rattle.iddqd_order.specs.Search.{Askable, CanSearch, IsSteady, with_ties};
+ghost use Rattle.iddqd_order.specs.Shape.{most_levels};
 
 use crate::btree_table::asking::Asking;
 use crate::btree_table::descent::full_from;
 use crate::btree_table::node::Node;
-use crate::btree_table::path::{LEVELS, Path};
+use crate::btree_table::path::Path;
 use crate::btree_table::reading::Reads;
 use crate::btree_table::search::compare;
 use iddqd::item_index::ItemIndex;
@@ -75,7 +76,7 @@ impl Node {
         path: &Path,
     ) -> Option<usize>
         requires formed { IsFormed height self.now }
-        requires levels { height < LEVELS }
+        requires levels { height < most_levels }
         requires some { 1 ≤ length (row self.now) }
         requires first { (l : ℕ) → slice_index path.now l ≡ 0 }
         requires can_search { CanSearch F.FnMut (flat height self.now) sought.now asking.old }

@@ -4,11 +4,12 @@ ghost use Rattle.std.specs.List.{insert};
 ghost use Rattle.iddqd_order.specs.Node.{row, flat, inners, IsFormed, ReachesGap, place, IsFullBelow, IsPut, IsSpare};
 ghost use Rattle.iddqd_order.specs.Reserve.{spare};
 ghost use Rattle.iddqd_order.specs.Row.{IsSplit};
+ghost use Rattle.iddqd_order.specs.Shape.{most_in_row, least_in_row, most_children, most_levels};
 
 use crate::btree_table::blocks::Blocks;
-use crate::btree_table::path::{LEVELS, Path};
+use crate::btree_table::path::Path;
 use crate::btree_table::reserve::{MOST_INDEXES, Reserve};
-use crate::btree_table::row::{CAPACITY, LEAST, Row};
+use crate::btree_table::row::{CAPACITY, Row};
 use iddqd::item_index::ItemIndex;
 use std::alloc::Global;
 
@@ -47,17 +48,17 @@ fn split_children(
     after: Node,
     upper: &mut Vec<Node>,
 )
-    requires full { vec_len children.old ≡ CHILDREN }
+    requires full { vec_len children.old ≡ most_children }
     requires some { 1 ≤ low }
-    requires not_all { low ≤ CHILDREN }
-    requires within { i ≤ CAPACITY }
+    requires not_all { low ≤ most_children }
+    requires within { i ≤ most_in_row }
     requires empty { upper.old.items ≡ [] }
-    requires room { CHILDREN ≤ vec_capacity children.old }
-    requires other_room { CHILDREN ≤ vec_capacity upper.old }
+    requires room { most_children ≤ vec_capacity children.old }
+    requires other_room { most_children ≤ vec_capacity upper.old }
     ensures parts { children.new.items ++ upper.new.items ≡ insert children.old.items (i + 1) after }
     ensures low { vec_len children.new ≡ low }
-    ensures capacity { CHILDREN ≤ vec_capacity children.new }
-    ensures other_capacity { CHILDREN ≤ vec_capacity upper.new }
+    ensures capacity { most_children ≤ vec_capacity children.new }
+    ensures other_capacity { most_children ≤ vec_capacity upper.new }
 {
     if i + 1 < low {
         move_tail(children, low - 1, upper);
@@ -71,12 +72,12 @@ fn split_children(
 // Inserts an index and the child after it into an inner node that isn't full.
 fn put_between(row: &mut Row, children: &mut Vec<Node>, i: usize, ix: ItemIndex, after: Node)
     requires within { i ≤ length row.old }
-    requires room { length row.old < CAPACITY }
+    requires room { length row.old < most_in_row }
     requires one_more { vec_len children.old ≡ length row.old + 1 }
-    requires has_room { CHILDREN ≤ vec_capacity children.old }
+    requires has_room { most_children ≤ vec_capacity children.old }
     ensures row { row.new ≡ insert row.old i ix }
     ensures children { children.new.items ≡ insert children.old.items (i + 1) after }
-    ensures has_room { CHILDREN ≤ vec_capacity children.new }
+    ensures has_room { most_children ≤ vec_capacity children.new }
 {
     row.insert(i, ix);
     let _ = children.insert(i + 1, after);
@@ -93,15 +94,15 @@ fn split_inner(
     upper: &mut Vec<Node>,
 ) -> (ItemIndex, Row)
     requires within { i ≤ length row.old }
-    requires full { length row.old ≡ CAPACITY }
-    requires one_more { vec_len children.old ≡ CHILDREN }
-    requires has_room { CHILDREN ≤ vec_capacity children.old }
+    requires full { length row.old ≡ most_in_row }
+    requires one_more { vec_len children.old ≡ most_children }
+    requires has_room { most_children ≤ vec_capacity children.old }
     requires spare { IsSpare upper.old }
     ensures split { IsSplit row.old i ix row.new result.0 result.1 }
     ensures parts { children.new.items ++ upper.new.items ≡ insert children.old.items (i + 1) after }
     ensures one_more { vec_len children.new ≡ length row.new + 1 }
-    ensures has_room { CHILDREN ≤ vec_capacity children.new }
-    ensures other_room { CHILDREN ≤ vec_capacity upper.new }
+    ensures has_room { most_children ≤ vec_capacity children.new }
+    ensures other_room { most_children ≤ vec_capacity upper.new }
 {
     let (middle, upper_row) = row.split(i, ix);
     split_children(children, row.len() + 1, i, after, upper);
@@ -111,7 +112,7 @@ fn split_inner(
 impl Node {
     // Inserts an index at the path's gap, in a leaf that isn't full.
     pub(super) fn put_in_leaf(&mut self, height: usize, path: &Path, ix: ItemIndex)
-        requires levels { height < LEVELS }
+        requires levels { height < most_levels }
         requires formed { IsFormed height self.old }
         requires goes { ReachesGap height self.old path.now }
         requires room { IsFullBelow 0 height self.old path.now }
@@ -138,7 +139,7 @@ impl Node {
         fresh: &mut Blocks,
         alloc: Global,
     )
-        requires levels { height < LEVELS }
+        requires levels { height < most_levels }
         requires some { 0 < full }
         requires not_all { full ≤ height }
         requires formed { IsFormed height self.old }
@@ -178,7 +179,7 @@ impl Node {
         fresh: &mut Blocks,
         alloc: Global,
     ) -> (ItemIndex, Node)
-        requires levels { height < LEVELS }
+        requires levels { height < most_levels }
         requires formed { IsFormed height self.old }
         requires goes { ReachesGap height self.old path.now }
         requires full { IsFullBelow (height + 1) height self.old path.now }
@@ -186,8 +187,8 @@ impl Node {
         requires fits { reserve.old.inners + height ≤ MOST_INDEXES + 1 }
         ensures items { flat height self.new ++ result.0 ∷ flat height result.1
             ≡ insert (flat height self.old) (place height self.old path.now) ix }
-        ensures low { (LEAST ≤ length (row self.new)) × IsFormed height self.new }
-        ensures high { (LEAST ≤ length (row result.1)) × IsFormed height result.1 }
+        ensures low { (least_in_row ≤ length (row self.new)) × IsFormed height self.new }
+        ensures high { (least_in_row ≤ length (row result.1)) × IsFormed height result.1 }
         ensures inner { inners height self.new + inners height result.1 ≡ inners height self.old + height }
         ensures counted { reserve.new.inners ≡ reserve.old.inners + height }
         ensures reserved { reserve.new.reserved ≡ reserve.old.reserved }

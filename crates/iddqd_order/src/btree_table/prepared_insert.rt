@@ -6,6 +6,7 @@
 //! dropped, the allocated blocks are given back. `B` is a parameter because the check can't track a borrow in a
 //! struct that itself owns memory.
 ghost use Rattle.std.specs.Prelude.{◌≡◌, ◌≢◌, insert, Contains};
+ghost use Rattle.iddqd_order.specs.KeyOrder.{InsertsInKeyOrder};
 ghost use Rattle.iddqd_order.specs.MapBTreeTable.{order_of, capacity, fresh_for, sentinel};
 ghost use Rattle.iddqd_order.specs.Node.{InGap};
 ghost use Rattle.iddqd_order.specs.Tree.{ReachesGapIn, FullIn, ReachesIn-prop, FullIn-prop};
@@ -35,12 +36,15 @@ pub struct PreparedBTreeInsert<'a, B: HoldsBlocks = Blocks> {
 impl<'a> PreparedBTreeInsert<'a> {
     ghost use Rattle.iddqd_order.specs.PreparedBTreeInsert.{table_of, place_of, index_of};
 
-    /// Adds the index at its place, and returns the table. The others keep their order.
+    /// Adds the index at its place, and returns the table. The others keep their order. If the table was in the order
+    /// of some keys, and the place is that of the new key, it still is.
     #[tactic(auto, unfolding(crate::specs::PreparedBTreeInsert::place_of, crate::specs::PreparedBTreeInsert::index_of, crate::specs::MapBTreeTable::capacity))]
     pub fn insert(self) -> &'a mut MapBTreeTable
         ensures same_reference { result.ghost_name ≡ (table_of self.entry).ghost_name }
         ensures inserted { order_of result.now
             ≡ insert (order_of (table_of self.entry).now) (place_of self.entry) (index_of self.entry) }
+        ensures in_order { InsertsInKeyOrder (order_of (table_of self.entry).now) (place_of self.entry)
+            (index_of self.entry) (order_of result.now) }
         ensures memory { capacity result.now ≡ capacity (table_of self.entry).now }
     {
         let PreparedBTreeInsert {

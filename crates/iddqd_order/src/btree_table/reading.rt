@@ -7,7 +7,7 @@ use iddqd::map_hash::Comparable;
 use std::cmp::Ordering;
 
 // Reads an answer about a stored index as an `Ordering`. Less means that what is sought stands before the index.
-pub(super) trait Reads<R> {
+pub(crate) trait Reads<R> {
     ghost reading: { Self → R → Ordering };
 
     fn read(&self, answer: R) -> Ordering
@@ -16,7 +16,7 @@ pub(super) trait Reads<R> {
 
 // The answer is the ordering itself.
 #[derive(Clone, Copy)]
-pub(super) struct AsOrdering;
+pub(crate) struct AsOrdering;
 
 impl Reads<Ordering> for AsOrdering {
     ghost reading = { λ _ r. r };
@@ -28,7 +28,7 @@ impl Reads<Ordering> for AsOrdering {
 
 // The answer is a key, and the query is compared with it.
 #[derive(Drop)]
-pub(super) struct ByQuery<'a, Q>(pub(super) &'a Q);
+pub(crate) struct ByQuery<'a, Q>(pub(crate) &'a Q);
 
 impl<'a, K: Ord + Drop, Q: Comparable<K>> Reads<K> for ByQuery<'a, Q> {
     ghost reading = { λ by k. Q.compare by.0.now k };
@@ -40,7 +40,7 @@ impl<'a, K: Ord + Drop, Q: Comparable<K>> Reads<K> for ByQuery<'a, Q> {
 
 // The answer is a key, and this key is compared with it.
 #[derive(Drop)]
-pub(super) struct ByKey<'a, K>(pub(super) &'a K);
+pub(crate) struct ByKey<'a, K>(pub(crate) &'a K);
 
 impl<'a, K: Ord + Drop> Reads<K> for ByKey<'a, K> {
     ghost reading = { λ by k. K.cmp by.0.now k };

@@ -7,15 +7,16 @@
 //! If two inner nodes are merged, the block of the second goes to the reserve.
 ghost use Rattle.std.specs.Prelude.{◌≡◌, ◌↔◌, ℕ, ◌+◌, ◌<◌, ◌≤◌, [], ◌∷◌, ◌++◌, length, slice_index, slice_index_or, option_to_list, vec_capacity, IsSome, min};
 ghost use Rattle.std.specs.List.{remove};
+ghost use Rattle.iddqd_order.specs.Shape.{most_in_row, least_in_row, most_children, most_levels};
 ghost use Rattle.iddqd_order.specs.declared.btree_table.node.Node.{Node};
 ghost use Rattle.iddqd_order.specs.Node.{row, children, child_room, row as row_of, flat, inners, IsFormed, ReachesIndex, place_at_level};
 ghost use Rattle.iddqd_order.specs.Removal.{MayLackOne, IsMended, IsEmptied, inners_of, Recounts};
 ghost use Rattle.iddqd_order.specs.Tree.{in_order, inners_in, IsTree, ReachesIndexIn, place_at_level_in};
 
-use crate::btree_table::node::{CHILDREN, Node};
-use crate::btree_table::path::{LEVELS, Path};
+use crate::btree_table::node::Node;
+use crate::btree_table::path::Path;
 use crate::btree_table::reserve::Reserve;
-use crate::btree_table::row::{CAPACITY, LEAST, Row};
+use crate::btree_table::row::{LEAST, Row};
 use iddqd::item_index::ItemIndex;
 
 // Removes the index to which the path goes at the level. Returns it and the new height. It takes no memory.
@@ -81,7 +82,7 @@ impl Node {
         level: usize,
         reserve: &mut Reserve,
     ) -> ItemIndex
-        requires levels { height < LEVELS }
+        requires levels { height < most_levels }
         requires some { 1 ≤ length (row self.old) }
         requires formed { IsFormed height self.old }
         requires holds { ReachesIndex level height self.old path.now }
@@ -158,7 +159,7 @@ impl Node {
 
     // Puts an index, and a child if there is one, before the others.
     fn put_first(&mut self, ix: ItemIndex, child: Option<Node>)
-        requires fits { length (row self.old) < CAPACITY }
+        requires fits { length (row self.old) < most_in_row }
         requires room { length (option_to_list child) + length (children self.old) ≤ child_room self.old }
         ensures row { row self.new ≡ ix ∷ row self.old }
         ensures children { children self.new ≡ option_to_list child ++ children self.old }
@@ -172,7 +173,7 @@ impl Node {
 
     // Puts an index, and a child if there is one, after the others.
     fn put_last(&mut self, ix: ItemIndex, child: Option<Node>)
-        requires fits { length (row self.old) < CAPACITY }
+        requires fits { length (row self.old) < most_in_row }
         requires room { length (option_to_list child) + length (children self.old) ≤ child_room self.old }
         ensures row { row self.new ≡ row self.old ++ ix ∷ [] }
         ensures children { children self.new ≡ children self.old ++ option_to_list child }
@@ -186,9 +187,9 @@ impl Node {
 
     // Appends an index and then all of another node. If that node has children, its block goes to the reserve.
     fn join(&mut self, middle: ItemIndex, other: Node, reserve: &mut Reserve)
-        requires fits { length (row self.old) + length (row other) < CAPACITY }
+        requires fits { length (row self.old) + length (row other) < most_in_row }
         requires room { length (children self.old) + length (children other) ≤ child_room self.old }
-        requires block { 0 < length (children other) → CHILDREN ≤ child_room other }
+        requires block { 0 < length (children other) → most_children ≤ child_room other }
         requires some { 1 ≤ reserve.old.inners }
         ensures row { row self.new ≡ row self.old ++ middle ∷ row other }
         ensures children { children self.new ≡ children self.old ++ children other }
@@ -226,7 +227,7 @@ fn mend(row: &mut Row, children: &mut Vec<Node>, i: usize, reserve: &mut Reserve
 #[inline(never)]
 fn fill_up(row: &mut Row, children: &mut Vec<Node>, i: usize, reserve: &mut Reserve)
     requires lacks { (h : ℕ) × MayLackOne h i row.old children.old.items }
-    requires too_few { (d : Node) → length (row_of (slice_index_or children.old.items i d)) < LEAST }
+    requires too_few { (d : Node) → length (row_of (slice_index_or children.old.items i d)) < least_in_row }
     requires some { 1 ≤ reserve.old.inners }
     ensures mended { (h : ℕ) → MayLackOne h i row.old children.old.items →
         IsMended h row.old children.old.items row.new children.new.items }
@@ -251,8 +252,8 @@ fn fill_up(row: &mut Row, children: &mut Vec<Node>, i: usize, reserve: &mut Rese
 // `left` up.
 fn borrow_left(row: &mut Row, children: &mut Vec<Node>, left: usize)
     requires lacks { (h : ℕ) × MayLackOne h (left + 1) row.old children.old.items }
-    requires more { (d : Node) → LEAST < length (row_of (slice_index_or children.old.items left d)) }
-    requires too_few { (d : Node) → length (row_of (slice_index_or children.old.items (left + 1) d)) < LEAST }
+    requires more { (d : Node) → least_in_row < length (row_of (slice_index_or children.old.items left d)) }
+    requires too_few { (d : Node) → length (row_of (slice_index_or children.old.items (left + 1) d)) < least_in_row }
     ensures mended { (h : ℕ) → MayLackOne h (left + 1) row.old children.old.items →
         IsMended h row.old children.old.items row.new children.new.items }
     ensures inners { (h : ℕ) → inners_of h children.new.items ≡ inners_of h children.old.items }
@@ -269,8 +270,8 @@ fn borrow_left(row: &mut Row, children: &mut Vec<Node>, left: usize)
 fn borrow_right(row: &mut Row, children: &mut Vec<Node>, left: usize)
     requires lacks { (h : ℕ) × MayLackOne h left row.old children.old.items }
     requires within { left < length row.old }
-    requires more { (d : Node) → LEAST < length (row_of (slice_index_or children.old.items (left + 1) d)) }
-    requires too_few { (d : Node) → length (row_of (slice_index_or children.old.items left d)) < LEAST }
+    requires more { (d : Node) → least_in_row < length (row_of (slice_index_or children.old.items (left + 1) d)) }
+    requires too_few { (d : Node) → length (row_of (slice_index_or children.old.items left d)) < least_in_row }
     ensures mended { (h : ℕ) → MayLackOne h left row.old children.old.items →
         IsMended h row.old children.old.items row.new children.new.items }
     ensures inners { (h : ℕ) → inners_of h children.new.items ≡ inners_of h children.old.items }
@@ -287,7 +288,7 @@ fn merge(row: &mut Row, children: &mut Vec<Node>, left: usize, reserve: &mut Res
     requires lacks { (h : ℕ) × ((i : ℕ) × ((left ≤ i) × ((i ≤ left + 1) × MayLackOne h i row.old children.old.items))) }
     requires within { left < length row.old }
     requires few { (d : Node) → length (row_of (slice_index_or children.old.items left d))
-        + length (row_of (slice_index_or children.old.items (left + 1) d)) < CAPACITY }
+        + length (row_of (slice_index_or children.old.items (left + 1) d)) < most_in_row }
     requires some { 1 ≤ reserve.old.inners }
     ensures mended { (h i : ℕ) → left ≤ i → i ≤ left + 1 → MayLackOne h i row.old children.old.items →
         IsMended h row.old children.old.items row.new children.new.items }

@@ -16,10 +16,10 @@ use std::marker::Model;
 
 // An inner node below the root has at least six children, and each child has at least five indexes. So each further
 // inner node needs at least thirty more indexes.
-pub(super) const INDEXES_OF_A_BLOCK: usize = 30;
+const INDEXES_OF_A_BLOCK: usize = 30;
 
 // Up to ten indexes never need an inner node. Eleven may: a root with one index over two leaves of five.
-pub(super) const FREE_INDEXES: usize = 10;
+const FREE_INDEXES: usize = 10;
 
 // How many indexes there are below `SENTINEL`.
 pub(super) const MOST_INDEXES: usize = 4294967295;

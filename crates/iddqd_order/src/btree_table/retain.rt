@@ -10,10 +10,10 @@ ghost use Rattle.std.specs.Prelude.{◌≡◌, ℕ, ◌+◌, ◌-◌, ◌<◌, �
 ghost use Rattle.iddqd_order.specs.Asks.{CanAsk};
 ghost use Rattle.iddqd_order.specs.Node.{row, flat, inners, IsFormed};
 ghost use Rattle.iddqd_order.specs.Retain.{RetainsTo};
+ghost use Rattle.iddqd_order.specs.Shape.{most_levels};
 ghost use Rattle.iddqd_order.specs.Tree.{in_order, inners_in, IsTree};
 
 use crate::btree_table::node::Node;
-use crate::btree_table::path::LEVELS;
 use crate::btree_table::removal::drop_empty_root;
 use crate::btree_table::reserve::Reserve;
 use crate::btree_table::spot_cursor::SpotCursor;
@@ -55,7 +55,7 @@ fn gather<F: FnMut(ItemIndex) -> bool>(
 ) -> usize
     requires formed { IsFormed height root.old }
     requires some { 1 ≤ length (row root.old) }
-    requires levels { height < LEVELS }
+    requires levels { height < most_levels }
     requires counted { len ≡ length (flat height root.old) }
     requires can_ask { CanAsk F.FnMut (Contains (flat height root.old)) f.old }
     ensures formed { IsFormed height root.new }

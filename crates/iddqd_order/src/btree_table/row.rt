@@ -2,7 +2,7 @@
 ghost use Rattle.std.specs.Prelude.{◌≡◌, ℕ, ◌+◌, ◌<◌, ◌≤◌, List, [], ◌∷◌, ◌++◌, length, take, drop, slice_index, slice_set};
 ghost use Rattle.std.specs.List.{insert, remove};
 ghost use Rattle.iddqd_order.specs.Row.{IsSplit};
-ghost use Rattle.iddqd_order.specs.declared.btree_table.row.TheConstants.{CAPACITY};
+ghost use Rattle.iddqd_order.specs.Shape.{most_in_row};
 
 use iddqd::item_index::ItemIndex;
 use std::marker::Model;
@@ -25,7 +25,7 @@ impl Model for Row {
 
     ghost view = { λ a. take a.len a.items };
 
-    ghost invariant = { λ a. (length a.items ≡ CAPACITY) × (a.len ≤ CAPACITY) };
+    ghost invariant = { λ a. (length a.items ≡ most_in_row) × (a.len ≤ most_in_row) };
 }
 
 impl Row {
@@ -39,7 +39,7 @@ impl Row {
     }
 
     pub(super) fn of(from: &[ItemIndex]) -> Row
-        requires { length from.now ≤ CAPACITY }
+        requires { length from.now ≤ most_in_row }
         ensures { result ≡ from.now }
     {
         let count = from.len() as u8;
@@ -50,7 +50,7 @@ impl Row {
 
     pub(super) fn len(&self) -> usize
         ensures length { result ≡ length self.now }
-        ensures within { result ≤ CAPACITY }
+        ensures within { result ≤ most_in_row }
     {
         self.len as usize
     }
@@ -96,7 +96,7 @@ impl Row {
 
     pub(super) fn insert(&mut self, at: usize, ix: ItemIndex)
         requires in_bounds { at ≤ length self.old }
-        requires room { length self.old < CAPACITY }
+        requires room { length self.old < most_in_row }
         ensures { self.new ≡ insert self.old at ix }
     {
         let len = self.len as usize;
@@ -106,7 +106,7 @@ impl Row {
     }
 
     pub(super) fn push(&mut self, ix: ItemIndex)
-        requires { length self.old < CAPACITY }
+        requires { length self.old < most_in_row }
         ensures { self.new ≡ self.old ++ ix ∷ [] }
     {
         self.insert(self.len(), ix);
@@ -136,7 +136,7 @@ impl Row {
     }
 
     pub(super) fn append(&mut self, other: &Row)
-        requires { length self.old + length other.now ≤ CAPACITY }
+        requires { length self.old + length other.now ≤ most_in_row }
         ensures { self.new ≡ self.old ++ other.now }
     {
         let len = self.len as usize;
@@ -148,7 +148,7 @@ impl Row {
 
     // Inserts an index into a full row and splits the row. Returns the middle index and the upper row.
     pub(super) fn split(&mut self, at: usize, ix: ItemIndex) -> (ItemIndex, Row)
-        requires full { length self.old ≡ CAPACITY }
+        requires full { length self.old ≡ most_in_row }
         requires in_bounds { at ≤ length self.old }
         ensures { IsSplit self.old at ix self.new result.0 result.1 }
     {

@@ -1,4 +1,4 @@
-//! The search of a row by halves. All calls that search use it.
+//! The search of a row by halves, and of the vector of an `OrderedTable`. All calls that search use it.
 //!
 //! Four asks search fifteen indexes, and a row has at most eleven. To go along a row from the left was faster
 //! for keys that are numbers, but asked up to eleven times. The `match` compares two indexes only if the answer
@@ -46,9 +46,9 @@ pub(super) fn compare<R, F: FnMut(ItemIndex) -> R, H: Reads<R>>(
     }
 }
 
-// Searches a row: the place of what is sought, or of the gap where it would go.
+// Searches a row, or a whole vector: the place of what is sought, or of the gap where it would go.
 #[inline(always)]
-pub(super) fn search<R, F: FnMut(ItemIndex) -> R, H: Reads<R>>(
+pub(crate) fn search<R, F: FnMut(ItemIndex) -> R, H: Reads<R>>(
     items: &[ItemIndex],
     asking: &mut Asking<F>,
     how: &H,

@@ -3,10 +3,11 @@
 //! It holds no reference, so the tree may change its indexes between two steps.
 ghost use Rattle.std.specs.Prelude.{◌≡◌, ℕ, ◌+◌, ◌<◌, ◌≤◌, length, [], slice_index, slice_set, None};
 ghost use Rattle.iddqd_order.specs.Node.{row, flat, inners, IsFormed, ReachesIndex, place_at_level};
+ghost use Rattle.iddqd_order.specs.Shape.{most_levels};
 ghost use Rattle.iddqd_order.specs.SpotCursor.{IsSpotCursor, StepsToNext, SamePlaces};
 
 use crate::btree_table::node::Node;
-use crate::btree_table::path::{LEVELS, Path, Spot};
+use crate::btree_table::path::{Path, Spot};
 use iddqd::item_index::ItemIndex;
 
 // Where an index is stored, and its place in the whole list.
@@ -19,7 +20,7 @@ pub(super) struct SpotCursor {
 impl SpotCursor {
     // A cursor at the first index.
     pub(super) fn first() -> SpotCursor
-        ensures path { length result.spot.path ≡ LEVELS }
+        ensures path { length result.spot.path ≡ most_levels }
         ensures places { (l : ℕ) → slice_index result.spot.path l ≡ 0 }
         ensures level { result.spot.level ≡ 0 }
         ensures place { result.place ≡ 0 }
@@ -36,7 +37,7 @@ impl SpotCursor {
     // Returns the index at which the cursor stands, and moves the cursor to the next one.
     pub(super) fn step(&mut self, root: &Node, height: usize) -> ItemIndex
         requires formed { IsFormed height root.now }
-        requires levels { height < LEVELS }
+        requires levels { height < most_levels }
         requires stands { IsSpotCursor height root.now self.old }
         requires more { self.old.place < length (flat height root.now) }
         requires few { length (flat height root.now) ≤ usize.MAX }
@@ -53,7 +54,7 @@ impl SpotCursor {
     // Replaces the index at which the cursor stands, and moves the cursor to the next one.
     pub(super) fn replace(&mut self, root: &mut Node, height: usize, ix: ItemIndex)
         requires formed { IsFormed height root.old }
-        requires levels { height < LEVELS }
+        requires levels { height < most_levels }
         requires stands { IsSpotCursor height root.old self.old }
         requires more { self.old.place < length (flat height root.old) }
         requires few { length (flat height root.old) ≤ usize.MAX }
@@ -81,12 +82,12 @@ impl Node {
         level: usize,
     ) -> (ItemIndex, Option<usize>)
         requires formed { IsFormed height self.now }
-        requires levels { height < LEVELS }
-        requires path { length path.old ≡ LEVELS }
+        requires levels { height < most_levels }
+        requires path { length path.old ≡ most_levels }
         requires holds { ReachesIndex level height self.now path.old }
         ensures index { result.0 ≡ slice_index (flat height self.now) (place_at_level level height self.now path.old) }
         ensures next { StepsToNext height self.now level path.old result.1 path.new }
-        ensures path { length path.new ≡ LEVELS }
+        ensures path { length path.new ≡ most_levels }
         ensures above { (l : ℕ) → height < l → slice_index path.new l ≡ slice_index path.old l }
         ensures ended { result.1 ≡ None → path.new ≡ path.old }
     {
@@ -116,7 +117,7 @@ impl Node {
     // The index to which a path goes at a level.
     pub(super) fn index_on(&self, height: usize, path: &Path, level: usize) -> ItemIndex
         requires formed { IsFormed height self.now }
-        requires levels { height < LEVELS }
+        requires levels { height < most_levels }
         requires holds { ReachesIndex level height self.now path.now }
         ensures { result ≡ slice_index (flat height self.now) (place_at_level level height self.now path.now) }
     {
@@ -130,7 +131,7 @@ impl Node {
     // Replaces the index to which a path goes at a level.
     pub(super) fn replace(&mut self, height: usize, path: &Path, level: usize, ix: ItemIndex)
         requires formed { IsFormed height self.old }
-        requires levels { height < LEVELS }
+        requires levels { height < most_levels }
         requires holds { ReachesIndex level height self.old path.now }
         ensures items { flat height self.new
             ≡ slice_set (flat height self.old) (place_at_level level height self.old path.now) ix }

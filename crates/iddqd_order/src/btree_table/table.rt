@@ -4,10 +4,10 @@ ghost use Rattle.std.specs.declared.cmp.Ordering.{Ordering};
 ghost use Rattle.iddqd.specs.Compaction.{CanRemap, remapped};
 ghost use Rattle.iddqd_order.specs.Asks.{AsksWithin};
 ghost use Rattle.iddqd_order.specs.Descent.{EndsIn};
-ghost use Rattle.iddqd_order.specs.Gap.{FindsOwnGap, gap_place};
+ghost use Rattle.iddqd_order.specs.Gap.{FindsOwnGap, NeedsNoMoreBlocks, gap_place};
 ghost use Rattle.iddqd_order.specs.MapBTreeTable.{order_of, capacity, HasRoom, spare_blocks, fresh_for, move_blocks, without, sentinel, IsIndexList, IsSpot, LeadsTo, spot_place};
+ghost use Rattle.iddqd_order.specs.Shape.{most_levels, free_indexes};
 ghost use Rattle.iddqd_order.specs.Tree.{IsTree, ReachesGapIn, place_in, FullIn, ReachesIndexIn, place_at_level_in, blocks_for};
-ghost use Rattle.iddqd_order.specs.declared.btree_table.reserve.TheConstants.{FREE_INDEXES};
 ghost use Rattle.iddqd_order.specs.Search.{Askable, CanSearch, SearchAsks, IsSteady, IsSteadyRising, IsPlace, Finds, with_ties};
 
 use crate::btree_table::asking::Asking;
@@ -20,7 +20,7 @@ use crate::btree_table::gap::Gap;
 use crate::btree_table::into_iter::IntoIter;
 use crate::btree_table::iter::{Iter, Rest};
 use crate::btree_table::node::Node;
-use crate::btree_table::path::{LEVELS, Path, Spot};
+use crate::btree_table::path::{Path, Spot};
 use crate::btree_table::prepared_insert::PreparedBTreeInsert;
 use crate::btree_table::prepared_remove::PreparedBTreeRemove;
 use crate::btree_table::reading::{AsOrdering, ByKey, ByQuery, Reads};
@@ -98,7 +98,7 @@ impl MapBTreeTable {
     /// An empty table. It takes no memory, and can hold ten indexes without any.
     pub fn new(alloc: Global) -> MapBTreeTable
         ensures empty { order_of result ≡ [] }
-        ensures memory { capacity result ≡ FREE_INDEXES }
+        ensures memory { capacity result ≡ free_indexes }
     {
         MapBTreeTable {
             root: None,
@@ -405,7 +405,7 @@ impl MapBTreeTable {
     pub(super) fn allocate_move_blocks(&self) -> Result<Blocks, AllocError>
         ensures indexes { IsIndexList (order_of self.now) }
         ensures blocks { IfOk result (λ blocks. blocks ≡ move_blocks self.now) }
-        ensures few { move_blocks self.now ≤ LEVELS }
+        ensures few { move_blocks self.now ≤ most_levels }
         ensures roomy { length (order_of self.now) ≤ capacity self.now → move_blocks self.now ≡ 0 }
         ensures none { move_blocks self.now ≡ 0 → IsOk result }
     {
@@ -420,7 +420,7 @@ impl MapBTreeTable {
     // Allocates the blocks that an insert through `full` full nodes needs beyond the spare ones.
     pub(super) fn allocate_blocks(&self, full: usize) -> Result<Blocks, AllocError>
         ensures blocks { IfOk result (λ blocks. blocks ≡ fresh_for self.now full) }
-        ensures few { full ≤ self.now.height + 1 → fresh_for self.now full ≤ LEVELS }
+        ensures few { full ≤ self.now.height + 1 → fresh_for self.now full ≤ most_levels }
         ensures roomy { (path : List ℕ) → ReachesGapIn self.now.root self.now.height path →
             FullIn full self.now.root self.now.height path → full ≤ self.now.height + 1 →
             HasRoom self.now → fresh_for self.now full ≡ 0 }
@@ -521,11 +521,13 @@ impl MapBTreeTable {
     }
 
     /// Removes the index, if it is stored, by a walk along the list. It asks nothing and takes no
-    /// memory. The others keep their order. The tree gets no higher, so blocks taken for it before are still
-    /// enough.
+    /// memory. The others keep their order.
+    ///
+    /// Blocks that `blocks_anywhere` allocated before it are still enough for a move, and if an index was
+    /// removed, for an insert.
     pub fn remove_exact(&mut self, ix: ItemIndex)
         ensures removed { order_of self.new ≡ without (order_of self.old) ix }
-        ensures no_higher { self.new.height ≤ self.old.height }
+        ensures no_more_blocks { NeedsNoMoreBlocks self.old self.new }
         ensures memory { capacity self.new ≡ capacity self.old }
     {
         self.remove_by_walk(ix)
@@ -658,7 +660,7 @@ impl MapBTreeTable {
 // The copy reserves nothing. If memory runs out, the nodes copied so far are dropped.
 #[tactic(auto, unfolding(crate::specs::MapBTreeTable::order_of, crate::specs::MapBTreeTable::capacity))]
 impl Clone for MapBTreeTable {
-    ghost is_clone = { λ table copy. (order_of copy ≡ order_of table) × (capacity copy ≡ FREE_INDEXES) };
+    ghost is_clone = { λ table copy. (order_of copy ≡ order_of table) × (capacity copy ≡ free_indexes) };
 
     fn clone(&self) -> Result<MapBTreeTable, AllocError> {
         Ok(MapBTreeTable {

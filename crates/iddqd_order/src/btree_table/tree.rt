@@ -3,11 +3,12 @@ ghost use Rattle.std.specs.Prelude.{◌≡◌, ◌+◌, ◌<◌, ◌≤◌, [], 
 ghost use Rattle.std.specs.List.{insert};
 ghost use Rattle.iddqd_order.specs.Node.{row, children, child_room, flat, inners, IsFormed, ReachesGap, place, IsFullBelow, IsSpare};
 ghost use Rattle.iddqd_order.specs.Reserve.{spare};
+ghost use Rattle.iddqd_order.specs.Shape.{most_children, most_levels};
 ghost use Rattle.iddqd_order.specs.Tree.{in_order, inners_in, IsTree, ReachesGapIn, place_in, FullIn, blocks_for};
 
 use crate::btree_table::blocks::Blocks;
-use crate::btree_table::node::{CHILDREN, Node};
-use crate::btree_table::path::{LEVELS, Path};
+use crate::btree_table::node::Node;
+use crate::btree_table::path::Path;
 use crate::btree_table::reserve::{MOST_INDEXES, Reserve};
 use crate::btree_table::row::Row;
 use iddqd::item_index::ItemIndex;
@@ -69,7 +70,7 @@ fn put_and_split(
     fresh: &mut Blocks,
     alloc: Global,
 ) -> usize
-    requires levels { height < LEVELS }
+    requires levels { height < most_levels }
     requires some { 0 < full }
     requires formed { IsFormed height node.old }
     requires goes { ReachesGap height node.old path.now }
@@ -78,7 +79,7 @@ fn put_and_split(
     requires fits { length (flat height node.old) ≤ MOST_INDEXES }
     requires enough { blocks_for height full ≤ spare reserve.old + fresh.old }
     requires inners { reserve.old.inners ≡ inners height node.old }
-    ensures levels { result < LEVELS }
+    ensures levels { result < most_levels }
     ensures formed { IsFormed result node.new }
     ensures root { 1 ≤ length (row node.new) }
     ensures items { flat result node.new ≡ insert (flat height node.old) (place height node.old path.now) ix }
@@ -100,7 +101,7 @@ fn grow(node: &mut Node, middle: ItemIndex, upper: Node, block: Vec<Node>)
     requires { IsSpare block }
     ensures root_row { row node.new ≡ middle ∷ [] }
     ensures root_children { children node.new ≡ node.old ∷ upper ∷ [] }
-    ensures has_room { CHILDREN ≤ child_room node.new }
+    ensures has_room { most_children ≤ child_room node.new }
 {
     let mut row = Row::new();
     row.insert(0, middle);

@@ -1,5 +1,5 @@
 //! The check of a table's indexes. By the invariant they are distinct, and none is `SENTINEL`.
-ghost use Rattle.std.specs.Prelude.{◌≡◌, ◌↔◌, ◌<◌, All, IfOk, IsTrue};
+ghost use Rattle.std.specs.Prelude.{◌≡◌, ◌↔◌, ◌<◌, All, IfOk, IsOk, IsTrue};
 ghost use Rattle.iddqd.specs.Validation.{AreAsExpected, Validates};
 ghost use Rattle.iddqd_order.specs.MapBTreeTable.{order_of, IsIndexList};
 
@@ -13,13 +13,15 @@ use std::alloc::AllocError;
 impl MapBTreeTable {
     /// Checks that the table has `expected_len` indexes and, in `Compact`, that they are 0, 1, ...
     ///
-    /// A table that passes takes no memory. Otherwise the indexes are copied for the text of the error.
+    /// A table that passes takes no memory: it passes even if none is left. Otherwise the indexes are copied for the
+    /// text of the error.
     pub fn validate(
         &self,
         expected_len: usize,
         compactness: ValidateCompact,
     ) -> Result<(), ValidateRefusal<TableValidationError>>
-        ensures { Validates (AreAsExpected compactness expected_len (order_of self.now)) result }
+        ensures sound { Validates (AreAsExpected compactness expected_len (order_of self.now)) result }
+        ensures passes { AreAsExpected compactness expected_len (order_of self.now) → IsOk result }
     {
         if self.is_as_expected(expected_len, compactness) {
             return Ok(());

@@ -1,4 +1,4 @@
-use Rattle.iddqd_order.proofs.Names.{CHILDREN}
+use Rattle.iddqd_order.proofs.Names.{most_children}
 use Rattle.std.proofs.Common.{◌≡◌, ℕ, ◌+◌, ◌-◌, ◌≤◌, List, ◌++◌, length, take, drop, arith, rules, ap, sym, ◌∙◌}
 use Rattle.std.specs.List.{insert}
 use Rattle.std.proofs.lemmas.List.{take-append-drop, length-take-le}
@@ -30,12 +30,12 @@ late ks lo hi n i a p q e f =
 
 pub returns-then-i-low-clause-parts : goal.returns-then-i-low-clause-parts
 returns-then-i-low-clause-parts c =
-    let n : length c.args.children.now.items ≡ CHILDREN = search rules in
+    let n : length c.args.children.now.items ≡ most_children = search rules in
     early _ _ _ (c.args.low - 1) c.args.i c.args.after (omega (arith, c.if-i-low.true))
     (omega (arith, c.requires.not_all)) (search rules) c.move_tail.ensures.tail
 
 pub returns-else-i-low-clause-parts : goal.returns-else-i-low-clause-parts
 returns-else-i-low-clause-parts c =
-    let n : length c.args.children.now.items ≡ CHILDREN = search rules in
+    let n : length c.args.children.now.items ≡ most_children = search rules in
     late _ _ _ c.args.low c.args.i c.args.after (omega (arith, c.if-i-low.false))
     (omega (arith, c.requires.not_all)) c.move_tail-else-i-low.ensures.head (search rules)

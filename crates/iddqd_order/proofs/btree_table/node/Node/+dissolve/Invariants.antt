@@ -1,4 +1,4 @@
-use Rattle.iddqd_order.proofs.Names.{CHILDREN}
+use Rattle.iddqd_order.proofs.Names.{most_children}
 use Rattle.std.proofs.Common.{◌≡◌, ◌+◌, ◌-◌, ◌≤◌, All, vec_len, vec_capacity}
 use Rattle.iddqd_order.specs.Node.{children}
 use Rattle.iddqd_order.specs.Removal.{IsChild, inners_of}
@@ -9,7 +9,7 @@ decreases-dissolve l = l.height
 
 abbrev pub invariant-loop-child : goal.invariant-loop-child
 invariant-loop-child l = record {
-  room : CHILDREN ≤ vec_capacity l.children;
+  room : most_children ≤ vec_capacity l.children;
   formed : All (IsChild (l.height - 1)) l.children.items;
   counted : inners_of (l.height - 1) l.children.items + 1 ≤ l.reserve.inners;
   given : l.reserve.inners + inners_of (l.height - 1) (children l.fn.self)

@@ -1,4 +1,4 @@
-use Rattle.iddqd_order.proofs.Names.{CHILDREN}
+use Rattle.iddqd_order.proofs.Names.{most_children}
 use Rattle.std.proofs.Common.{refl, rules, ◌≡◌, ◌+◌, ◌-◌, arith, ◌∙◌, vec_len}
 use Rattle.iddqd_order.specs.declared.btree_table.node.Node.TheViews.{out-Node, roll-Node, out-roll-Node}
 use Rattle.iddqd_order.proofs.NodeLemmas.{goes-inner, row-roll, children-roll, room-from}
@@ -44,7 +44,7 @@ pub split_inner-middle-requires : goal.split_inner-middle-requires
 split_inner-middle-requires t c =
     let b = taken _ _ _ _ _ (is_taken c.args.height _ _ _ c.index_mut.result.now c.if-height-eq0.false c.requires.formed c.requires.goes c.get-i.ensures c.index_mut.ensures.value) in
     let full = full_row _ _ _ c.requires.formed c.requires.full in let here = b.here in let one = b.node.one_more in
-    let count : vec_len (out-Node c.args.self.now).children ≡ CHILDREN = search (rules, one, full) in
+    let count : vec_len (out-Node c.args.self.now).children ≡ most_children = search (rules, one, full) in
     record {
       within = rw out-roll-Node (omega arith);
       full = rw out-roll-Node full;

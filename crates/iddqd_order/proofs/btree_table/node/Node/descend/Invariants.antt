@@ -1,11 +1,11 @@
-use Rattle.iddqd_order.proofs.Names.{◌≡◌, ◌<◌, ℕ, ◌+◌, ◌*◌, Result, length, slice_index, Descends, flat, IsFormed, CanSearch, LEVELS, row_asks}
+use Rattle.iddqd_order.proofs.Names.{◌≡◌, ◌<◌, ℕ, ◌+◌, ◌*◌, Result, length, slice_index, Descends, flat, IsFormed, CanSearch, most_levels, row_asks}
 use Rattle.iddqd_order.proofs.btree_table.node.Node.descend.Given as goal
 
 abbrev pub invariant-loop-i : goal.invariant-loop-i
 invariant-loop-i g l = record {
   formed : IsFormed l.level l.node;
-  levels : l.level < LEVELS;
-  path : length l.path ≡ LEVELS;
+  levels : l.level < most_levels;
+  path : length l.path ≡ most_levels;
   can_search : CanSearch g.F.FnMut (flat l.level l.node) l.sought l.asking;
   above : l.level < l.full;
   rest : (p : _) (end : Result ℕ ℕ) (new : _)

@@ -1,4 +1,4 @@
-use Rattle.iddqd_order.proofs.Names.{◌<◌, arith, order_of, IsTree, LEVELS}
+use Rattle.iddqd_order.proofs.Names.{◌<◌, arith, order_of, IsTree, most_levels}
 use Rattle.iddqd_order.specs.MapBTreeTable.{capacity}
 use Rattle.iddqd_order.proofs.RoomLemmas.{none-fresh}
 use Rattle.iddqd_order.proofs.TableLemmas.{few_blocks}
@@ -7,7 +7,7 @@ use Rattle.iddqd_order.proofs.btree_table.table.MapBTreeTable.allocate_blocks.Go
 
 pub returns-clause-few : goal.returns-clause-few
 returns-clause-few c levels =
-    let low : c.args.self.now.height < LEVELS = rw (← c.self.view_is) (IsTree-low _ _ c.self.invariant.tree) in
+    let low : c.args.self.now.height < most_levels = rw (← c.self.view_is) (IsTree-low _ _ c.self.invariant.tree) in
     let most = few_blocks c.args.self.now.height c.args.full levels in
     omega arith
 

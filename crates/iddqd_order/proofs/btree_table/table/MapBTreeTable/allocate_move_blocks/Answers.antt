@@ -1,4 +1,4 @@
-use Rattle.iddqd_order.proofs.Names.{◌<◌, arith, LEVELS, order_of}
+use Rattle.iddqd_order.proofs.Names.{◌<◌, arith, most_levels, order_of}
 use Rattle.iddqd_order.proofs.RoomLemmas.{move-few, move-none}
 use Rattle.iddqd_order.proofs.TreeLemmas.{IsTree-low}
 use Rattle.iddqd_order.proofs.TableLemmas.{index_list}
@@ -13,7 +13,7 @@ returns-clause-indexes c = rw (← c.self.view_is) (index_list _ _ _ c.self.inva
 
 pub returns-clause-few : goal.returns-clause-few
 returns-clause-few c =
-    let low : c.args.self.now.height < LEVELS = rw (← c.self.view_is) (IsTree-low _ _ c.self.invariant.tree) in
+    let low : c.args.self.now.height < most_levels = rw (← c.self.view_is) (IsTree-low _ _ c.self.invariant.tree) in
     move-few c.args.self.now low
 
 pub returns-clause-roomy : goal.returns-clause-roomy

@@ -13,11 +13,8 @@ returns g c =
         asked = gap.asked;
         prepared =
             record {
-              table = refl;
-              index = refl;
-              within = gap.within;
+              prepared = record { table = refl; index = refl; within = gap.within; place = gap.place };
               few_blocks = rw taken.blocks (taken.few gap.fits.levels);
-              place = gap.place;
             };
         memory = refl;
         roomy = λ _. refl;
