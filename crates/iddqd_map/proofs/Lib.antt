@@ -1,5 +1,9 @@
+pub use Rattle.iddqd.proofs.LiveCountLemmas
+pub mod CallerLemmas
 pub mod CloneLemmas
+pub mod ConflictLemmas
 pub mod CountLemmas
+pub mod DropLemmas
 pub mod EqualityLemmas
 pub mod FilesLemmas
 pub mod FoundLemmas
@@ -12,4 +16,7 @@ pub mod OverwriteLemmas
 pub mod RangeLemmas
 pub mod RangeRetainLemmas
 pub mod RetainLemmas
+pub mod RetainedLemmas
+pub mod RoomLemmas
+pub mod SizeLemmas
 pub mod TakeLemmas

@@ -14,13 +14,13 @@ use Rattle.std.proofs.lemmas.Map.Made.{is_member-Decides}
 use Rattle.iddqd.specs.Store.{Store, IsValid, get, live_count, removed}
 use Rattle.iddqd.proofs.LiveLemmas.{get-removed_at, get-removed_other}
 use Rattle.iddqd.proofs.StoreLemmas.{contains_head, contains_tail, contains_cases, contains_none, live_within}
-use Rattle.iddqd_keys.specs.KeyWalk.{by_key_then_index, IsFirstHit, IsNextHit, pairs_at}
+use Rattle.iddqd_keys.specs.KeyWalk.{by_key_then_index, ComesBefore, IsFirstHit, IsNextHit, pairs_at}
 use Rattle.iddqd_keys.specs.OrderedQuery.{is_between, is_equal}
 use Rattle.iddqd_keys.specs.Scan.{IsHit, passes_by}
 use Rattle.iddqd_keys.proofs.KeyWalkLemmas.{between_equal, pairs_at-alike, pairs_at-first, totals}
 use Rattle.iddqd_keys.proofs.NextLemmas.{SortsFrom, SortsFrom-more, SortsFrom-removed, SortsFrom-none, SortsWithin-from, before_still, both, from_later, next_hits, next_still, not_before_itself}
 use Rattle.iddqd_keys.proofs.ScanLemmas.{live_before}
-use Rattle.iddqd_map.specs.RangeRetain.{KeepsMisses, RetainsWithin}
+use Rattle.iddqd_map.specs.RangeRetain.{AsksFrom, AsksWithin, KeepsMisses, MayAskWithin, RetainsWithin}
 use Rattle.iddqd_map.specs.Retain.{removed_of}
 use Rattle.iddqd_keys.specs.Removals.{removed_all}
 use Rattle.iddqd_map.proofs.RangeLemmas.{live_count-removed}
@@ -293,8 +293,134 @@ module _
                   (λ _ _. omega arith)
                   (λ _ after. omega (arith, live_count-removed s (removed s ix) ix refl valid after))
 
+-- a closure that may be called from an index on
+module _
+    {F T K : Type 0} (key_of : T → K) (compare : K → K → Ordering) (within : K → Bool) (takes : F → T → Type 0)
+    (ask : F → T → Bool → F → Type 0)
+  where
+    AsksFrom-by :
+        (I : F → Type 0) (s : Store T)
+        → ((p : F) (ix : ℕ) (x : T) → get s ix ≡ Some x → I p → takes p x)
+        → ((p : F) (ix : ℕ) (x : T) (b : Bool) (q : F) → get s ix ≡ Some x → I p → ask p x b q → I q)
+        → (n : ℕ) (f : F) (at : Option ℕ)
+        → I f
+        → AsksFrom key_of compare within takes ask s n f at
+    AsksFrom-by I s asks keeps zero f at i = tt
+    AsksFrom-by I s asks keeps (suc n) f None i = tt
+    AsksFrom-by I s asks keeps (suc n) f (Some ix) i = λ item live. (
+      asks f ix item live i,
+      λ b f' next called is. AsksFrom-by I s asks keeps n f' next (keeps f ix item b f' live i called),
+    )
+
+    -- it may be called where an invariant of its states allows each call, and each call keeps it
+    pub AsksWithin-by :
+        (I : F → Type 0) (s : Store T)
+        → ((p : F) (ix : ℕ) (x : T) → get s ix ≡ Some x → I p → takes p x)
+        → ((p : F) (ix : ℕ) (x : T) (b : Bool) (q : F) → get s ix ≡ Some x → I p → ask p x b q → I q)
+        → (f : F)
+        → I f
+        → AsksWithin key_of compare within takes ask f s
+    AsksWithin-by I s asks keeps f i = record { at = λ n first is. AsksFrom-by I s asks keeps n f first i }
+
+    pub MayAskWithin-asks :
+        (f : F) (s : Store T)
+        → MayAskWithin key_of compare within takes ask f s
+        → AsksWithin key_of compare within takes ask f s
+    MayAskWithin-asks f s may =
+        may (λ asks.
+        AsksWithin-by (λ p. Unit {0}) s (λ p ix x live i. asks p x) (λ p ix x b q live i called. tt) f tt)
+
+    -- the item at the index may be asked about
+    pub takes-at :
+        (s : Store T) (f : F) (at : Option ℕ) (ix : ℕ) (item : T)
+        → ((n : ℕ) → AsksFrom key_of compare within takes ask s n f at)
+        → at ≡ Some ix
+        → get s ix ≡ Some item
+        → takes f item
+    takes-at s f at ix item can is live =
+        ((subst (AsksFrom key_of compare within takes ask s 1 f) is (can 1)) item live).0
+
+    module _ (total : IsTotalOrder compare) (s : Store T) (ix : ℕ) (was : T) (here : get s ix ≡ Some was) where
+      -- what is behind an index is another one
+      behind_apart : (j : ℕ) → ComesBefore key_of compare s ix j → j ≢ ix
+      behind_apart j behind same =
+          not_before_itself key_of compare total s ix (subst (ComesBefore key_of compare s ix) same behind)
+
+      -- the next hit behind what is behind a removed index was the next before
+      next_before :
+          (j : ℕ) (next : Option ℕ)
+          → ComesBefore key_of compare s ix j
+          → IsNextHit key_of compare (removed s ix) (passes_by key_of within) j next
+          → IsNextHit key_of compare s (passes_by key_of within) j next
+      next_before j None behind is = λ i hit before.
+          let i_apart = behind_apart i ((totals key_of compare total s).trans ix j i behind before) in
+          is i (hit.0, get-removed_other s ix i i_apart ∙ hit.1, hit.2)
+          (before_still key_of compare s ix j i (behind_apart j behind) i_apart ∙ before)
+      next_before j (Some k) behind is =
+          let (item, live, passes) = is.0 in
+          let (k_apart, there) = live_before s ix k was item here live in
+          let j_apart = behind_apart j behind in (
+            (item, there, passes),
+            sym (before_still key_of compare s ix j k j_apart k_apart) ∙ is.1,
+            λ i hit before other.
+                let i_apart = behind_apart i ((totals key_of compare total s).trans ix j i behind before) in
+                sym (before_still key_of compare s ix k i k_apart i_apart)
+                ∙ is.2 i (hit.0, get-removed_other s ix i i_apart ∙ hit.1, hit.2)
+                (before_still key_of compare s ix j i j_apart i_apart ∙ before) other,
+          )
+
+      AsksFrom-removed :
+          (n : ℕ) (f : F) (at : Option ℕ)
+          → ((j : ℕ) → at ≡ Some j → ComesBefore key_of compare s ix j)
+          → AsksFrom key_of compare within takes ask s n f at
+          → AsksFrom key_of compare within takes ask (removed s ix) n f at
+      AsksFrom-removed zero f at behind asks = tt
+      AsksFrom-removed (suc n) f None behind asks = tt
+      AsksFrom-removed (suc n) f (Some j) behind asks = λ item live.
+          let there = (live_before s ix j was item here live).1 in
+          let j_behind = behind j refl in (
+            (asks item there).0,
+            λ b f' next called is.
+                let is_next = next_before j next j_behind is in
+                let later = λ (k : ℕ) (same : next ≡ Some k).
+                (totals key_of compare total s).trans ix j k j_behind
+                (subst (IsNextHit key_of compare s (passes_by key_of within) j) same is_next).1 in
+                AsksFrom-removed n f' next later ((asks item there).1 b f' next called is_next),
+          )
+
+      -- after the item at the index was asked about, and kept or removed by the answer
+      pub AsksFrom-asked :
+          (f after : F) (at next : Option ℕ) (now : Store T) (b : Bool)
+          → ((n : ℕ) → AsksFrom key_of compare within takes ask s n f at)
+          → at ≡ Some ix
+          → ask f was b after
+          → IsNextHit key_of compare s (passes_by key_of within) ix next
+          → (b ≡ true → now ≡ s)
+          → (b ≡ false → now ≡ removed s ix)
+          → (n : ℕ)
+          → AsksFrom key_of compare within takes ask now n after next
+      AsksFrom-asked f after at next now b can same asked is kept gone n =
+          let from : AsksFrom key_of compare within takes ask s (suc n) f (Some ix) =
+          subst (AsksFrom key_of compare within takes ask s (suc n) f) same (can (suc n)) in
+          let rest = (from was here).1 b after next asked is in
+          elim b as (λ a. b ≡ a → AsksFrom key_of compare within takes ask now n after next) [
+            | true ↦ λ yes. subst (λ t. AsksFrom key_of compare within takes ask t n after next) (sym (kept yes)) rest
+            | false ↦ λ no.
+                let behind = λ (k : ℕ) (at_k : next ≡ Some k).
+                (subst (IsNextHit key_of compare s (passes_by key_of within) ix) at_k is).1 in
+                subst (λ t. AsksFrom key_of compare within takes ask t n after next) (sym (gone no))
+                (AsksFrom-removed n after next behind rest)
+          ] refl
+
 -- between a query and itself are the keys at which it is Equal
 module _ {T K : Type 0} (key_of : T → K) (comparing : K → Ordering) (old new : Store T) where
+  pub AsksWithin-group :
+      {F : Type 0} (compare : K → K → Ordering) (takes : F → T → Type 0) (ask : F → T → Bool → F → Type 0) (f : F)
+      → AsksWithin key_of compare (is_equal comparing) takes ask f old
+      → AsksWithin key_of compare (is_between (Included comparing) (Included comparing)) takes ask f old
+  AsksWithin-group compare takes ask f asks =
+      subst (λ within. AsksWithin key_of compare within takes ask f old) (sym (between_equal comparing)) asks
+
   pub KeepsMisses-group :
       KeepsMisses old (passes_by key_of (is_between (Included comparing) (Included comparing))) new
       → KeepsMisses old (passes_by key_of (is_equal comparing)) new

@@ -1,7 +1,7 @@
 -- For callers: what `retain` leaves of a map's memory and room, beside what it leaves of the items.
 use Rattle.std.proofs.Common.{◌≡◌, ◌∙◌, ◌≤◌, Bool, ap, arith}
 use Rattle.iddqd.specs.Store.{Store}
-pub use Rattle.iddqd_by_hash.proofs.RetainLemmas.{Contains-live, RetainsTo-fewer, MayAsk-can, Retaining, Retaining-none, Retaining-all, Retaining-vacant, takes-next, Retaining-kept, Retaining-removed}
+pub use Rattle.iddqd_by_hash.proofs.RetainLemmas.{Contains-live, RetainsTo-fewer, MayAsk-can, AsksInTurn-by, AsksInTurn-can, AsksInTurn-everywhere, MayAskInTurn-asks, Retaining, Retaining-first, Retaining-all, Retaining-vacant, takes-next, Retaining-kept, Retaining-removed}
 use Rattle.iddqd_by_hash.proofs.RetainLemmas.{removed_all-limit}
 use Rattle.iddqd_map.specs.Map.{MapState, MapMemory, room}
 use Rattle.iddqd_map.specs.Retain.{removed_of, RetainsTo}

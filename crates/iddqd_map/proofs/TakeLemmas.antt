@@ -4,10 +4,11 @@ use Rattle.std.proofs.lemmas.List.{length-set}
 use Rattle.std.specs.Option.{OnSome}
 use Rattle.iddqd.specs.Store.{Store, IsValid, get, removed}
 use Rattle.iddqd.specs.ItemSet.{SizedStore}
-use Rattle.iddqd_keys.specs.Scan.{HasNoHit, AnswersScan}
+use Rattle.iddqd_keys.specs.Scan.{HasNoHit, IsLive, AnswersScan}
+use Rattle.iddqd.proofs.LiveLemmas.{item_at}
 use Rattle.iddqd_keys.proofs.ScanLemmas.{HasNoHit-hit_removed}
 use Rattle.iddqd_map.specs.KeyIndex.{IsIndexed}
-use Rattle.iddqd_map.specs.Map.{MapState, MapMemory, Removes, map_with, room}
+use Rattle.iddqd_map.specs.Map.{MapState, MapMemory, Removes, RemovesAt, map_with, room}
 use Rattle.iddqd_map.proofs.MapLemmas.{IsIndexed-removed, set_left}
 use Rattle.iddqd_map.proofs.FoundLemmas.{hit_live}
 
@@ -80,3 +81,17 @@ room-removes old new test (Some item) valid after removes =
     let before = valid.counted in
     let counted = after.counted in
     omega (arith, free, slots, limit, held, holds, before, counted)
+
+-- the same of an item at an index
+pub RemovesAt-taken :
+    {T : Type 0} (old left : SizedStore T) (ix : ℕ) (r : Option T) (capacity cells after held : ℕ)
+    → IsLive old.store ix
+    → r ≡ get old.store ix
+    → left ≡ record old { store = removed old.store ix }
+    → after ≡ capacity
+    → held ≡ cells
+    → RemovesAt (map_with old capacity cells) ix r (map_with left after held)
+RemovesAt-taken old left ix r capacity cells after held here value gone same few =
+    let (item, live) = item_at old.store ix here in
+    subst (λ o. RemovesAt (map_with old capacity cells) ix o (map_with left after held)) (sym (value ∙ live))
+    (live, ap (λ (s : SizedStore _). s.store) gone, rw (ap (λ (s : SizedStore _). s.capacity) gone, same, few) refl)

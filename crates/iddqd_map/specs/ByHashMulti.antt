@@ -1,5 +1,5 @@
 -- An index by the hash of a key that several items may have.
-use Rattle.std.specs.Prelude.{◌≡◌, ℕ}
+use Rattle.std.specs.Prelude.{◌≡◌, ℕ, min, max}
 use Rattle.std.specs.Ordering.{nat_cmp}
 use Rattle.std.specs.FinMap.{FinMap}
 use Rattle.iddqd.specs.Store.{Store, slot_count}
@@ -8,13 +8,20 @@ use Rattle.iddqd_keys.specs.AnyTable.{ChangesAt}
 use Rattle.iddqd_by_hash.specs.Hashed.{Hashing, Holds, IsInPlace}
 use Rattle.iddqd_by_hash.specs.declared.hashed_move.Move.{Move}
 use Rattle.iddqd_by_hash.specs.declared.hashed_move.Move.TheVariants.{Stays, To}
-use Rattle.iddqd_by_hash.specs.LinkedTable.{LinkedState}
+use Rattle.iddqd_by_hash.specs.LinkedTable.{LinkedState, needed_linked}
 use Rattle.iddqd_map.specs.Indexing.{shares_key}
 
 -- the tables have the same indexes under the same hashes, and as many slots have a link
 pub record HasSameIndexes (old new : LinkedState) : Type 0 where
   pub filed : new.filed ≡ old.filed
   pub slots : new.slots ≡ old.slots
+
+-- the fewest cells and links that do for what a shrink to `least` leaves room for, beside a store of so many slots and
+-- items
+abbrev pub needed_after : LinkedState → (least slots count : ℕ) → ℕ
+needed_after t least slots count =
+    let kept = min t.capacity (max least count) in
+    needed_linked (max slots kept) kept
 
 module _ {T K : Type 0} (key_of : T → K) (hashing : Hashing K) where
   -- the map has exactly the live indexes, each under the hash of its item's key as it is now

@@ -21,6 +21,11 @@ use Rattle.iddqd_map.specs.declared.refusal.ReplaceRefusal.TheVariants.{Missing,
 abbrev pub MayChange : {F T R : Type 0} → Once F (Bor T × Unit {0}) R → F → Store T → (T → Bool) → Type 0
 MayChange {F} {T} g f s test = (item : Bor T) → FindsItem s test (Some item.now) → g.pre f (item, tt)
 
+-- the item was refused since stored items have some of its unique keys
+abbrev pub IsDuplicate : {T C : Type 0} → InsertRefusal T C → Type 0
+IsDuplicate (Duplicate back at) = Unit {0}
+IsDuplicate refusal = ⊥
+
 -- the contents are compacted, and the counts of the map's memory stay
 pub record Compacts {T : Type 0} (old new : MapState T) : Type 0 where
   pub store : new.store ≡ compacted old.store

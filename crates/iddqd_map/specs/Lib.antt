@@ -1,6 +1,8 @@
 pub mod ByHashMulti
 pub mod ByHashMultiLaws
 pub mod Calls
+pub mod Clones
+pub mod Drops
 pub mod Equality
 pub mod EqualityLaws
 pub mod Groups

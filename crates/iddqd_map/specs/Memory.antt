@@ -45,3 +45,11 @@ module _ {T : Type 0} (kept : ℕ → ℕ → ℕ) where
     pub refused : OnErr result ((max least (slot_count old.store) < new.memory.slots)
         ⊎ (max least (live_count old.store) < new.memory.cells))
     pub succeeds : max least (slot_count old.store) ≡ 0 → IsOk result
+
+-- A shrink to `least` items is refused only if the memory then has more slots than these need and than there are, or
+-- the tables more cells than the fewest that do for the slots, and for so many items or as many as there was room for.
+abbrev pub HasMoreThanNeeded : {T : Type 0} → (needed : ℕ → ℕ → ℕ) → ℕ → (old new : MapState T) → Type 0
+HasMoreThanNeeded needed least old new =
+    let kept = min old.memory.capacity (max least (live_count old.store)) in
+    (max least (slot_count old.store) < new.memory.slots)
+    ⊎ (needed (max (slot_count old.store) kept) kept < new.memory.cells)

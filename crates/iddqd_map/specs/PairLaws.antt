@@ -16,6 +16,10 @@ use Rattle.iddqd_map.specs.Several.{either_key, both_keys, HasNoOther}
 pub sum_none : {a b : ℕ} → a ≡ 0 → b ≡ 0 → a + b ≡ 0
 sum_none none none_too = omega (arith, none, none_too)
 
+-- and two parts that grow grow together
+pub sum_grows : {a b c d : ℕ} → a ≤ b → c ≤ d → a + c ≤ b + d
+sum_grows one other = omega (arith, one, other)
+
 either_true : (a b : Bool) → (a || b) ≡ true → (a ≡ true) ⊎ (b ≡ true)
 either_true true b is = inl refl
 either_true false b is = inr is

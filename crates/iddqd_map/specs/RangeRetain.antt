@@ -1,16 +1,40 @@
 -- The outcome of calls that ask a closure about each item within bounds, in order, and remove those it rejects.
-use Rattle.std.specs.Prelude.{◌≡◌, ℕ, Bool, List, None, map}
+use Rattle.std.specs.Prelude.{◌≡◌, ℕ, zero, suc, Bool, List, Option, Some, None, map}
 use Rattle.std.specs.List.{Contains, FoldsTo}
 use Rattle.std.specs.declared.cmp.Ordering.{Ordering}
 use Rattle.iddqd.specs.Store.{Store, get}
-use Rattle.iddqd_keys.specs.KeyWalk.{SortsWithin, pairs_at}
-use Rattle.iddqd_keys.specs.Scan.{IsHit}
+use Rattle.iddqd_keys.specs.KeyWalk.{IsFirstHit, IsNextHit, SortsWithin, pairs_at}
+use Rattle.iddqd_keys.specs.Scan.{IsHit, passes_by}
 use Rattle.iddqd_map.specs.Retain.{removed_of}
 use Rattle.iddqd_keys.specs.Removals.{removed_all}
 
 -- each index keeps what it has, unless its item passes
 abbrev pub KeepsMisses : {T : Type 0} → Store T → (T → Bool) → Store T → Type 0
 KeepsMisses old test new = (ix : ℕ) → (IsHit old test ix → ⊥) → get new ix ≡ get old ix
+
+-- `takes p x` says that the closure in the state p may be called on x, and `ask p x b q` that it may then answer b and
+-- be in the state q
+module _ {F T K : Type 0} (key_of : T → K) (compare : K → K → Ordering) (within : K → Bool)
+    (takes : F → T → Type 0) (ask : F → T → Bool → F → Type 0) where
+  -- The closure may be called on the item at this index, then on the next item whose key is within, and so on, on so
+  -- many items at most, whatever it answers. Behind the last, it may not be called again.
+  abbrev pub AsksFrom : Store T → ℕ → F → Option ℕ → Type 0
+  AsksFrom s zero f at = Unit {0}
+  AsksFrom s (suc n) f None = Unit {0}
+  AsksFrom s (suc n) f (Some ix) =
+      (item : T) → get s ix ≡ Some item
+      → takes f item
+      × ((b : Bool) (f' : F) (next : Option ℕ) → ask f item b f'
+      → IsNextHit key_of compare s (passes_by key_of within) ix next → AsksFrom s n f' next)
+
+  -- it may be called so on each item whose key is within, from the first on
+  pub record AsksWithin (f : F) (s : Store T) : Type 0 where
+    pub at : (n : ℕ) (first : Option ℕ)
+        → IsFirstHit key_of compare s (passes_by key_of within) first → AsksFrom s n f first
+
+  -- equivalent to `AsksWithin`, and in the form of `MayAsk` for the same reason
+  abbrev pub MayAskWithin : F → Store T → Type 0
+  MayAskWithin f s = (((p : F) (x : T) → takes p x) → AsksWithin f s) → AsksWithin f s
 
 -- `ask p x b q` says that the closure in the state p may answer b at x, and is then in the state q
 module _ {F T K : Type 0} (key_of : T → K) (compare : K → K → Ordering) (within : K → Bool)

@@ -16,6 +16,10 @@ module _ {T : Type 0} where
   abbrev pub HasNoOther : Store T → (T → Bool) → ℕ → Type 0
   HasNoOther s test ix = (j : ℕ) → IsHit s test j → j ≡ ix
 
+  -- an item at another index than this one passes the test
+  abbrev pub HitsOther : Store T → (T → Bool) → ℕ → Type 0
+  HitsOther s test ix = (j : ℕ) × (j ≢ ix) × IsHit s test j
+
   -- the index of an item, other than the one at `ix`, that passes the test; `None` if no other does
   abbrev pub AnswersOther : Store T → (T → Bool) → ℕ → Option ℕ → Type 0
   AnswersOther s test ix (Some at) = (at ≢ ix) × AnswersScan s test (Some at)

@@ -1,7 +1,9 @@
 //! A map of items that have two keys each, both found by their hashes: a [`Map`] whose key index is a pair of tables.
 //!
 //! All calls but `insert_overwrite` are `Map`'s. Those that name a key, as `find1`, are of every map with such keys.
-ghost use Rattle.iddqd_map.specs.Map.{shares};
+ghost use Rattle.std.specs.Prelude.{◌≡◌, ◌+◌, ◌≤◌, count_by, is_some, IsOk, IfOk, OnErr};
+ghost use Rattle.iddqd.specs.{live_count};
+ghost use Rattle.iddqd_map.specs.Map.{room, shares};
 ghost use Rattle.iddqd_map.specs.TwoKeys.{OverwritesTwo};
 
 mod clash;
@@ -35,8 +37,14 @@ impl<T: BiHashItem, S: BuildHasher> Map<T, BiIndex<T>, S> {
         &mut self,
         item: T,
     ) -> Result<(ItemIndex, [Option<T>; 2]), OverwriteRefusal<T>>
-        ensures { OverwritesTwo (shares T.first_key T.Key1.eq) (shares T.second_key T.Key2.eq) self.old item result
-            self.new }
+        ensures inserts { OverwritesTwo (shares T.first_key T.Key1.eq) (shares T.second_key T.Key2.eq) self.old
+            item result self.new }
+        ensures count { IfOk result (λ put. live_count self.new.store + count_by is_some put.1
+            ≡ live_count self.old.store + 1) }
+        ensures unchanged { OnErr result (self.new.store ≡ self.old.store) }
+        ensures not_refused { 1 ≤ room self.old → IsOk result }
+        ensures room { IfOk result (λ put. 1 ≤ room self.old
+            → room self.new + 1 ≡ room self.old + count_by is_some put.1) }
     {
         let mut places = [None, None];
         let ix = self.overwrite_into(item, &mut places)?;

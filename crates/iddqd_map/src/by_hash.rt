@@ -57,6 +57,8 @@ where
     ghost use Rattle.std.proofs.Common.{refl};
     ghost use Rattle.std.specs.Prelude.{◌≢◌, Some, false};
     ghost use Rattle.iddqd_hash.specs.HashTable.{capacity, memory};
+    ghost use Rattle.iddqd_hash.specs.OpenTableSizes.{least_cells};
+    ghost use Rattle.iddqd_hash.proofs.LeastCellsLemmas.{least_cells-grows};
     ghost use Rattle.iddqd_hash.specs.Sizes.{most_cells};
     ghost use Rattle.iddqd_hash.specs.MapHashTable.{filed};
     ghost use Rattle.iddqd_map.specs.Map.{shares};
@@ -85,6 +87,10 @@ where
     ghost most = { most_cells };
 
     ghost kept = { λ slots count. most_cells count };
+
+    ghost needed = { λ slots count. least_cells count };
+
+    ghost needed_grows = { λ slots more_slots count more wider up. least_cells-grows count more up };
 
     ghost may_need_memory = { false };
 

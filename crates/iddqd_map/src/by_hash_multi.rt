@@ -113,7 +113,9 @@ where
     S: BuildHasher,
 {
     ghost use Rattle.std.proofs.Common.{refl};
-    ghost use Rattle.iddqd_by_hash.specs.LinkedTable.{most_linked, kept_linked};
+    ghost use Rattle.iddqd_hash.proofs.LeastCellsLemmas.{least_cells-grows};
+    ghost use Rattle.iddqd_by_hash.specs.LinkedTable.{most_linked, kept_linked, needed_linked};
+    ghost use Rattle.iddqd_map.specs.PairLaws.{sum_grows};
     ghost use Rattle.iddqd_map.specs.ByHashMulti.{FilesWithin, HasSameIndexes};
     ghost use Rattle.iddqd_map.specs.ByHashMultiLaws.{FilesWithin-kept, FilesWithin-key_kept, FilesWithin-keys_shared};
     ghost use Rattle.iddqd_map.specs.HashLaws.{shares_laws};
@@ -142,6 +144,11 @@ where
     ghost most = { most_linked };
 
     ghost kept = { kept_linked };
+
+    ghost needed = { needed_linked };
+
+    ghost needed_grows = { λ slots more_slots count more wider up.
+        sum_grows (least_cells-grows count more up) wider };
 
     ghost may_need_memory = { false };
 

@@ -11,6 +11,7 @@ ghost use Rattle.iddqd.specs.Validation.{AreAsExpected};
 ghost use Rattle.iddqd_hash.specs.{filed, indexes_of};
 ghost use Rattle.iddqd_hash.specs.HashTable.{room, capacity, memory, KeepsMemory};
 ghost use Rattle.iddqd_hash.specs.MapHashTable.{Renames};
+ghost use Rattle.iddqd_hash.specs.OpenTableSizes.{least_cells};
 ghost use Rattle.iddqd_hash.specs.Sizes.{most_cells};
 ghost use Rattle.iddqd_keys.specs.Scan.{IsLive};
 ghost use Rattle.iddqd_by_hash.specs.Hashed.{Holds};
@@ -69,6 +70,10 @@ pub fn shrink_to<T>(
     ensures capacity_at_least { min (capacity table.old) (max least (live_count items.now.store)) ≤ capacity table.new }
     ensures shrunk { OnOk result (memory table.new ≤ most_cells (max least (live_count items.now.store))) }
     ensures refused { OnErr result (max least (live_count items.now.store) < memory table.new) }
+    ensures needed { let kept = min (capacity table.old) (max least (live_count items.now.store)) in
+        OnErr result (least_cells kept < memory table.new) }
+    ensures enough { let kept = min (capacity table.old) (max least (live_count items.now.store)) in
+        least_cells kept ≤ memory table.new }
     ensures succeeds { max least (live_count items.now.store) ≡ 0 → IsOk result }
 {
     table.shrink_to(least)

@@ -2,11 +2,12 @@
 //!
 //! All calls that name no key are `Map`'s, but for `insert_overwrite`. It is here, beside the calls that name the key;
 //! each of these is the call of `Map` at the place `Here`.
-ghost use Rattle.std.specs.Prelude.{◌≡◌, ◌≤◌, ◌↔◌, false, Some, Ok, option_copied};
+ghost use Rattle.std.specs.Prelude.{◌≡◌, ◌≤◌, ◌↔◌, ◌+◌, false, Some, Ok, option_copied, IsOk, IfOk, OnErr, OnSome, IfNone};
+ghost use Rattle.iddqd.specs.{live_count};
 ghost use Rattle.iddqd_hash.specs.Sizes.{most_cells};
 ghost use Rattle.iddqd_keys.specs.Scan.{HasNoHit, AnswersScan, passes_by};
 ghost use Rattle.iddqd_keys.specs.KeyKeeping.{KeepsKey};
-ghost use Rattle.iddqd_map.specs.Map.{room, shares, FindsItem, Removes};
+ghost use Rattle.iddqd_map.specs.Map.{capacity, room, shares, FindsItem, Removes};
 ghost use Rattle.iddqd_map.specs.Calls.{MayChange};
 ghost use Rattle.iddqd_map.specs.Modify.{Modifies};
 ghost use Rattle.iddqd_map.specs.OneKey.{ChangesOne, OverwritesOne, ReplacesOne};
@@ -62,6 +63,10 @@ impl<T: IdHashItem, S: BuildHasher> Map<T, IdIndex<T>, S> {
         ensures removes { Removes self.old (passes_by T.key_of (Q.stands_for query)) result self.new }
         ensures gone { HasNoHit self.new.store (passes_by T.key_of (Q.stands_for query)) }
         ensures room { room self.old ≤ room self.new }
+        ensures count { OnSome result (live_count self.old.store ≡ live_count self.new.store + 1) }
+        ensures unchanged { IfNone result (self.new ≡ self.old) }
+        ensures freed { OnSome result (live_count self.old.store ≤ capacity self.old
+            → room self.new ≡ room self.old + 1) }
     {
         self.remove_by::<Here, Q>(query)
     }
@@ -77,7 +82,8 @@ impl<T: IdHashItem, S: BuildHasher> Map<T, IdIndex<T>, S> {
     ) -> Result<T, ReplaceRefusal<T, ItemIndex>>
         ensures replaces { ReplacesOne (shares T.key_of T.Key.eq) self.old
             (passes_by T.key_of (Q.stands_for query)) item result self.new }
-        ensures room { room self.old ≤ room self.new }
+        ensures room { room self.new ≡ room self.old }
+        ensures count { live_count self.new.store ≡ live_count self.old.store }
     {
         self.replace_by::<Here, Q>(query, item)
     }
@@ -94,7 +100,8 @@ impl<T: IdHashItem, S: BuildHasher> Map<T, IdIndex<T>, S> {
         requires { MayChange F.FnOnce f self.old.store (passes_by T.key_of (Q.stands_for query)) }
         ensures changes { ChangesOne (shares T.key_of T.Key.eq) F.FnOnce f self.old
             (passes_by T.key_of (Q.stands_for query)) result self.new }
-        ensures room { room self.old ≤ room self.new }
+        ensures room { room self.new ≡ room self.old }
+        ensures count { live_count self.new.store ≡ live_count self.old.store }
     {
         self.change_by::<Here, Q, F>(query, f)
     }
@@ -123,7 +130,14 @@ impl<T: IdHashItem, S: BuildHasher> Map<T, IdIndex<T>, S> {
         &mut self,
         item: T,
     ) -> Result<(ItemIndex, Option<T>), OverwriteRefusal<T>>
-        ensures { OverwritesOne (shares T.key_of T.Key.eq) most_cells self.old item result self.new }
+        ensures inserts { OverwritesOne (shares T.key_of T.Key.eq) most_cells self.old item result self.new }
+        ensures one_more { IfOk result (λ put. IfNone put.1
+            (live_count self.new.store ≡ live_count self.old.store + 1)) }
+        ensures as_many { IfOk result (λ put. OnSome put.1 (live_count self.new.store ≡ live_count self.old.store)) }
+        ensures unchanged { OnErr result (self.new.store ≡ self.old.store) }
+        ensures not_refused { 1 ≤ room self.old → IsOk result }
+        ensures room { IfOk result (λ put. IfNone put.1 (1 ≤ room self.old → room self.old ≡ room self.new + 1)) }
+        ensures same_room { IfOk result (λ put. OnSome put.1 (room self.new ≡ room self.old)) }
     {
         match self.insert_unique(item) {
             Ok(ix) => Ok((ix, None)),
@@ -136,8 +150,10 @@ impl<T: IdHashItem, S: BuildHasher> Map<T, IdIndex<T>, S> {
     // Replaces the item at an index by one that has the same key.
     fn stand_in(&mut self, at: ItemIndex, item: T) -> Option<T>
         requires only { AnswersScan self.old.store (shares T.key_of T.Key.eq item) (Some at) }
-        ensures { (was : T) × (result ≡ Some was)
+        ensures stands { (was : T) × (result ≡ Some was)
             × OverwritesOne (shares T.key_of T.Key.eq) most_cells self.old item (Ok (at, Some was)) self.new }
+        ensures count { live_count self.new.store ≡ live_count self.old.store }
+        ensures room { room self.new ≡ room self.old }
     {
         match self.replace_at(at, item) {
             Ok(was) => Some(was),

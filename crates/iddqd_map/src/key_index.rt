@@ -69,6 +69,9 @@ pub trait KeyIndex<T, S>: Sized + Drop {
     // The most cells that a shrink leaves, for a number of slots and a number of indexes.
     ghost kept: { ℕ → ℕ → ℕ };
 
+    // The fewest cells that do for a number of slots and a number of indexes.
+    ghost needed: { ℕ → ℕ → ℕ };
+
     // An insert after a removal may need memory, if there are more indexes than the capacity.
     ghost may_need_memory: { Bool };
 
@@ -91,6 +94,10 @@ pub trait KeyIndex<T, S>: Sized + Drop {
 
     // If there are no slots and no indexes, a shrink leaves nothing.
     ghost kept_none: { kept 0 0 ≡ 0 };
+
+    // More slots and more indexes need no fewer cells.
+    ghost needed_grows: { (slots more_slots count more : ℕ) → slots ≤ more_slots → count ≤ more
+        → needed slots count ≤ needed more_slots more };
 
     // `same` is reflexive. Of two key indexes that are the same, the second indexes each store that the first does.
     ghost same_as_itself: { (x : Self) → same x x };
@@ -170,6 +177,10 @@ pub trait Sizes<T, S>: KeyIndex<T, S> {
         ensures shrunk { OnOk result (Self.cells self.new
             ≤ Self.kept (max least (slot_count items.now.store)) (max least (live_count items.now.store))) }
         ensures refused { OnErr result (max least (live_count items.now.store) < Self.cells self.new) }
+        ensures needed { let kept = min (Self.capacity self.old) (max least (live_count items.now.store)) in
+            OnErr result (Self.needed (max (slot_count items.now.store) kept) kept < Self.cells self.new) }
+        ensures enough { let kept = min (Self.capacity self.old) (max least (live_count items.now.store)) in
+            Self.needed (max (slot_count items.now.store) kept) kept ≤ Self.cells self.new }
         ensures succeeds { Self.kept (max least (slot_count items.now.store))
             (max least (live_count items.now.store)) ≡ 0 → IsOk result };
 }

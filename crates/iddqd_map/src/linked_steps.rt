@@ -13,7 +13,7 @@ ghost use Rattle.iddqd_keys.specs.Scan.{IsLive};
 ghost use Rattle.iddqd_by_hash.specs.Hashed.{Holds};
 ghost use Rattle.iddqd_by_hash.specs.HashedMove.{moved};
 ghost use Rattle.iddqd_by_hash.specs.LinkedTable.{KeepsLinkMemory, most_linked, kept_linked};
-ghost use Rattle.iddqd_map.specs.ByHashMulti.{HasSameIndexes};
+ghost use Rattle.iddqd_map.specs.ByHashMulti.{HasSameIndexes, needed_after};
 ghost use Rattle.iddqd_map.specs.Validation.{NamesTable};
 
 use iddqd::index_remap::IndexRemap;
@@ -57,6 +57,10 @@ pub fn shrink_to<T>(
     ensures shrunk { OnOk result (table.new.memory
         ≤ kept_linked (max least (slot_count items.now.store)) (max least (live_count items.now.store))) }
     ensures refused { OnErr result (max least (live_count items.now.store) < table.new.memory) }
+    ensures needed { OnErr result
+        (needed_after table.old least (slot_count items.now.store) (live_count items.now.store) < table.new.memory) }
+    ensures enough { needed_after table.old least (slot_count items.now.store) (live_count items.now.store)
+        ≤ table.new.memory }
     ensures succeeds { kept_linked (max least (slot_count items.now.store)) (max least (live_count items.now.store)) ≡ 0
         → IsOk result }
 {

@@ -45,7 +45,7 @@ where
     ghost use Rattle.iddqd_map.specs.PairConflict.{ReportBoth, ReportBothOther, IsEither, IsReportedBy};
     ghost use Rattle.std.proofs.Common.{ap};
     ghost use Rattle.std.proofs.lemmas.Cmp.{and_equiv};
-    ghost use Rattle.iddqd_map.specs.PairLaws.{AreApart-either, HaveSameKeys-first, HaveSameKeys-second, alike_both, reported_by_one, reported_both, reported_some, few_by_one, few_both, sum_none};
+    ghost use Rattle.iddqd_map.specs.PairLaws.{AreApart-either, HaveSameKeys-first, HaveSameKeys-second, alike_both, reported_by_one, reported_both, reported_some, few_by_one, few_both, sum_none, sum_grows};
 
     type Conflict = C;
 
@@ -68,6 +68,12 @@ where
     ghost most = { λ n. A.most n + B.most n };
 
     ghost kept = { λ slots count. A.kept slots count + B.kept slots count };
+
+    ghost needed = { λ slots count. A.needed slots count + B.needed slots count };
+
+    ghost needed_grows = { λ slots more_slots count more wider up.
+        sum_grows (A.needed_grows slots more_slots count more wider up)
+        (B.needed_grows slots more_slots count more wider up) };
 
     ghost may_need_memory = { A.may_need_memory || B.may_need_memory };
 

@@ -2,7 +2,9 @@
 //! first and a pair of tables by the others.
 //!
 //! All calls but `insert_overwrite` are `Map`'s. Those that name a key, as `find1`, are of every map with such keys.
-ghost use Rattle.iddqd_map.specs.Map.{shares};
+ghost use Rattle.std.specs.Prelude.{◌≡◌, ◌+◌, ◌≤◌, count_by, is_some, IsOk, IfOk, OnErr};
+ghost use Rattle.iddqd.specs.{live_count};
+ghost use Rattle.iddqd_map.specs.Map.{room, shares};
 ghost use Rattle.iddqd_map.specs.ThreeKeys.{OverwritesThree};
 
 mod clash;
@@ -35,8 +37,14 @@ impl<T: TriHashItem, S: BuildHasher> Map<T, TriIndex<T>, S> {
         &mut self,
         item: T,
     ) -> Result<(ItemIndex, [Option<T>; 3]), OverwriteRefusal<T>>
-        ensures { OverwritesThree (shares T.first_key T.Key1.eq) (shares T.second_key T.Key2.eq)
+        ensures inserts { OverwritesThree (shares T.first_key T.Key1.eq) (shares T.second_key T.Key2.eq)
             (shares T.third_key T.Key3.eq) self.old item result self.new }
+        ensures count { IfOk result (λ put. live_count self.new.store + count_by is_some put.1
+            ≡ live_count self.old.store + 1) }
+        ensures unchanged { OnErr result (self.new.store ≡ self.old.store) }
+        ensures not_refused { 1 ≤ room self.old → IsOk result }
+        ensures room { IfOk result (λ put. 1 ≤ room self.old
+            → room self.new + 1 ≡ room self.old + count_by is_some put.1) }
     {
         let mut places = [None, None, None];
         let ix = self.overwrite_into(item, &mut places)?;

@@ -1,4 +1,5 @@
 -- what callers' clauses cite, from one place
+pub mod TextLaws
 pub use Rattle.iddqd.specs.Store
 pub use Rattle.iddqd.specs.LiveItems
 pub use Rattle.iddqd.specs.Sizes
@@ -13,9 +14,11 @@ pub use Rattle.iddqd_order.specs.Range
 pub use Rattle.iddqd_map.specs.Map
 pub use Rattle.iddqd_map.specs.Memory
 pub use Rattle.iddqd_map.specs.Calls
+pub use Rattle.iddqd_map.specs.Clones
 pub use Rattle.iddqd_map.specs.Modify
 pub use Rattle.iddqd_map.specs.Several
 pub use Rattle.iddqd_map.specs.Ranges
+pub use Rattle.iddqd_map.specs.Drops
 pub use Rattle.iddqd_map.specs.RangeRetain
 pub use Rattle.iddqd_map.specs.Groups
 pub use Rattle.iddqd_map.specs.NoConflict

@@ -5,6 +5,7 @@ pub mod SortedScanLemmas
 pub mod OrderedIndexingLemmas
 pub mod OrderedMoveLemmas
 pub mod OrderedEndLemmas
+pub mod OrderedCallerLemmas
 mod CallLemmas
 mod WalkLemmas
 mod EndLemmas

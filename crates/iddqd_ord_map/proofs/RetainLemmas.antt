@@ -10,11 +10,8 @@ use Rattle.std.proofs.lemmas.List.Elements.{All-contains, All-contains_itself, A
 use Rattle.std.proofs.lemmas.List.Kept.{IsStrictlySortedBy-filter}
 use Rattle.std.proofs.lemmas.Map.Keys.{IsDistinct-head, IsDistinct-tail}
 use Rattle.iddqd.specs.Store.{Store, IsValid, get, removed}
-use Rattle.iddqd.specs.LiveItems.{live_items}
 use Rattle.iddqd.proofs.StoreLemmas.{contains_head, contains_tail, contains_cases, contains_none, IsValid-removed}
 use Rattle.iddqd.proofs.LiveLemmas.{item_at, live_at, get-removed_at, get-removed_other}
-use Rattle.iddqd_hash.specs.Asks.{CanAsk}
-use Rattle.iddqd_hash.proofs.AskLemmas.{CanAsk-takes, CanAsk-asked}
 use Rattle.iddqd_order.specs.Retain.{Retains}
 use Rattle.iddqd_order.proofs.IndexListLemmas.{IsDistinct-filter}
 use Rattle.iddqd_keys.specs.Scan.{IsLive}
@@ -22,11 +19,11 @@ use Rattle.iddqd_by_order.specs.Ordered.{AreLive, Holds}
 use Rattle.iddqd_ord_map.specs.OrderedIndexing.{Sorts}
 use Rattle.iddqd_keys.proofs.KeyWalkLemmas.{IsInPlace-alike}
 use Rattle.iddqd_keys.specs.Removals.{removed_all}
-use Rattle.iddqd_map.specs.Retain.{kept_of, removed_of}
-use Rattle.iddqd_map.proofs.RetainLemmas.{Contains-live}
+use Rattle.iddqd_map.specs.Retain.{AsksInTurn, kept_of, removed_of}
+use Rattle.iddqd_map.proofs.RetainLemmas.{AsksInTurn-everywhere}
 use Rattle.iddqd_ord_map.specs.KeyOrder.{IsKeyWalk}
 use Rattle.iddqd_keys.specs.KeyWalk.{index_with_item, pairs_at}
-use Rattle.iddqd_ord_map.specs.Retain.{RetainsAlongTo}
+use Rattle.iddqd_ord_map.specs.Retain.{AsksAlong, MayAskAlong, RetainsAlongTo}
 use Rattle.iddqd_ord_map.proofs.WalkLemmas.{SortsWithin-all, IsWalkWithin-sorted, pairs_at-first, pairs_at-last}
 
 -- what passes a test stays where only that is kept
@@ -155,14 +152,14 @@ module _ {F T : Type 0} (takes : F → T → Type 0) (ask : F → T → Bool →
     pub rest : (j : ℕ) → Contains to_come j → get now j ≡ get old j
     pub live : AreLive old to_come
     pub valid : IsValid now
-    pub can : CanAsk takes ask state (live_items old)
+    pub can : AsksInTurn takes ask state (map (λ (pair : ℕ × T). pair.1) (pairs_at old to_come))
 
   pub Retaining-none :
       (f : F) (old : Store T) (order to_come : List ℕ)
       → to_come ≡ order
       → IsValid old
       → Holds old order
-      → CanAsk takes ask f (live_items old)
+      → AsksInTurn takes ask f (map (λ (pair : ℕ × T). pair.1) (pairs_at old order))
       → Retaining f old old order to_come f
   Retaining-none f old order to_come is valid held can = rw is (record {
     done = [];
@@ -226,9 +223,14 @@ module _ {F T : Type 0} (takes : F → T → Type 0) (ask : F → T → Bool →
       was_here : get old ix ≡ Some item
       was_here = sym (w.rest ix (contains_head ix to_come)) ∙ here
 
+      can-next : AsksInTurn takes ask state (item ∷ map (λ (pair : ℕ × T). pair.1) (pairs_at old to_come))
+      can-next =
+          subst (λ l. AsksInTurn takes ask state (map (λ (pair : ℕ × T). pair.1) l))
+          (pairs_at-first old (ix ∷ to_come) to_come ix item refl was_here) w.can
+
       -- its item may be asked about
       pub takes-next : takes state item
-      takes-next = CanAsk-takes takes ask state (live_items old) item w.can (Contains-live old ix item was_here)
+      takes-next = can-next.0
 
       pairs-more :
           (s : Store T)
@@ -246,10 +248,6 @@ module _ {F T : Type 0} (takes : F → T → Type 0) (ask : F → T → Bool →
           map-append (λ (a : (ℕ × T) × Bool). a.0) w.asks (((ix, item), b) ∷ [])
           ∙ ap (λ l. l ++ (ix, item) ∷ []) w.each_once ∙ sym (pairs-more old was_here)
 
-      can-more : (b : Bool) (next : F) → ask state item b next → CanAsk takes ask next (live_items old)
-      can-more b next asked =
-          CanAsk-asked takes ask state (live_items old) item b next w.can (Contains-live old ix item was_here) asked
-
       -- it was answered true
       pub Retaining-kept : (next : F) → ask state item true next → Retaining f old now order to_come next
       Retaining-kept next asked = record {
@@ -266,7 +264,7 @@ module _ {F T : Type 0} (takes : F → T → Type 0) (ask : F → T → Bool →
         rest = λ j there. w.rest j (contains_tail ix j to_come there);
         live = λ j there. w.live j (contains_tail ix j to_come there);
         valid = w.valid;
-        can = can-more true next asked;
+        can = can-next.1 true next asked;
       }
 
       left-removed : pairs_at (removed now ix) (w.done ++ ix ∷ []) ≡ pairs_at now w.done
@@ -298,7 +296,7 @@ module _ {F T : Type 0} (takes : F → T → Type 0) (ask : F → T → Bool →
         rest = λ j there. get-removed_other now ix j (is_next j there) ∙ w.rest j (contains_tail ix j to_come there);
         live = λ j there. w.live j (contains_tail ix j to_come there);
         valid = IsValid-removed now ix item w.valid here;
-        can = can-more false next asked;
+        can = can-next.1 false next asked;
       })
 
 -- what is left where the items without which the table is were removed
@@ -372,3 +370,24 @@ module _ {F T K : Type 0} (key_of : T → K) (compare : K → K → Ordering) (t
     kept = IsKeyWalk-left key_of compare total old new order o were (kept_of r.asks) r.kept;
     left = r.left;
   }
+
+-- what may be called along a walk may be called on the items of a table that sorts them
+module _ {F T : Type 0} (takes : F → T → Type 0) (ask : F → T → Bool → F → Type 0) where
+  pub MayAskAlong-asks :
+      (is_walk : Store T → List (ℕ × T) → Type 0) (f : F) (s : Store T)
+      → MayAskAlong is_walk takes ask f s
+      → AsksAlong is_walk takes ask f s
+  MayAskAlong-asks is_walk f s may =
+      may (λ asks. record {
+        at = λ pairs is. AsksInTurn-everywhere takes ask f (map (λ (pair : ℕ × T). pair.1) pairs) asks;
+      })
+
+  pub AsksAlong-sorted :
+      {K : Type 0} (key_of : T → K) (compare : K → K → Ordering) (f : F) (s : Store T) (order : List ℕ)
+      → Sorts key_of compare s order
+      → AsksAlong (IsKeyWalk key_of compare) takes ask f s
+      → AsksInTurn takes ask f (map (λ (pair : ℕ × T). pair.1) (pairs_at s order))
+  AsksAlong-sorted key_of compare f s order o asks =
+      asks.at (pairs_at s order)
+      (IsWalkWithin-sorted key_of compare s (λ _. true) order (SortsWithin-all key_of compare s order o)
+      o.in_sync.apart)

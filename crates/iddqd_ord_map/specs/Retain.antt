@@ -4,7 +4,19 @@ use Rattle.std.specs.List.{FoldsTo}
 use Rattle.iddqd.specs.Store.{Store}
 use Rattle.iddqd_map.specs.Map.{MapState}
 use Rattle.iddqd_keys.specs.Removals.{removed_all}
-use Rattle.iddqd_map.specs.Retain.{kept_of, removed_of}
+use Rattle.iddqd_map.specs.Retain.{AsksInTurn, kept_of, removed_of}
+
+-- `is_walk s pairs` says that these are the live indexes of the store with their items, in their order, `takes p x`
+-- that the closure in the state p may be called on x, and `ask p x b q` that it may then answer b and be in the state q
+module _ {F T : Type 0} (is_walk : Store T → List (ℕ × T) → Type 0) (takes : F → T → Type 0)
+    (ask : F → T → Bool → F → Type 0) where
+  -- the closure may be called on the items of a walk in turn, once on each, whatever it answers
+  pub record AsksAlong (f : F) (s : Store T) : Type 0 where
+    pub at : (pairs : List (ℕ × T)) → is_walk s pairs → AsksInTurn takes ask f (map (λ pair. pair.1) pairs)
+
+  -- equivalent to `AsksAlong`, and in the form of `MayAsk` for the same reason
+  abbrev pub MayAskAlong : F → Store T → Type 0
+  MayAskAlong f s = (((p : F) (x : T) → takes p x) → AsksAlong f s) → AsksAlong f s
 
 -- `is_walk s pairs` says that these are the live indexes of the store with their items, in their order, and `ask p x b
 -- q` that the closure in the state p may answer b at x, and is then in the state q

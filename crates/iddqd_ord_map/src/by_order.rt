@@ -49,7 +49,8 @@ pub struct ByOrder<E> {
 impl<E> ByOrder<E> {
     /// The index of the item that has the key for which the query stands.
     ///
-    /// It compares the query with at most 4 + 2d keys, where the number of items has d binary digits.
+    /// It is one search of the ordered table, whose contract allows at most 4 + 2d comparisons, where the number of
+    /// items has d binary digits. The contract here doesn't count them.
     pub fn find<T, S, Q>(&self, items: &ItemSet<T>, state: &S, query: Q) -> Option<ItemIndex>
     where
         E: KeyOf<T>,
@@ -97,8 +98,7 @@ impl<E> ByOrder<E> {
     /// The indexes whose items have keys between two bounds, in the order of the keys, from both ends: none if the
     /// lower bound is above the upper one.
     ///
-    /// It compares each query with at most 4 + 2d keys, where the number of items has d binary digits, and takes no
-    /// memory.
+    /// It is one search for each bound that there is, as `find`, and takes no memory.
     pub fn range<T, S, Q>(
         &self,
         items: &ItemSet<T>,
@@ -172,6 +172,10 @@ where
     ghost most = { most_cells };
 
     ghost kept = { λ slots count. most_cells count };
+
+    ghost needed = { λ slots count. count };
+
+    ghost needed_grows = { λ slots more_slots count more wider up. up };
 
     ghost may_need_memory = { true };
 

@@ -50,8 +50,8 @@ pub struct ByOrderMulti<E> {
 impl<E> ByOrderMulti<E> {
     /// The indexes whose items have the key for which the query stands, by index, from both ends.
     ///
-    /// It compares the query with at most 8 + 4d keys, where the number of items has d binary digits, and takes no
-    /// memory.
+    /// It is two searches of the ordered table, and takes no memory. The contract of the table allows each of them 4 +
+    /// 2d comparisons, where the number of items has d binary digits; the contract here doesn't count them.
     pub fn group<T, S, Q>(&self, items: &ItemSet<T>, state: &S, query: Q) -> Range<'_>
     where
         E: KeyOf<T>,
@@ -66,8 +66,7 @@ impl<E> ByOrderMulti<E> {
     /// The indexes whose items have keys between two bounds, by key and then by index, from both ends: none if the
     /// lower bound is above the upper one.
     ///
-    /// It compares each query with at most 4 + 2d keys, where the number of items has d binary digits, and takes no
-    /// memory.
+    /// It is one search for each bound that there is, each as one of `group`, and takes no memory.
     pub fn range<T, S, Q>(
         &self,
         items: &ItemSet<T>,
@@ -145,7 +144,7 @@ impl<E> ByOrderMulti<E> {
 
     /// Whether an item has the key for which the query stands.
     ///
-    /// It compares the query with at most 4 + 2d keys, where the number of items has d binary digits.
+    /// It is one search, as one of the two of `group`.
     pub fn contains_key<T, S, Q>(&self, items: &ItemSet<T>, state: &S, query: Q) -> bool
     where
         E: KeyOf<T>,
@@ -227,6 +226,10 @@ where
     ghost most = { most_cells };
 
     ghost kept = { λ slots count. most_cells count };
+
+    ghost needed = { λ slots count. count };
+
+    ghost needed_grows = { λ slots more_slots count more wider up. up };
 
     ghost may_need_memory = { true };
 

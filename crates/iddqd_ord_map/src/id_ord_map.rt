@@ -4,12 +4,12 @@
 //! iterators, its `retain` and its equality go in the order of the keys. Every call searches the table at most once,
 //! except `range`, which searches once for each bound, `remove_range` and `retain_range`, which search for each item,
 //! and `replace`, `replace_at` and `change` where the key changes. Look-ups, removals and iteration take no memory.
-ghost use Rattle.std.specs.Prelude.{◌≡◌, ◌≤◌, ◌↔◌, false, [], min, max, length, IsTrue, IsOk, IfOk, OnOk, OnErr, option_copied};
+ghost use Rattle.std.specs.Prelude.{◌≡◌, ◌≤◌, ◌↔◌, ◌+◌, false, [], min, max, length, None, IsTrue, IsOk, IfOk, IfErr, OnOk, OnErr, OnSome, IfNone, option_copied};
 ghost use Rattle.std.specs.Ordering.{eq_by_cmp};
-ghost use Rattle.iddqd.specs.{get, live_count, slot_limit, empty, cleared, IsRemapOf};
-ghost use Rattle.iddqd_map.specs.Calls.{Compacts, Inserts};
+ghost use Rattle.iddqd.specs.{get, live_count, next_index, slot_limit, empty, inserted, cleared, IsRemapOf};
+ghost use Rattle.iddqd_map.specs.Calls.{Compacts, Inserts, IsDuplicate};
 ghost use Rattle.iddqd_map.specs.Map.{empty_map, shares, capacity, room, IsMap, FindsItem, Removes, RemovesAt};
-ghost use Rattle.iddqd_map.specs.Memory.{ReservesItems, ShrinksItems};
+ghost use Rattle.iddqd_map.specs.Memory.{ReservesItems, ShrinksItems, HasMoreThanNeeded};
 ghost use Rattle.iddqd_map.specs.OneKey.{IsReported, OverwritesOne};
 ghost use Rattle.iddqd_order.specs.MapBTreeTable.{order_of};
 ghost use Rattle.iddqd_ord_map.specs.OrderedSteps.{most_cells};
@@ -153,8 +153,9 @@ impl<T: IdOrdItem> IdOrdMap<T> {
 
     /// The index of the item that has the key for which the query stands.
     ///
-    /// The query is a `&T::Key`, or another query that stands for such a key. It is compared with at most 4 + 2d keys,
-    /// where the number of items has d binary digits.
+    /// The query is a `&T::Key`, or another query that stands for such a key. It is one search of the ordered table,
+    /// whose contract allows at most 4 + 2d comparisons, where the number of items has d binary digits. The contract
+    /// here doesn't count them; tests do.
     pub fn find<Q: OrdQuery<T::Key>>(&self, query: Q) -> Option<ItemIndex>
         ensures { AnswersScan self.now.store (passes_by T.key_of (is_equal (Q.compare query))) result }
     {
@@ -186,10 +187,18 @@ impl<T: IdOrdItem> IdOrdMap<T> {
     /// Inserts an item whose key no stored item has, and returns its index.
     ///
     /// If there are several reasons for a refusal, the first of these is reported: duplicate, full, out of memory. A
-    /// refusal returns the item, and the contents stay. The table is searched once.
+    /// refusal returns the item, and the contents stay. If there is `room`, only a duplicate is refused. The table is
+    /// searched once.
     pub fn insert_unique(&mut self, item: T) -> Result<ItemIndex, InsertRefusal<T, ItemIndex>>
-        ensures { let alike = shares T.key_of (eq_by_cmp T.Key.cmp) in
+        ensures inserts { let alike = shares T.key_of (eq_by_cmp T.Key.cmp) in
             Inserts alike most_cells (IsReported alike) self.old item result self.new }
+        ensures index { IfOk result (λ ix. ix ≡ next_index self.old.store) }
+        ensures stored { OnOk result (self.new.store ≡ inserted self.old.store item) }
+        ensures unchanged { OnErr result (self.new.store ≡ self.old.store) }
+        ensures count { OnOk result (live_count self.new.store ≡ live_count self.old.store + 1) }
+        ensures not_refused { 1 ≤ room self.old → IfErr result IsDuplicate }
+        ensures room { OnOk result (1 ≤ room self.old → room self.old ≡ room self.new + 1) }
+        ensures room_kept { OnErr result (room self.old ≤ room self.new) }
     {
         self.map.insert_unique(item)
     }
@@ -203,7 +212,15 @@ impl<T: IdOrdItem> IdOrdMap<T> {
         &mut self,
         item: T,
     ) -> Result<(ItemIndex, Option<T>), OverwriteRefusal<T>>
-        ensures { OverwritesOne (shares T.key_of (eq_by_cmp T.Key.cmp)) most_cells self.old item result self.new }
+        ensures inserts { OverwritesOne (shares T.key_of (eq_by_cmp T.Key.cmp)) most_cells self.old item result
+            self.new }
+        ensures one_more { IfOk result (λ put. IfNone put.1
+            (live_count self.new.store ≡ live_count self.old.store + 1)) }
+        ensures as_many { IfOk result (λ put. OnSome put.1 (live_count self.new.store ≡ live_count self.old.store)) }
+        ensures unchanged { OnErr result (self.new.store ≡ self.old.store) }
+        ensures not_refused { 1 ≤ room self.old → IsOk result }
+        ensures room { IfOk result (λ put. IfNone put.1 (1 ≤ room self.old → room self.old ≡ room self.new + 1)) }
+        ensures same_room { IfOk result (λ put. OnSome put.1 (room self.new ≡ room self.old)) }
     {
         match self.map.insert_unique(item) {
             Ok(ix) => Ok((ix, None)),
@@ -218,14 +235,27 @@ impl<T: IdOrdItem> IdOrdMap<T> {
 
     /// Removes the item that has the key, and returns it. The table is searched once. It takes no memory.
     pub fn remove<Q: OrdQuery<T::Key>>(&mut self, query: Q) -> Option<T>
-        ensures { Removes self.old (passes_by T.key_of (is_equal (Q.compare query))) result self.new }
+        ensures removes { Removes self.old (passes_by T.key_of (is_equal (Q.compare query))) result self.new }
+        ensures gone { HasNoHit self.new.store (passes_by T.key_of (is_equal (Q.compare query))) }
+        ensures room { room self.old ≤ room self.new }
+        ensures count { OnSome result (live_count self.old.store ≡ live_count self.new.store + 1) }
+        ensures unchanged { IfNone result (self.new ≡ self.old) }
+        ensures freed { OnSome result (live_count self.old.store ≤ capacity self.old
+            → room self.new ≡ room self.old + 1) }
     {
         self.map.remove_query(query)
     }
 
     /// Removes the item at an index, if there is one, and returns it. It takes no memory.
     pub fn remove_at(&mut self, ix: ItemIndex) -> Option<T>
-        ensures { RemovesAt self.old ix result self.new }
+        ensures removes { RemovesAt self.old ix result self.new }
+        ensures value { result ≡ get self.old.store ix }
+        ensures gone { get self.new.store ix ≡ None }
+        ensures room { room self.old ≤ room self.new }
+        ensures count { OnSome result (live_count self.old.store ≡ live_count self.new.store + 1) }
+        ensures unchanged { IfNone result (self.new ≡ self.old) }
+        ensures freed { OnSome result (live_count self.old.store ≤ capacity self.old
+            → room self.new ≡ room self.old + 1) }
     {
         self.map.remove_at(ix)
     }
@@ -257,14 +287,17 @@ impl<T: IdOrdItem> IdOrdMap<T> {
     /// Gives back the memory that the slots and the table don't need. If a smaller block can't be allocated, the items
     /// stay.
     pub fn shrink_to_fit(&mut self) -> Result<(), AllocError>
-        ensures { ShrinksItems (λ slots count. most_cells count) 0 self.old result self.new }
+        ensures shrinks { ShrinksItems (λ slots count. most_cells count) 0 self.old result self.new }
+        ensures needed { OnErr result (HasMoreThanNeeded (λ slots count. count) 0 self.old self.new) }
     {
         self.map.shrink_to_fit()
     }
 
     /// Gives back the memory beyond what `least` items need, or the slots and items that there are if these are more.
+    /// It fails only if more slots are left than are needed for that, or more is reserved.
     pub fn shrink_to(&mut self, least: usize) -> Result<(), AllocError>
-        ensures { ShrinksItems (λ slots count. most_cells count) least self.old result self.new }
+        ensures shrinks { ShrinksItems (λ slots count. most_cells count) least self.old result self.new }
+        ensures needed { OnErr result (HasMoreThanNeeded (λ slots count. count) least self.old self.new) }
     {
         self.map.shrink_to(least)
     }

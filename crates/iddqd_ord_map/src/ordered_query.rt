@@ -22,7 +22,8 @@ use std::ops::Bound;
 
 /// The index of the item that has the key for which the query stands.
 ///
-/// It compares the query with at most 4 + 2d keys, where the length has d binary digits.
+/// It is one search of the table, of 4 + 2d comparisons at most, where the length has d binary digits: `ordered::find`
+/// says where this is proved.
 pub fn find_by<T, E, Q>(table: &MapBTreeTable, items: &ItemSet<T>, query: Q) -> Option<ItemIndex>
 where
     E: KeyOf<T>,
@@ -55,8 +56,7 @@ where
 /// The indexes whose items have keys between two bounds, in the order of the keys: none if the lower bound is above the
 /// upper one.
 ///
-/// It compares each query with at most 4 + 2d keys, where the length has d binary digits, and takes
-/// no memory.
+/// It is one search of the table for each bound that there is, as `find_by`, and takes no memory.
 pub fn range_by<'t, T, E, Q>(
     table: &'t MapBTreeTable,
     items: &ItemSet<T>,
@@ -109,7 +109,7 @@ where
 
 /// The indexes whose items have the key for which the query stands, by index, from both ends.
 ///
-/// It compares the query with at most 8 + 4d keys, where the length has d binary digits, and takes no memory.
+/// It is two searches of the table, each as `find_by`, and takes no memory.
 pub fn group_by<'t, T, E, Q>(table: &'t MapBTreeTable, items: &ItemSet<T>, query: Q) -> Range<'t>
 where
     E: KeyOf<T>,

@@ -9,7 +9,8 @@ use Rattle.iddqd_maps.specs.Store.{Store}
 use Rattle.iddqd_maps.specs.declared.refusal.ReplaceRefusal.{ReplaceRefusal}
 use Rattle.iddqd_maps.specs.declared.refusal.ReplaceRefusal.TheVariants.{Missing, Duplicate, Memory}
 use Rattle.uses.specs.Badges.{has_number, is_held_by, same_holder, same_number, taken_keys, IsWhyNotHandedOut}
-use Rattle.uses.specs.Exchanges.{HitsBeside, HitsOther, IsWhyNotChanged}
+use Rattle.iddqd_maps.specs.Several.{HitsOther}
+use Rattle.uses.specs.Exchanges.{HitsBeside, IsWhyNotChanged}
 use Rattle.uses.specs.declared.badges.Badge.{Badge}
 
 module _ (old : MapState Badge) (badge : Badge) where

@@ -15,7 +15,7 @@ use Rattle.uses.specs.Exchanges.{Exchanges}
 use Rattle.uses.specs.Stock.{has_kind, same_kind, with_one_less}
 use Rattle.uses.specs.declared.stock.Part.{Part}
 use Rattle.uses.proofs.ExchangeLemmas.{changes}
-use Rattle.uses.proofs.LedgerLemmas.{is_same}
+use Rattle.iddqd_maps.proofs.KeyLemmas.{is_same}
 
 -- a change that keeps the kind of a part is not refused
 not_refused :

@@ -1,10 +1,10 @@
 -- What calls leave that put an item in the place of others, and why they refuse it.
-use Rattle.std.specs.Prelude.{◌≡◌, ◌≢◌, ◌↔◌, ◌<◌, ℕ, Bool, true, List, map, Option, Some, None}
+use Rattle.std.specs.Prelude.{◌≡◌, ◌↔◌, ◌<◌, ℕ, Bool, true, List, map, Option, Some, None}
 use Rattle.std.specs.List.{Contains}
 use Rattle.iddqd_maps.specs.Map.{MapState, IsOnly, room}
 use Rattle.iddqd_maps.specs.Removals.{IsIncreasing, padded, removed_all}
 use Rattle.iddqd_maps.specs.Scan.{IsHit, HasNoHit, AnswersScan}
-use Rattle.iddqd_maps.specs.Several.{HasNoOther}
+use Rattle.iddqd_maps.specs.Several.{HasNoOther, HitsOther}
 use Rattle.iddqd_maps.specs.Store.{IsFull, Store, get, inserted, live_count, next_index, rebound}
 use Rattle.iddqd_maps.specs.declared.refusal.InsertRefusal.{InsertRefusal}
 use Rattle.iddqd_maps.specs.declared.refusal.InsertRefusal.TheVariants.{Duplicate, Full, Memory}
@@ -16,10 +16,6 @@ use Rattle.iddqd_maps.specs.declared.refusal.ReplaceRefusal.TheVariants.{Missing
 -- an item passes the test
 abbrev pub HasHit : {T : Type 0} → Store T → (T → Bool) → Type 0
 HasHit s test = (ix : ℕ) × IsHit s test ix
-
--- an item at another index than this one passes the test
-abbrev pub HitsOther : {T : Type 0} → Store T → (T → Bool) → ℕ → Type 0
-HitsOther s test ix = (j : ℕ) × (j ≢ ix) × IsHit s test j
 
 -- just one item passes the first test, and another one passes the second
 abbrev pub HitsBeside : {T : Type 0} → Store T → (T → Bool) → (T → Bool) → Type 0

@@ -7,7 +7,6 @@ pub mod RouteLaws
 pub mod Registry
 pub mod Calendar
 pub mod Devices
-pub mod Drops
 pub mod Ledger
 pub mod Sessions
 pub mod Diary

@@ -10,7 +10,7 @@ ghost use Rattle.iddqd_maps.specs.Scan.{AnswersScan, HasNoHit};
 ghost use Rattle.iddqd_maps.specs.Sizes.{insertable};
 ghost use Rattle.iddqd_maps.specs.Store.{cleared, empty, get, live_count, rebound, slot_count, slot_limit};
 ghost use Rattle.iddqd_maps.specs.Validation.{Tells, Validates, not_compact_text};
-ghost use Rattle.uses.specs.Drops.{Drops};
+ghost use Rattle.iddqd_maps.specs.Drops.{Drops};
 ghost use Rattle.uses.specs.Exchanges.{Exchanges, ExchangesIfFound, IsWhyNot, IsWhyNotAt, IsWhyNotChanged, IsWhyNotTakenOver, TakesOverOne};
 ghost use Rattle.uses.specs.Scores.{has_hour, same_hour, with_hour, with_points};
 ghost use Rattle.uses.specs.Updates.{Updates, UpdatesAt};

@@ -8,7 +8,7 @@ ghost use Rattle.iddqd_maps.specs.Map.{FindsItem};
 ghost use Rattle.iddqd_maps.specs.Range.{indexes_ahead};
 ghost use Rattle.iddqd_maps.specs.Scan.{HasNoHit};
 ghost use Rattle.iddqd_maps.specs.Store.{inserted, live_count, next_index};
-ghost use Rattle.uses.specs.Drops.{Drops};
+ghost use Rattle.iddqd_maps.specs.Drops.{Drops};
 ghost use Rattle.uses.specs.Exchanges.{IsWhyNotAdded};
 ghost use Rattle.uses.specs.Ledger.{shares_number};
 ghost use Rattle.uses.specs.declared.ledger.Order.{Order};

@@ -1,7 +1,7 @@
 //! A map in the order of its keys: its ends, and the items whose keys are between two bounds.
 ghost use Rattle.std.specs.Prelude.{◌≡◌, ◌<◌};
 ghost use Rattle.iddqd_maps.specs.Store.{live_count};
-ghost use Rattle.uses.specs.Drops.{Drops};
+ghost use Rattle.iddqd_maps.specs.Drops.{Drops};
 
 use iddqd_maps::id_ord_map::{IdOrdItem, IdOrdMap};
 use std::alloc::{AllocError, Global};

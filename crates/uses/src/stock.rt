@@ -41,8 +41,6 @@ pub fn add(stock: &mut IdHashMap<Part>, part: Part) -> Result<ItemIndex, ItemInd
     ensures refused { IfErr result (IsHit stock.old.store (same_kind part)) }
     ensures unchanged { OnErr result (stock.new.store ≡ stock.old.store) }
 {
-    // The clause `state` of `len`: without a vacant slot there are as many parts as slots.
-    let _len = stock.len();
     match stock.insert_unique(part) {
         Ok(ix) => Ok(ix),
         Err(InsertRefusal::Duplicate { at, .. }) => Err(at),

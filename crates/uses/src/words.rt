@@ -23,7 +23,7 @@ impl IdOrdItem for Word {
 }
 
 impl IdOrdClone for Word {
-    ghost use Rattle.iddqd_maps.proofs.KeyLemmas.{same_text};
+    ghost use Rattle.iddqd_maps.specs.TextLaws.{same_text};
 
     ghost same_key = { λ x y same. same_text _ _ same.0 };
 }

@@ -14,12 +14,12 @@ pub trait IdHashClone: IdHashItem + Clone {
     ghost same_key: { (x y : Self) → Self.is_clone x y → IsTrue (Self.Key.eq (Self.key_of x) (Self.key_of y)) };
 }
 
-/// Each item is cloned once, under its index, and no key is hashed or compared. If memory runs out, the clones made so
-/// far are dropped.
+/// Each item is cloned once, under its index, and no key is hashed or compared. The copy has memory for exactly the
+/// slots that there are, and no more cells than the map. If memory runs out, the clones made so far are dropped.
 impl<T: IdHashClone, S: BuildHasher + Copy> Clone for Map<T, IdIndex<T>, S> {
-    ghost use Rattle.iddqd.specs.Clones.{IsStoreClone};
+    ghost use Rattle.iddqd_map.specs.Clones.{IsMapClone};
 
-    ghost is_clone = { λ m copy. IsStoreClone T.is_clone m.store copy.store };
+    ghost is_clone = { IsMapClone T.is_clone };
 
     fn clone(&self) -> Result<Map<T, IdIndex<T>, S>, AllocError> {
         self.copied()

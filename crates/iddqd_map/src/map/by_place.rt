@@ -1,10 +1,11 @@
 //! Calls that name a hashed key by its place in the key index: `find_by::<Here, _>(query)`.
 //!
 //! A map with a name of its own has the same calls under the names of its keys.
-ghost use Rattle.std.specs.Prelude.{◌≡◌, ◌↔◌, ◌≤◌, false, option_copied};
+ghost use Rattle.std.specs.Prelude.{◌≡◌, ◌↔◌, ◌≤◌, ◌+◌, false, option_copied, OnSome, IfNone};
+ghost use Rattle.iddqd.specs.{live_count};
 ghost use Rattle.iddqd_keys.specs.Scan.{HasNoHit, AnswersScan, passes_by};
 ghost use Rattle.iddqd_keys.specs.KeyKeeping.{KeepsKey};
-ghost use Rattle.iddqd_map.specs.Map.{room, FindsItem, Removes};
+ghost use Rattle.iddqd_map.specs.Map.{capacity, room, FindsItem, Removes};
 ghost use Rattle.iddqd_map.specs.Calls.{MayChange, Replaces, ChangesByCall};
 ghost use Rattle.iddqd_map.specs.Modify.{Modifies};
 
@@ -58,6 +59,10 @@ impl<T, X: KeyIndex<T, S>, S> Map<T, X, S> {
         ensures removes { Removes self.old (passes_by X.key_at (Q.stands_for query)) result self.new }
         ensures gone { HasNoHit self.new.store (passes_by X.key_at (Q.stands_for query)) }
         ensures room { room self.old ≤ room self.new }
+        ensures count { OnSome result (live_count self.old.store ≡ live_count self.new.store + 1) }
+        ensures unchanged { IfNone result (self.new ≡ self.old) }
+        ensures freed { OnSome result (live_count self.old.store ≤ capacity self.old
+            → room self.new ≡ room self.old + 1) }
     {
         let ix = self.indexes.take(&self.items, &self.state, query)?;
         self.items.remove(ix)
@@ -72,6 +77,10 @@ impl<T, X: KeyIndex<T, S>, S> Map<T, X, S> {
         ensures removes { Removes self.old (X.stands_for query) result self.new }
         ensures gone { HasNoHit self.new.store (X.stands_for query) }
         ensures room { room self.old ≤ room self.new }
+        ensures count { OnSome result (live_count self.old.store ≡ live_count self.new.store + 1) }
+        ensures unchanged { IfNone result (self.new ≡ self.old) }
+        ensures freed { OnSome result (live_count self.old.store ≤ capacity self.old
+            → room self.new ≡ room self.old + 1) }
     {
         let ix = self.indexes.take_query(&self.items, &self.state, query)?;
         self.items.remove(ix)
@@ -90,7 +99,8 @@ impl<T, X: KeyIndex<T, S>, S> Map<T, X, S> {
         Q: HashQuery<X::Key>,
         ensures replaces { Replaces X.alike X.same_keys X.may_need_memory X.taken self.old
             (passes_by X.key_at (Q.stands_for query)) item result self.new }
-        ensures room { room self.old ≤ room self.new }
+        ensures room { room self.new ≡ room self.old }
+        ensures count { live_count self.new.store ≡ live_count self.old.store }
     {
         let (found, asked) = self.indexes.find_with_hash(&self.items, &self.state, query);
         replace_found(
@@ -118,7 +128,8 @@ impl<T, X: KeyIndex<T, S>, S> Map<T, X, S> {
         requires { MayChange F.FnOnce f self.old.store (passes_by X.key_at (Q.stands_for query)) }
         ensures changes { ChangesByCall X.alike X.same_keys X.may_need_memory X.taken F.FnOnce f self.old
             (passes_by X.key_at (Q.stands_for query)) result self.new }
-        ensures room { room self.old ≤ room self.new }
+        ensures room { room self.new ≡ room self.old }
+        ensures count { live_count self.new.store ≡ live_count self.old.store }
     {
         let (found, asked) = self.indexes.find_with_hash(&self.items, &self.state, query);
         change_found(

@@ -1,8 +1,8 @@
 //! Replaces an item by what a closure makes of it.
-ghost use Rattle.std.specs.Prelude.{◌≡◌, ◌≤◌, Bool, Some, IfSome};
+ghost use Rattle.std.specs.Prelude.{◌≡◌, Bool, Some, IfSome};
 ghost use Rattle.std.specs.Borrow.{Bor};
 ghost use Rattle.std.specs.Fn.{FnOnceReturnsAt};
-ghost use Rattle.iddqd.specs.{get};
+ghost use Rattle.iddqd.specs.{get, live_count};
 ghost use Rattle.iddqd_keys.specs.Scan.{IsLive, AnswersScan};
 ghost use Rattle.iddqd_map.specs.Map.{map_with, room};
 ghost use Rattle.iddqd_map.specs.Calls.{Changes};
@@ -32,8 +32,9 @@ pub(super) fn change_found<T, X: Moves<T, S>, S, F: FnOnce(&T) -> T>(
         → Changes X.alike X.same_keys X.may_need_memory X.taken (FnOnceReturnsAt F.FnOnce f)
         (map_with items.old (X.capacity indexes.old) (X.cells indexes.old)) test result
         (map_with items.new (X.capacity indexes.new) (X.cells indexes.new)) }
-    ensures room { room (map_with items.old (X.capacity indexes.old) (X.cells indexes.old))
-        ≤ room (map_with items.new (X.capacity indexes.new) (X.cells indexes.new)) }
+    ensures room { room (map_with items.new (X.capacity indexes.new) (X.cells indexes.new))
+        ≡ room (map_with items.old (X.capacity indexes.old) (X.cells indexes.old)) }
+    ensures count { live_count items.new.store ≡ live_count items.old.store }
 {
     let Some(ix) = found else {
         return Ok(None);

@@ -10,7 +10,8 @@ use iddqd::internal::{ValidateCompact, ValidateRefusal, ValidationError};
 impl<T, X: Checks<T, S>, S> Map<T, X, S> {
     /// Checks that store and tables are sound, as they are in every map; with `Compact`, also that no slot is vacant.
     ///
-    /// It sorts a copy of the indexes, for which memory may run out.
+    /// Memory may run out for the check of a hash table, which copies its indexes twice and sorts the second copy, and
+    /// for the text of a refusal. The check of an ordered table takes none if the table passes.
     pub fn validate(
         &self,
         compactness: ValidateCompact,

@@ -2,9 +2,8 @@
 //!
 //! Only the items' type says whether a clone has the same keys. So each map with a name of its own has its own `Clone`,
 //! which calls this; another `Map` is copied by `copied`.
-ghost use Rattle.std.specs.Prelude.{◌≤◌, true, ◌≡◌, IfOk};
-ghost use Rattle.iddqd.specs.{slot_count};
-ghost use Rattle.iddqd.specs.Clones.{IsStoreClone};
+ghost use Rattle.std.specs.Prelude.{true, ◌≡◌, IfOk};
+ghost use Rattle.iddqd_map.specs.Clones.{IsMapClone};
 
 use super::Map;
 use crate::key_index::Checks;
@@ -13,11 +12,12 @@ use std::alloc::AllocError;
 impl<T: Clone, X: Checks<T, S>, S: Copy> Map<T, X, S> {
     /// A copy: each item is cloned once, under its index, and no key is hashed or compared. If memory runs out, the
     /// clones made so far are dropped.
+    ///
+    /// Its memory is for exactly the slots that there are, and its tables have no more cells than those of the map.
+    /// What was reserved beyond the slots isn't kept.
     pub fn copied(&self) -> Result<Map<T, X, S>, AllocError>
         requires { (x y : T) → T.is_clone x y → X.same_keys x y ≡ true }
-        ensures cloned { IfOk result (λ copy. IsStoreClone T.is_clone self.now.store copy.store) }
-        ensures slots { IfOk result (λ copy. copy.memory.slots ≡ slot_count self.now.store) }
-        ensures few { IfOk result (λ copy. copy.memory.cells ≤ self.now.memory.cells) }
+        ensures { IfOk result (IsMapClone T.is_clone self.now) }
     {
         Ok(Map {
             items: self.items.clone()?,

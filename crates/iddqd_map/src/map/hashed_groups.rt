@@ -9,7 +9,7 @@ ghost use Rattle.iddqd_hash.specs.Asks.{CanAsk};
 ghost use Rattle.iddqd_keys.specs.Scan.{HasNoHit, passes_by};
 ghost use Rattle.iddqd_map.specs.Groups.{FindsSome, RemovesEach};
 ghost use Rattle.iddqd_map.specs.KeyIndex.{IsIndexed};
-ghost use Rattle.iddqd_map.specs.Map.{room};
+ghost use Rattle.iddqd_map.specs.Map.{capacity, room};
 ghost use Rattle.iddqd_map.specs.Ranges.{LeavesOthers, TakesItem, GivesItem, MayGive};
 
 use super::Map;
@@ -59,6 +59,7 @@ impl<T, X: KeyIndex<T, S>, S> Map<T, X, S> {
         ensures memory { self.new.memory ≡ self.old.memory }
         ensures room { room self.old ≤ room self.new }
         ensures count { result + live_count self.new.store ≡ live_count self.old.store }
+        ensures freed { live_count self.old.store ≤ capacity self.old → room self.new ≡ room self.old + result }
     {
         let before = self.items.len();
         remove_each::<P, T, S, X, Q, F>(

@@ -1,8 +1,8 @@
 //! Inserts. All memory is taken before anything is written.
-ghost use Rattle.std.specs.Prelude.{◌≡◌, ◌+◌, ◌≤◌, IfOk, OnOk, OnErr};
-ghost use Rattle.iddqd.specs.{inserted, next_index};
+ghost use Rattle.std.specs.Prelude.{◌≡◌, ◌+◌, ◌≤◌, IfOk, IfErr, OnOk, OnErr};
+ghost use Rattle.iddqd.specs.{inserted, live_count, next_index};
 ghost use Rattle.iddqd_map.specs.Map.{map_with, room};
-ghost use Rattle.iddqd_map.specs.Calls.{Inserts};
+ghost use Rattle.iddqd_map.specs.Calls.{Inserts, IsDuplicate};
 ghost use Rattle.iddqd_map.specs.KeyIndex.{IsIndexed};
 ghost use Rattle.iddqd_map.specs.Refusal.{refusal_of};
 
@@ -18,13 +18,17 @@ impl<T, X: Inserts<T, S>, S> Map<T, X, S> {
     /// Inserts an item that shares no unique key with another, and returns its index.
     ///
     /// If there are several reasons for a refusal, the first of these is reported: duplicate, full, out of memory. A
-    /// refusal returns the item, and the contents stay. Each key is hashed once and looked up once.
+    /// refusal returns the item, and the contents stay. If there is `room`, only a duplicate is refused. Each key is
+    /// hashed once and looked up once.
     pub fn insert_unique(&mut self, item: T) -> Result<ItemIndex, InsertRefusal<T, X::Conflict>>
         ensures inserts { Inserts X.alike X.most X.conflicts self.old item result self.new }
         ensures index { IfOk result (λ ix. ix ≡ next_index self.old.store) }
         ensures stored { OnOk result (self.new.store ≡ inserted self.old.store item) }
         ensures unchanged { OnErr result (self.new.store ≡ self.old.store) }
-        ensures room { room self.old ≤ room self.new + 1 }
+        ensures count { OnOk result (live_count self.new.store ≡ live_count self.old.store + 1) }
+        ensures not_refused { 1 ≤ room self.old → IfErr result IsDuplicate }
+        ensures room { OnOk result (1 ≤ room self.old → room self.old ≡ room self.new + 1) }
+        ensures room_kept { OnErr result (room self.old ≤ room self.new) }
     {
         let known = X::known(&self.state, &item);
         insert(&mut self.items, &mut self.indexes, &self.state, known, item)

@@ -2,7 +2,7 @@
 ghost use Rattle.std.specs.Prelude.{◌≡◌, ◌≤◌, ◌-◌, [], length, min, max, IsOk, IfOk, OnOk, OnErr};
 ghost use Rattle.iddqd.specs.{slot_limit, empty, cleared, live_count, IsRemapOf};
 ghost use Rattle.iddqd_map.specs.Map.{capacity, room};
-ghost use Rattle.iddqd_map.specs.Memory.{ReservesItems, ShrinksItems};
+ghost use Rattle.iddqd_map.specs.Memory.{ReservesItems, ShrinksItems, HasMoreThanNeeded};
 ghost use Rattle.iddqd_map.specs.Calls.{Compacts};
 
 use super::Map;
@@ -89,15 +89,18 @@ impl<T, X: Sizes<T, S>, S> Map<T, X, S> {
     pub fn shrink_to_fit(&mut self) -> Result<(), AllocError>
         ensures shrinks { ShrinksItems X.kept 0 self.old result self.new }
         ensures fits { OnOk result (room self.new ≤ length self.old.store.free) }
+        ensures needed { OnErr result (HasMoreThanNeeded X.needed 0 self.old self.new) }
     {
         self.shrink_to(0)
     }
 
     /// Gives back the memory beyond what `least` items need, or the slots and items that there are if these are more.
+    /// It fails only if more slots or cells are left than are needed for that.
     pub fn shrink_to(&mut self, least: usize) -> Result<(), AllocError>
         ensures shrinks { ShrinksItems X.kept least self.old result self.new }
         ensures fits { OnOk result
             (room self.new ≤ max (least - live_count self.old.store) (length self.old.store.free)) }
+        ensures needed { OnErr result (HasMoreThanNeeded X.needed least self.old self.new) }
     {
         let slots = self.items.shrink_capacity_to(least);
         let tables = self.indexes.shrink_to(&self.items, &self.state, least);

@@ -1,10 +1,11 @@
 //! Calls that name a hashed key by its number: `find1(query)`.
 //!
 //! They are those of a map that has a key at the place `First`, and so on: of a `BiHashMap` and of a `TriHashMap`.
-ghost use Rattle.std.specs.Prelude.{◌≡◌, ◌↔◌, ◌≤◌, false, option_copied};
+ghost use Rattle.std.specs.Prelude.{◌≡◌, ◌↔◌, ◌≤◌, ◌+◌, false, option_copied, OnSome, IfNone};
+ghost use Rattle.iddqd.specs.{live_count};
 ghost use Rattle.iddqd_keys.specs.Scan.{HasNoHit, AnswersScan, passes_by};
 ghost use Rattle.iddqd_keys.specs.KeyKeeping.{KeepsKey};
-ghost use Rattle.iddqd_map.specs.Map.{room, FindsItem, Removes};
+ghost use Rattle.iddqd_map.specs.Map.{capacity, room, FindsItem, Removes};
 ghost use Rattle.iddqd_map.specs.Calls.{MayChange, Replaces, ChangesByCall};
 ghost use Rattle.iddqd_map.specs.Modify.{Modifies};
 
@@ -56,6 +57,10 @@ impl<T, X: KeyIndex<T, S>, S> Map<T, X, S> {
         ensures removes { Removes self.old (passes_by X.key_at (Q.stands_for query)) result self.new }
         ensures gone { HasNoHit self.new.store (passes_by X.key_at (Q.stands_for query)) }
         ensures room { room self.old ≤ room self.new }
+        ensures count { OnSome result (live_count self.old.store ≡ live_count self.new.store + 1) }
+        ensures unchanged { IfNone result (self.new ≡ self.old) }
+        ensures freed { OnSome result (live_count self.old.store ≤ capacity self.old
+            → room self.new ≡ room self.old + 1) }
     {
         self.remove_by::<First, Q>(query)
     }
@@ -70,7 +75,8 @@ impl<T, X: KeyIndex<T, S>, S> Map<T, X, S> {
         Q: HashQuery<X::Key>,
         ensures replaces { Replaces X.alike X.same_keys X.may_need_memory X.taken self.old
             (passes_by X.key_at (Q.stands_for query)) item result self.new }
-        ensures room { room self.old ≤ room self.new }
+        ensures room { room self.new ≡ room self.old }
+        ensures count { live_count self.new.store ≡ live_count self.old.store }
     {
         self.replace_by::<First, Q>(query, item)
     }
@@ -90,7 +96,8 @@ impl<T, X: KeyIndex<T, S>, S> Map<T, X, S> {
         requires { MayChange F.FnOnce f self.old.store (passes_by X.key_at (Q.stands_for query)) }
         ensures changes { ChangesByCall X.alike X.same_keys X.may_need_memory X.taken F.FnOnce f self.old
             (passes_by X.key_at (Q.stands_for query)) result self.new }
-        ensures room { room self.old ≤ room self.new }
+        ensures room { room self.new ≡ room self.old }
+        ensures count { live_count self.new.store ≡ live_count self.old.store }
     {
         self.change_by::<First, Q, F>(query, f)
     }
@@ -147,6 +154,10 @@ impl<T, X: KeyIndex<T, S>, S> Map<T, X, S> {
         ensures removes { Removes self.old (passes_by X.key_at (Q.stands_for query)) result self.new }
         ensures gone { HasNoHit self.new.store (passes_by X.key_at (Q.stands_for query)) }
         ensures room { room self.old ≤ room self.new }
+        ensures count { OnSome result (live_count self.old.store ≡ live_count self.new.store + 1) }
+        ensures unchanged { IfNone result (self.new ≡ self.old) }
+        ensures freed { OnSome result (live_count self.old.store ≤ capacity self.old
+            → room self.new ≡ room self.old + 1) }
     {
         self.remove_by::<Second, Q>(query)
     }
@@ -158,7 +169,8 @@ impl<T, X: KeyIndex<T, S>, S> Map<T, X, S> {
         Q: HashQuery<X::Key>,
         ensures replaces { Replaces X.alike X.same_keys X.may_need_memory X.taken self.old
             (passes_by X.key_at (Q.stands_for query)) item result self.new }
-        ensures room { room self.old ≤ room self.new }
+        ensures room { room self.new ≡ room self.old }
+        ensures count { live_count self.new.store ≡ live_count self.old.store }
     {
         self.replace_by::<Second, Q>(query, item)
     }
@@ -175,7 +187,8 @@ impl<T, X: KeyIndex<T, S>, S> Map<T, X, S> {
         requires { MayChange F.FnOnce f self.old.store (passes_by X.key_at (Q.stands_for query)) }
         ensures changes { ChangesByCall X.alike X.same_keys X.may_need_memory X.taken F.FnOnce f self.old
             (passes_by X.key_at (Q.stands_for query)) result self.new }
-        ensures room { room self.old ≤ room self.new }
+        ensures room { room self.new ≡ room self.old }
+        ensures count { live_count self.new.store ≡ live_count self.old.store }
     {
         self.change_by::<Second, Q, F>(query, f)
     }
@@ -231,6 +244,10 @@ impl<T, X: KeyIndex<T, S>, S> Map<T, X, S> {
         ensures removes { Removes self.old (passes_by X.key_at (Q.stands_for query)) result self.new }
         ensures gone { HasNoHit self.new.store (passes_by X.key_at (Q.stands_for query)) }
         ensures room { room self.old ≤ room self.new }
+        ensures count { OnSome result (live_count self.old.store ≡ live_count self.new.store + 1) }
+        ensures unchanged { IfNone result (self.new ≡ self.old) }
+        ensures freed { OnSome result (live_count self.old.store ≤ capacity self.old
+            → room self.new ≡ room self.old + 1) }
     {
         self.remove_by::<Third, Q>(query)
     }
@@ -242,7 +259,8 @@ impl<T, X: KeyIndex<T, S>, S> Map<T, X, S> {
         Q: HashQuery<X::Key>,
         ensures replaces { Replaces X.alike X.same_keys X.may_need_memory X.taken self.old
             (passes_by X.key_at (Q.stands_for query)) item result self.new }
-        ensures room { room self.old ≤ room self.new }
+        ensures room { room self.new ≡ room self.old }
+        ensures count { live_count self.new.store ≡ live_count self.old.store }
     {
         self.replace_by::<Third, Q>(query, item)
     }
@@ -259,7 +277,8 @@ impl<T, X: KeyIndex<T, S>, S> Map<T, X, S> {
         requires { MayChange F.FnOnce f self.old.store (passes_by X.key_at (Q.stands_for query)) }
         ensures changes { ChangesByCall X.alike X.same_keys X.may_need_memory X.taken F.FnOnce f self.old
             (passes_by X.key_at (Q.stands_for query)) result self.new }
-        ensures room { room self.old ≤ room self.new }
+        ensures room { room self.new ≡ room self.old }
+        ensures count { live_count self.new.store ≡ live_count self.old.store }
     {
         self.change_by::<Third, Q, F>(query, f)
     }

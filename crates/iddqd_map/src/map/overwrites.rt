@@ -2,10 +2,10 @@
 //!
 //! The memory of each table is asked for before an item is removed. The store needs none then, since the removal of an
 //! item leaves a slot.
-ghost use Rattle.std.specs.Prelude.{◌≡◌, ◌+◌, ◌≤◌, ℕ, [], length};
-ghost use Rattle.iddqd.specs.{get, next_index, inserted, removed, room};
+ghost use Rattle.std.specs.Prelude.{◌≡◌, ◌+◌, ◌≤◌, ℕ, [], length, count_by, is_some, IsOk, OnOk, OnErr};
+ghost use Rattle.iddqd.specs.{get, live_count, next_index, inserted, removed, room};
 ghost use Rattle.iddqd_keys.specs.Scan.{IsLive, HasNoHit};
-ghost use Rattle.iddqd_map.specs.Map.{map_with};
+ghost use Rattle.iddqd_map.specs.Map.{map_with, room as map_room};
 ghost use Rattle.iddqd_map.specs.Calls.{OverwritesInto};
 ghost use Rattle.iddqd_map.specs.KeyIndex.{IsIndexed};
 ghost use Rattle.iddqd_map.specs.Overwrite.{TakesAll};
@@ -26,7 +26,7 @@ impl<T, X: Inserts<T, S>, S> Map<T, X, S> {
     ///
     /// If there are none, it is refused as `insert_unique` is. If there are any, it is refused only if memory runs out
     /// for an ordered table that has more indexes than its capacity, before anything is removed. A refusal returns the
-    /// item, and the contents stay. Each key of the item is hashed once.
+    /// item, and the contents stay. If there is `room`, nothing is refused. Each key of the item is hashed once.
     pub fn overwrite_into(
         &mut self,
         item: T,
@@ -34,26 +34,53 @@ impl<T, X: Inserts<T, S>, S> Map<T, X, S> {
     ) -> Result<ItemIndex, OverwriteRefusal<T>>
         requires enough { X.unique_keys ≤ length places.old }
         requires vacant { places.old ≡ padded (length places.old) [] }
-        ensures { OverwritesInto X.alike X.most X.may_need_memory (length places.old) self.old item result places.new
-            self.new }
+        ensures inserts { OverwritesInto X.alike X.most X.may_need_memory (length places.old) self.old item result
+            places.new self.new }
+        ensures count { OnOk result (live_count self.new.store + count_by is_some places.new
+            ≡ live_count self.old.store + 1) }
+        ensures unchanged { OnErr result (self.new.store ≡ self.old.store) }
+        ensures not_refused { 1 ≤ map_room self.old → IsOk result }
+        ensures room { OnOk result (1 ≤ map_room self.old
+            → map_room self.new + 1 ≡ map_room self.old + count_by is_some places.new) }
     {
         let known = X::known(&self.state, &item);
-        match insert(&mut self.items, &mut self.indexes, &self.state, known, item) {
-            Ok(ix) => Ok(ix),
-            Err(InsertRefusal::Duplicate { item, at }) => {
-                overwrite(
-                    &mut self.items,
-                    &mut self.indexes,
-                    &self.state,
-                    known,
-                    item,
-                    &at,
-                    places,
-                )
-            }
-            Err(InsertRefusal::Full(item)) => Err(OverwriteRefusal::Full(item)),
-            Err(InsertRefusal::Memory(item)) => Err(OverwriteRefusal::Memory(item)),
+        insert_or_overwrite(
+            &mut self.items,
+            &mut self.indexes,
+            &self.state,
+            known,
+            item,
+            places,
+        )
+    }
+}
+
+// Stores the item, and inserts its index. Those that share a key with it are removed into the places.
+#[inline(always)]
+fn insert_or_overwrite<T, X: Inserts<T, S>, S>(
+    items: &mut ItemSet<T>,
+    indexes: &mut X,
+    state: &S,
+    known: X::Known,
+    item: T,
+    places: &mut [Option<T>],
+) -> Result<ItemIndex, OverwriteRefusal<T>>
+    requires map { IsIndexed (X.indexes indexes.old) state.now items.old.store }
+    requires hashed { X.is_known state.now item known }
+    requires enough { X.unique_keys ≤ length places.old }
+    requires vacant { places.old ≡ padded (length places.old) [] }
+    ensures map { IsIndexed (X.indexes indexes.new) state.now items.new.store }
+    ensures overwrites { OverwritesInto X.alike X.most X.may_need_memory (length places.old)
+        (map_with items.old (X.capacity indexes.old) (X.cells indexes.old)) item result places.new
+        (map_with items.new (X.capacity indexes.new) (X.cells indexes.new)) }
+{
+    match insert(items, indexes, state, known, item) {
+        Ok(ix) => Ok(ix),
+        Err(InsertRefusal::Duplicate { item, at }) => {
+            overwrite(items, indexes, state, known, item, &at, places)
         }
+        Err(InsertRefusal::Full(item)) => Err(OverwriteRefusal::Full(item)),
+        Err(InsertRefusal::Memory(item)) => Err(OverwriteRefusal::Memory(item)),
     }
 }
 

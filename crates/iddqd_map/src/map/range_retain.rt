@@ -5,14 +5,11 @@
 ghost use Rattle.std.specs.Prelude.{◌≡◌, ◌≤◌, ◌+◌, true, false, Some};
 ghost use Rattle.std.specs.Fn.{TakesAt, CalledAt};
 ghost use Rattle.iddqd.specs.{get, live_count, removed};
-ghost use Rattle.iddqd.specs.LiveItems.{live_items};
-ghost use Rattle.iddqd_hash.specs.Asks.{CanAsk};
 ghost use Rattle.iddqd_keys.specs.OrderedQuery.{is_equal, is_within};
 ghost use Rattle.iddqd_keys.specs.Scan.{IsLive, passes_by};
 ghost use Rattle.iddqd_map.specs.KeyIndex.{IsIndexed};
 ghost use Rattle.iddqd_map.specs.Map.{room};
-ghost use Rattle.iddqd_map.specs.RangeRetain.{KeepsMisses, RetainsWithin};
-ghost use Rattle.iddqd_map.specs.Retain.{MayAsk};
+ghost use Rattle.iddqd_map.specs.RangeRetain.{AsksWithin, KeepsMisses, MayAskWithin, RetainsWithin};
 
 use super::Map;
 use super::steps::take_out;
@@ -40,7 +37,8 @@ impl<T, X: KeyIndex<T, S>, S> Map<T, X, S> {
         T: Drop,
         X: NextAt<P, T, S> + Removes<T, S>,
         Q: OrdQuery<X::Key>,
-        requires { MayAsk (TakesAt F.FnMut) (CalledAt F.FnMut) f (live_items self.old.store) }
+        requires { MayAskWithin X.key_at X.Key.cmp (is_within Q.compare lower upper) (TakesAt F.FnMut)
+            (CalledAt F.FnMut) f self.old.store }
         ensures asked { (last : F) × RetainsWithin X.key_at X.Key.cmp (is_within Q.compare lower upper)
             (CalledAt F.FnMut) f self.old.store self.new.store last }
         ensures others { KeepsMisses self.old.store (passes_by X.key_at (is_within Q.compare lower upper))
@@ -69,7 +67,8 @@ impl<T, X: KeyIndex<T, S>, S> Map<T, X, S> {
         T: Drop,
         X: NextAt<P, T, S> + Removes<T, S>,
         Q: OrdQuery<X::Key>,
-        requires { MayAsk (TakesAt F.FnMut) (CalledAt F.FnMut) f (live_items self.old.store) }
+        requires { MayAskWithin X.key_at X.Key.cmp (is_equal (Q.compare query)) (TakesAt F.FnMut) (CalledAt F.FnMut) f
+            self.old.store }
         ensures asked { (last : F) × RetainsWithin X.key_at X.Key.cmp (is_equal (Q.compare query)) (CalledAt F.FnMut) f
             self.old.store self.new.store last }
         ensures others { KeepsMisses self.old.store (passes_by X.key_at (is_equal (Q.compare query))) self.new.store }
@@ -96,7 +95,8 @@ where
     X: NextAt<P, T, S> + Removes<T, S>,
     Q: OrdQuery<X::Key>,
     requires indexed { IsIndexed (X.indexes indexes.old) state.now items.old.store }
-    requires can_ask { CanAsk (TakesAt F.FnMut) (CalledAt F.FnMut) f.old (live_items items.old.store) }
+    requires can_ask { let within = is_within Q.compare lower upper in
+        AsksWithin X.key_at X.Key.cmp within (TakesAt F.FnMut) (CalledAt F.FnMut) f.old items.old.store }
     ensures indexed { IsIndexed (X.indexes indexes.new) state.now items.new.store }
     ensures asked { let within = is_within Q.compare lower upper in
         RetainsWithin X.key_at X.Key.cmp within (CalledAt F.FnMut) f.old items.old.store items.new.store f.new }

@@ -1,7 +1,7 @@
 //! Removals by index. They take no memory.
-ghost use Rattle.std.specs.Prelude.{◌≡◌, ◌≤◌, None};
-ghost use Rattle.iddqd.specs.{get};
-ghost use Rattle.iddqd_map.specs.Map.{RemovesAt, room};
+ghost use Rattle.std.specs.Prelude.{◌≡◌, ◌≤◌, ◌+◌, None, OnSome, IfNone};
+ghost use Rattle.iddqd.specs.{get, live_count};
+ghost use Rattle.iddqd_map.specs.Map.{RemovesAt, capacity, room};
 
 use super::Map;
 use super::steps::take_out;
@@ -15,6 +15,10 @@ impl<T, X: Removes<T, S>, S> Map<T, X, S> {
         ensures value { result ≡ get self.old.store ix }
         ensures gone { get self.new.store ix ≡ None }
         ensures room { room self.old ≤ room self.new }
+        ensures count { OnSome result (live_count self.old.store ≡ live_count self.new.store + 1) }
+        ensures unchanged { IfNone result (self.new ≡ self.old) }
+        ensures freed { OnSome result (live_count self.old.store ≤ capacity self.old
+            → room self.new ≡ room self.old + 1) }
     {
         if self.items.get(ix).is_none() {
             return None;

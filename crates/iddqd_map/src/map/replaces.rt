@@ -1,5 +1,6 @@
 //! Replaces a stored item by another one, which may have other keys.
-ghost use Rattle.std.specs.Prelude.{◌≤◌, Bool, IfSome};
+ghost use Rattle.std.specs.Prelude.{◌≡◌, Bool, IfSome};
+ghost use Rattle.iddqd.specs.{live_count};
 ghost use Rattle.iddqd_keys.specs.Scan.{IsLive, AnswersScan};
 ghost use Rattle.iddqd_map.specs.Map.{map_with, room};
 ghost use Rattle.iddqd_map.specs.Calls.{ReplacesAt, ReplacesIfLive, Replaces};
@@ -24,7 +25,8 @@ impl<T, X: Moves<T, S>, S> Map<T, X, S> {
     ) -> Result<T, ReplaceRefusal<T, X::Conflict>>
         ensures replaces { ReplacesIfLive X.alike X.same_keys X.may_need_memory X.taken self.old ix item result
             self.new }
-        ensures room { room self.old ≤ room self.new }
+        ensures room { room self.new ≡ room self.old }
+        ensures count { live_count self.new.store ≡ live_count self.old.store }
     {
         if self.items.get(ix).is_none() {
             return Err(ReplaceRefusal::Missing(item));
@@ -55,8 +57,9 @@ pub(super) fn replace<T, X: Moves<T, S>, S>(
     ensures replaces { ReplacesAt X.alike X.same_keys X.may_need_memory X.taken
         (map_with items.old (X.capacity indexes.old) (X.cells indexes.old)) ix item result
         (map_with items.new (X.capacity indexes.new) (X.cells indexes.new)) }
-    ensures room { room (map_with items.old (X.capacity indexes.old) (X.cells indexes.old))
-        ≤ room (map_with items.new (X.capacity indexes.new) (X.cells indexes.new)) }
+    ensures room { room (map_with items.new (X.capacity indexes.new) (X.cells indexes.new))
+        ≡ room (map_with items.old (X.capacity indexes.old) (X.cells indexes.old)) }
+    ensures count { live_count items.new.store ≡ live_count items.old.store }
 {
     let plan = match indexes.plan_move(items, state, ix, &item) {
         Ok(plan) => plan,
@@ -85,8 +88,9 @@ pub(super) fn replace_found<T, X: Moves<T, S>, S>(
         → Replaces X.alike X.same_keys X.may_need_memory X.taken
         (map_with items.old (X.capacity indexes.old) (X.cells indexes.old)) test item result
         (map_with items.new (X.capacity indexes.new) (X.cells indexes.new)) }
-    ensures room { room (map_with items.old (X.capacity indexes.old) (X.cells indexes.old))
-        ≤ room (map_with items.new (X.capacity indexes.new) (X.cells indexes.new)) }
+    ensures room { room (map_with items.new (X.capacity indexes.new) (X.cells indexes.new))
+        ≡ room (map_with items.old (X.capacity indexes.old) (X.cells indexes.old)) }
+    ensures count { live_count items.new.store ≡ live_count items.old.store }
 {
     match found {
         Some(ix) => replace(items, indexes, state, asked, ix, item),

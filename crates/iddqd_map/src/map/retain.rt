@@ -3,10 +3,9 @@ ghost use Rattle.std.specs.Prelude.{◌≡◌, ◌≤◌, ◌+◌};
 ghost use Rattle.std.specs.Fn.{TakesAt, CalledAt};
 ghost use Rattle.iddqd.specs.{live_count};
 ghost use Rattle.iddqd.specs.LiveItems.{live_items};
-ghost use Rattle.iddqd_hash.specs.Asks.{CanAsk};
 ghost use Rattle.iddqd_map.specs.Map.{room};
 ghost use Rattle.iddqd_map.specs.KeyIndex.{IsIndexed};
-ghost use Rattle.iddqd_map.specs.Retain.{MayAsk, Retains, RetainsTo};
+ghost use Rattle.iddqd_map.specs.Retain.{AsksInTurn, MayAskInTurn, Retains, RetainsTo};
 
 use super::Map;
 use super::steps::take_out;
@@ -23,7 +22,7 @@ impl<T, X: Removes<T, S>, S> Map<T, X, S> {
     pub fn retain<F: FnMut(&T) -> bool>(&mut self, mut f: F) -> usize
     where
         T: Drop,
-        requires { MayAsk (TakesAt F.FnMut) (CalledAt F.FnMut) f (live_items self.old.store) }
+        requires { MayAskInTurn (TakesAt F.FnMut) (CalledAt F.FnMut) f (live_items self.old.store) }
         ensures retained { Retains (CalledAt F.FnMut) f self.old self.new }
         ensures room { room self.old ≤ room self.new }
         ensures count { result + live_count self.new.store ≡ live_count self.old.store }
@@ -43,7 +42,7 @@ fn retain_in<T: Drop, S, X: Removes<T, S>, F: FnMut(&T) -> bool>(
     f: &mut F,
 )
     requires indexed { IsIndexed (X.indexes indexes.old) state.now items.old.store }
-    requires can_ask { CanAsk (TakesAt F.FnMut) (CalledAt F.FnMut) f.old (live_items items.old.store) }
+    requires can_ask { AsksInTurn (TakesAt F.FnMut) (CalledAt F.FnMut) f.old (live_items items.old.store) }
     ensures indexed { IsIndexed (X.indexes indexes.new) state.now items.new.store }
     ensures retained { RetainsTo (CalledAt F.FnMut) f.old items.old.store items.new.store f.new }
     ensures slots { items.new.capacity ≡ items.old.capacity }

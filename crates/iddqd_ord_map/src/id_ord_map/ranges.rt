@@ -5,10 +5,9 @@ ghost use Rattle.iddqd.specs.{live_count};
 ghost use Rattle.iddqd.specs.LiveItems.{live_items};
 ghost use Rattle.iddqd_keys.specs.OrderedQuery.{is_within};
 ghost use Rattle.iddqd_keys.specs.Scan.{passes_by};
-ghost use Rattle.iddqd_map.specs.Map.{room};
-ghost use Rattle.iddqd_map.specs.RangeRetain.{KeepsMisses, RetainsWithin};
+ghost use Rattle.iddqd_map.specs.Map.{capacity, room};
+ghost use Rattle.iddqd_map.specs.RangeRetain.{KeepsMisses, MayAskWithin, RetainsWithin};
 ghost use Rattle.iddqd_map.specs.Ranges.{GivesItem, LeavesOthers, MayGive, RemovesAlong};
-ghost use Rattle.iddqd_map.specs.Retain.{MayAsk};
 
 use super::{IdOrdItem, IdOrdMap};
 use iddqd_keys::order_query::OrdQuery;
@@ -34,6 +33,7 @@ impl<T: IdOrdItem> IdOrdMap<T> {
         ensures memory { self.new.memory ≡ self.old.memory }
         ensures room { room self.old ≤ room self.new }
         ensures count { result + live_count self.new.store ≡ live_count self.old.store }
+        ensures freed { live_count self.old.store ≤ capacity self.old → room self.new ≡ room self.old + result }
     {
         self.map.remove_range_by::<Here, Q, F>(lower, upper, f)
     }
@@ -50,7 +50,8 @@ impl<T: IdOrdItem> IdOrdMap<T> {
         upper: Bound<Q>,
         f: F,
     ) -> usize
-        requires { MayAsk (TakesAt F.FnMut) (CalledAt F.FnMut) f (live_items self.old.store) }
+        requires { MayAskWithin T.key_of T.Key.cmp (is_within Q.compare lower upper) (TakesAt F.FnMut)
+            (CalledAt F.FnMut) f self.old.store }
         ensures asked { (last : F) × RetainsWithin T.key_of T.Key.cmp (is_within Q.compare lower upper)
             (CalledAt F.FnMut) f self.old.store self.new.store last }
         ensures others { KeepsMisses self.old.store (passes_by T.key_of (is_within Q.compare lower upper))

@@ -2,8 +2,9 @@
 ghost use Rattle.std.specs.Fn.{FnOnceReturnsAt};
 ghost use Rattle.std.specs.Borrow.{Bor};
 ghost use Rattle.std.specs.Prelude.{◌≡◌, Some};
-ghost use Rattle.iddqd.specs.{get};
+ghost use Rattle.iddqd.specs.{get, live_count};
 ghost use Rattle.iddqd_map.specs.Calls.{MayChange};
+ghost use Rattle.iddqd_map.specs.Map.{room};
 ghost use Rattle.iddqd_ord_map.specs.OrdMap.{ReplacesInOrder, ReplacesInOrderIfLive, ChangesInOrder};
 ghost use Rattle.iddqd_by_order.specs.Ordered.{is_equal};
 ghost use Rattle.iddqd_keys.specs.Scan.{IsLive, passes_by};
@@ -25,8 +26,10 @@ impl<T: IdOrdItem> IdOrdMap<T> {
         query: Q,
         item: T,
     ) -> Result<T, ReplaceRefusal<T, ItemIndex>>
-        ensures { ReplacesInOrder T.key_of T.Key.cmp self.old
+        ensures replaces { ReplacesInOrder T.key_of T.Key.cmp self.old
             (passes_by T.key_of (is_equal (Q.compare query))) item result self.new }
+        ensures room { room self.new ≡ room self.old }
+        ensures count { live_count self.new.store ≡ live_count self.old.store }
     {
         let Some(ix) = self.find(query) else {
             return Err(ReplaceRefusal::Missing(item));
@@ -38,7 +41,9 @@ impl<T: IdOrdItem> IdOrdMap<T> {
     ///
     /// If there is none it refuses with `Missing`. Otherwise it behaves as `replace`.
     pub fn replace_at(&mut self, ix: ItemIndex, item: T) -> Result<T, ReplaceRefusal<T, ItemIndex>>
-        ensures { ReplacesInOrderIfLive T.key_of T.Key.cmp self.old ix item result self.new }
+        ensures replaces { ReplacesInOrderIfLive T.key_of T.Key.cmp self.old ix item result self.new }
+        ensures room { room self.new ≡ room self.old }
+        ensures count { live_count self.new.store ≡ live_count self.old.store }
     {
         self.map.replace_at(ix, item)
     }
@@ -53,8 +58,10 @@ impl<T: IdOrdItem> IdOrdMap<T> {
         f: F,
     ) -> Result<Option<T>, ReplaceRefusal<T, ItemIndex>>
         requires { MayChange F.FnOnce f self.old.store (passes_by T.key_of (is_equal (Q.compare query))) }
-        ensures { ChangesInOrder T.key_of T.Key.cmp (FnOnceReturnsAt F.FnOnce f) self.old
+        ensures changes { ChangesInOrder T.key_of T.Key.cmp (FnOnceReturnsAt F.FnOnce f) self.old
             (passes_by T.key_of (is_equal (Q.compare query))) result self.new }
+        ensures room { room self.new ≡ room self.old }
+        ensures count { live_count self.new.store ≡ live_count self.old.store }
     {
         let Some(ix) = self.find(query) else {
             return Ok(None);

@@ -3,18 +3,16 @@
 //! The closure is called in the order of the table, which stays as it is until the last call. An item at which it
 //! answers false is removed from the store at once. Then one pass over the table removes the indexes that have no item.
 //! So no key is compared, and each pass costs a step for each item.
-ghost use Rattle.std.specs.Prelude.{◌≡◌, ◌≤◌, ◌+◌, filter, is_some};
+ghost use Rattle.std.specs.Prelude.{◌≡◌, ◌≤◌, ◌+◌, map, filter, is_some};
 ghost use Rattle.std.specs.Fn.{TakesAt, CalledAt};
 ghost use Rattle.iddqd.specs.{get, live_count, IsValid};
-ghost use Rattle.iddqd.specs.LiveItems.{live_items};
-ghost use Rattle.iddqd_hash.specs.Asks.{CanAsk};
-ghost use Rattle.iddqd_map.specs.Retain.{MayAsk};
+ghost use Rattle.iddqd_map.specs.Retain.{AsksInTurn};
 ghost use Rattle.iddqd_order.specs.MapBTreeTable.{order_of, capacity};
 ghost use Rattle.iddqd_by_order.specs.Ordered.{Holds};
 ghost use Rattle.iddqd_ord_map.specs.OrderedIndexing.{Sorts};
 ghost use Rattle.iddqd_ord_map.specs.KeyOrder.{IsKeyWalk};
 ghost use Rattle.iddqd_keys.specs.KeyWalk.{pairs_at};
-ghost use Rattle.iddqd_ord_map.specs.Retain.{RetainsAlong, RetainsAlongTo};
+ghost use Rattle.iddqd_ord_map.specs.Retain.{AsksAlong, MayAskAlong, RetainsAlong, RetainsAlongTo};
 
 use super::iter::item_at;
 use super::{IdOrdItem, IdOrdMap};
@@ -29,7 +27,7 @@ impl<T: IdOrdItem> IdOrdMap<T> {
     /// The closure is called once at each item, in the order of the keys. The items at which it answers false are
     /// removed, in this order. No memory is taken, no key is compared, and it costs a few steps for each item.
     pub fn retain<F: FnMut(&T) -> bool>(&mut self, mut f: F) -> usize
-        requires { MayAsk (TakesAt F.FnMut) (CalledAt F.FnMut) f (live_items self.old.store) }
+        requires { MayAskAlong (IsKeyWalk T.key_of T.Key.cmp) (TakesAt F.FnMut) (CalledAt F.FnMut) f self.old.store }
         ensures retained { RetainsAlong (IsKeyWalk T.key_of T.Key.cmp) (CalledAt F.FnMut) f self.old self.new }
         ensures count { result + live_count self.new.store ≡ live_count self.old.store }
     {
@@ -52,7 +50,8 @@ fn retain_in<T: IdOrdItem, F: FnMut(&T) -> bool>(
 )
     requires valid { IsValid items.old.store }
     requires sorted { Sorts T.key_of T.Key.cmp items.old.store (order_of table.old) }
-    requires can_ask { CanAsk (TakesAt F.FnMut) (CalledAt F.FnMut) f.old (live_items items.old.store) }
+    requires can_ask { AsksAlong (IsKeyWalk T.key_of T.Key.cmp) (TakesAt F.FnMut) (CalledAt F.FnMut)
+        f.old items.old.store }
     ensures valid { IsValid items.new.store }
     ensures sorted { Sorts T.key_of T.Key.cmp items.new.store (order_of table.new) }
     ensures retained { RetainsAlongTo (IsKeyWalk T.key_of T.Key.cmp) (CalledAt F.FnMut)
@@ -73,7 +72,8 @@ fn remove_refused<T: Drop, F: FnMut(&T) -> bool>(
 )
     requires valid { IsValid items.old.store }
     requires held { Holds items.old.store (order_of table.now) }
-    requires can_ask { CanAsk (TakesAt F.FnMut) (CalledAt F.FnMut) f.old (live_items items.old.store) }
+    requires can_ask { AsksInTurn (TakesAt F.FnMut) (CalledAt F.FnMut)
+        f.old (map (λ pair. pair.1) (pairs_at items.old.store (order_of table.now))) }
     ensures valid { IsValid items.new.store }
     ensures retained { RetainsAlongTo (λ s pairs. pairs ≡ pairs_at s (order_of table.now)) (CalledAt F.FnMut)
         f.old items.old.store items.new.store f.new }

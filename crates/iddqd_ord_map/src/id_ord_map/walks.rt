@@ -1,8 +1,9 @@
 //! Iterators over a map in the order of the keys, and the items at its ends. They take no memory.
-ghost use Rattle.std.specs.Prelude.{◌≡◌, length, option_copied};
+ghost use Rattle.std.specs.Prelude.{◌≡◌, ◌≤◌, ◌+◌, length, option_copied, OnSome, IfNone};
 ghost use Rattle.std.specs.declared.cmp.Ordering.TheVariants.{Less, Greater};
 ghost use Rattle.iddqd.specs.{live_count};
 ghost use Rattle.iddqd_keys.specs.OrderedQuery.{is_within};
+ghost use Rattle.iddqd_map.specs.Map.{capacity, room};
 ghost use Rattle.iddqd_ord_map.specs.ByOrder.{FindsGreatest, FindsLeast};
 ghost use Rattle.iddqd_ord_map.specs.KeyOrder.{AreInKeyOrder, FindsEnd, IsKeyWalk, IsWalkWithin, PopsEnd};
 
@@ -49,7 +50,7 @@ impl<T: IdOrdItem> IdOrdMap<T> {
     /// The live indexes with their items whose keys are between two bounds, in the order of the keys, from both ends:
     /// none if the lower bound is above the upper one.
     ///
-    /// Each query is compared with at most 4 + 2d keys, where the number of items has d binary digits.
+    /// It is one search of the table for each bound that there is, as `find`.
     pub fn range<Q: OrdQuery<T::Key>>(&self, lower: Bound<Q>, upper: Bound<Q>) -> Range<'_, T>
         ensures { let within = is_within Q.compare lower upper in
             IsWalkWithin T.key_of T.Key.cmp within self.now.store result }
@@ -92,7 +93,12 @@ impl<T: IdOrdItem> IdOrdMap<T> {
 
     /// Removes the item with the least key, and returns it.
     pub fn pop_first(&mut self) -> Option<T>
-        ensures { PopsEnd T.key_of T.Key.cmp Less self.old result self.new }
+        ensures pops { PopsEnd T.key_of T.Key.cmp Less self.old result self.new }
+        ensures room { room self.old ≤ room self.new }
+        ensures count { OnSome result (live_count self.old.store ≡ live_count self.new.store + 1) }
+        ensures unchanged { IfNone result (self.new ≡ self.old) }
+        ensures freed { OnSome result (live_count self.old.store ≤ capacity self.old
+            → room self.new ≡ room self.old + 1) }
     {
         let ix = self.first_index()?;
         self.map.remove_at(ix)
@@ -100,7 +106,12 @@ impl<T: IdOrdItem> IdOrdMap<T> {
 
     /// Removes the item with the greatest key, and returns it.
     pub fn pop_last(&mut self) -> Option<T>
-        ensures { PopsEnd T.key_of T.Key.cmp Greater self.old result self.new }
+        ensures pops { PopsEnd T.key_of T.Key.cmp Greater self.old result self.new }
+        ensures room { room self.old ≤ room self.new }
+        ensures count { OnSome result (live_count self.old.store ≡ live_count self.new.store + 1) }
+        ensures unchanged { IfNone result (self.new ≡ self.old) }
+        ensures freed { OnSome result (live_count self.old.store ≤ capacity self.old
+            → room self.new ≡ room self.old + 1) }
     {
         let ix = self.last_index()?;
         self.map.remove_at(ix)

@@ -2,8 +2,8 @@ use Rattle.std.proofs.Common.{rules, ◌≡◌, ◌≤◌, ◌<◌, ℕ, nat_le,
 use Rattle.std.specs.Ordering.{nat_cmp, is_lt}
 use Rattle.iddqd_maps.proofs.RetainedLemmas.{RetainsWithin-stays, RetainsWithin-gone}
 use Rattle.uses.specs.declared.scores.Score.{Score}
-use Rattle.uses.proofs.DropLemmas.{Drops-retained}
-use Rattle.uses.proofs.LedgerLemmas.{is_no_later, is_less}
+use Rattle.iddqd_maps.proofs.DropLemmas.{Drops-retained}
+use Rattle.iddqd_maps.proofs.KeyLemmas.{is_no_later, is_less}
 use Rattle.uses.proofs.board.forget_low.Goals as goal
 
 pub returns-clause-dropped : goal.returns-clause-dropped

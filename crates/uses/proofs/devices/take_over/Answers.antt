@@ -2,7 +2,7 @@ use Rattle.uses.proofs.devices.take_over.Goals as goal
 
 pub returns-clause-taken : goal.returns-clause-taken
 returns-clause-taken c =
-    let out = c.in_ok-ix.ensures in
+    let out = c.in_ok-ix.ensures.inserts in
     record {
       removed = out.conflicts;
       each = out.are_conflicts.each;

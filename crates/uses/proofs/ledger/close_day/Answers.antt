@@ -1,8 +1,8 @@
 use Rattle.std.proofs.Common.{◌≡◌}
 use Rattle.std.specs.Ordering.{nat_cmp, is_eq}
 use Rattle.uses.specs.declared.ledger.Order.{Order}
-use Rattle.uses.proofs.DropLemmas.{Drops-left}
-use Rattle.uses.proofs.LedgerLemmas.{is_same_day}
+use Rattle.iddqd_maps.proofs.DropLemmas.{Drops-left}
+use Rattle.iddqd_maps.proofs.KeyLemmas.{is_tied}
 use Rattle.uses.proofs.ledger.close_day.Goals as goal
 
 pub returns-clause-dropped : goal.returns-clause-dropped
@@ -10,5 +10,5 @@ returns-clause-dropped c =
     Drops-left c.args.ledger.now.store c.remove_group_by.new.self.store
     (λ (order : Order). is_eq (nat_cmp c.args.day order.day))
     (λ (order : Order). order.day ≡ c.args.day)
-    (λ (order : Order). is_same_day c.args.day order.day)
+    (λ (order : Order). is_tied c.args.day order.day)
     c.remove_group_by.ensures.left

@@ -1,5 +1,5 @@
 use Rattle.uses.specs.declared.ledger.Order.{Order}
-use Rattle.uses.proofs.LedgerLemmas.{sorted_hits}
+use Rattle.iddqd_maps.proofs.CallerLemmas.{sorted_hits}
 use Rattle.uses.proofs.ledger.count_of_day.Goals as goal
 
 pub returns : goal.returns

@@ -2,8 +2,8 @@ use Rattle.std.proofs.Common.{rules, ◌≡◌, ◌<◌, ℕ, nat_le, refl}
 use Rattle.std.specs.Ordering.{nat_cmp, is_eq}
 use Rattle.iddqd_maps.proofs.RetainedLemmas.{RetainsWithin-stays, RetainsWithin-gone}
 use Rattle.uses.specs.declared.ledger.Order.{Order}
-use Rattle.uses.proofs.DropLemmas.{Drops-retained}
-use Rattle.uses.proofs.LedgerLemmas.{is_same_day, is_less}
+use Rattle.iddqd_maps.proofs.DropLemmas.{Drops-retained}
+use Rattle.iddqd_maps.proofs.KeyLemmas.{is_tied, is_less}
 use Rattle.uses.proofs.ledger.drop_small.Goals as goal
 
 pub returns-clause-dropped : goal.returns-clause-dropped
@@ -15,7 +15,7 @@ returns-clause-dropped c =
     (λ (order : Order). nat_le c.args.least order.amount)
     (λ (order : Order). order.day ≡ c.args.day)
     (λ (order : Order). order.amount < c.args.least)
-    (λ (order : Order). is_same_day c.args.day order.day)
+    (λ (order : Order). is_tied c.args.day order.day)
     (λ (order : Order). is_less c.args.least order.amount)
     (RetainsWithin-stays _ (λ s. s.0.now ≡ c.args.least) _ (λ s x b t i asked. search rules) _ _ _ _ _ _ _ refl retains)
     (RetainsWithin-gone _ (λ s. s.0.now ≡ c.args.least) _ (λ s x b t i asked. search rules) _ _ _ _ _ _ _ refl retains)

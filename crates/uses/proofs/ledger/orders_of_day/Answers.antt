@@ -1,5 +1,6 @@
 use Rattle.uses.specs.declared.ledger.Order.{Order}
-use Rattle.uses.proofs.LedgerLemmas.{sorted_hits, sorted_rise}
+use Rattle.iddqd_maps.proofs.CallerLemmas.{sorted_hits}
+use Rattle.iddqd_maps.proofs.SortedLemmas.{sorted_rise}
 use Rattle.uses.proofs.ledger.orders_of_day.Goals as goal
 
 pub returns-clause-hits : goal.returns-clause-hits

@@ -3,10 +3,11 @@ use Rattle.std.specs.Prelude.{Ok, Err, IfOk, IfErr, OnErr}
 use Rattle.iddqd_maps.specs.Several.{HasNoOther}
 use Rattle.iddqd_maps.specs.Store.{rebound}
 use Rattle.iddqd_maps.specs.declared.refusal.ReplaceRefusal.TheVariants.{Missing, Duplicate, Memory}
-use Rattle.uses.specs.Exchanges.{ExchangesIfFound, HitsOther, IsKeyTaken, IsWhyNotChanged}
+use Rattle.iddqd_maps.specs.Several.{HitsOther}
+use Rattle.uses.specs.Exchanges.{ExchangesIfFound, IsKeyTaken, IsWhyNotChanged}
 use Rattle.uses.specs.Sessions.{ending, has_id, share_key}
 use Rattle.uses.specs.declared.sessions.Session.{Session}
-use Rattle.uses.proofs.ConflictLemmas.{reported_other}
+use Rattle.iddqd_maps.proofs.ConflictLemmas.{reported_other}
 use Rattle.uses.proofs.sessions.extend.Goals as goal
 
 pub returns-clause-extended : goal.returns-clause-extended

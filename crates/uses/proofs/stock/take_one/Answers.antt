@@ -3,7 +3,7 @@ use Rattle.std.proofs.lemmas.Grind.{common_steps}
 use Rattle.iddqd_maps.proofs.CallerLemmas.{found_same}
 use Rattle.uses.specs.Stock.{with_one_less}
 use Rattle.uses.specs.declared.stock.Part.{Part}
-use Rattle.uses.proofs.LedgerLemmas.{is_same}
+use Rattle.iddqd_maps.proofs.KeyLemmas.{is_same}
 use Rattle.uses.proofs.StockLemmas.{none_left, takes_one}
 use Rattle.uses.proofs.stock.take_one.Goals as goal
 

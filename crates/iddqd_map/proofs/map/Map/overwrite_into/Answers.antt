@@ -1,13 +1,34 @@
-use Rattle.std.proofs.Common.{length, subst}
-use Rattle.iddqd_map.specs.Calls.{OverwritesAt}
-use Rattle.iddqd_map.specs.Map.{MapState, map_with}
-use Rattle.iddqd_map.proofs.OverwriteLemmas.{OverwritesAt-apart}
+use Rattle.std.proofs.Common.{length}
+use Rattle.iddqd_map.proofs.RoomLemmas.{OverwritesInto-count, OverwritesInto-not_refused, OverwritesInto-room, OverwritesInto-unchanged}
 use Rattle.iddqd_map.proofs.map.Map.overwrite_into.Goals as goal
 
-pub returns-in-Ok : goal.returns-in-Ok
-returns-in-Ok g c =
-    let places = c.args.places.now in
-    let old = map_with c.self.inside.items (g.X.KeyIndex.capacity c.self.inside.indexes) (g.X.KeyIndex.cells c.self.inside.indexes) in
-    let new = map_with c.insert.new.items (g.X.KeyIndex.capacity c.insert.new.indexes) (g.X.KeyIndex.cells c.insert.new.indexes) in
-    subst (λ (m : MapState _). OverwritesAt g.X.KeyIndex.alike g.X.KeyIndex.most (length places) m c.args.item c.in-Ok.ix places new) c.self.view_is
-    (OverwritesAt-apart g.X.KeyIndex.alike g.X.KeyIndex.most (length places) old new c.args.item c.in-Ok.ix places c.in-Ok.ensures.inserts c.requires.vacant)
+pub returns-clause-inserts : goal.returns-clause-inserts
+returns-clause-inserts g c = rw (← c.self.view_is) c.insert_or_overwrite.ensures.overwrites
+
+pub returns-clause-count : goal.returns-clause-count
+returns-clause-count g c =
+    rw (← c.self.view_is)
+    (OverwritesInto-count g.X.KeyIndex.alike g.X.KeyIndex.most _ _ c.args.item c.self.invariant.valid
+    (length c.args.places.now) g.X.KeyIndex.may_need_memory c.insert_or_overwrite.result _
+    c.insert_or_overwrite.ensures.overwrites)
+
+pub returns-clause-unchanged : goal.returns-clause-unchanged
+returns-clause-unchanged g c =
+    rw (← c.self.view_is)
+    (OverwritesInto-unchanged g.X.KeyIndex.alike g.X.KeyIndex.most _ _ c.args.item c.self.invariant.valid
+    (length c.args.places.now) g.X.KeyIndex.may_need_memory c.insert_or_overwrite.result _
+    c.insert_or_overwrite.ensures.overwrites)
+
+pub returns-clause-not_refused : goal.returns-clause-not_refused
+returns-clause-not_refused g c =
+    rw (← c.self.view_is)
+    (OverwritesInto-not_refused g.X.KeyIndex.alike g.X.KeyIndex.most _ _ c.args.item c.self.invariant.valid
+    (length c.args.places.now) g.X.KeyIndex.may_need_memory c.insert_or_overwrite.result _
+    c.insert_or_overwrite.ensures.overwrites)
+
+pub returns-clause-room : goal.returns-clause-room
+returns-clause-room g c =
+    rw (← c.self.view_is)
+    (OverwritesInto-room g.X.KeyIndex.alike g.X.KeyIndex.most _ _ c.args.item c.self.invariant.valid
+    (length c.args.places.now) g.X.KeyIndex.may_need_memory c.insert_or_overwrite.result _
+    c.insert_or_overwrite.ensures.overwrites)

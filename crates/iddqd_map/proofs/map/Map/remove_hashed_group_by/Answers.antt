@@ -23,3 +23,18 @@ returns-clause-room g c =
 pub returns-clause-count : goal.returns-clause-count
 returns-clause-count g c =
     rw (← c.self.view_is) (omega (arith, c.remove_each.ensures.fewer, c.len.ensures, c.len-before.ensures))
+
+pub returns-clause-freed : goal.returns-clause-freed
+returns-clause-freed g c =
+    let did = c.remove_each.ensures in
+    rw (← c.self.view_is)
+    (λ within. omega (
+      arith,
+      within,
+      did.fewer,
+      did.limit,
+      did.slots,
+      did.capacity,
+      c.len.ensures,
+      c.len-before.ensures,
+    ))

@@ -1,3 +1,4 @@
+use Rattle.iddqd_map.proofs.RoomLemmas.{Removes-count, Removes-freed, Removes-unchanged}
 use Rattle.iddqd_map.proofs.TakeLemmas.{IsIndexed-taken, Removes-gone, Removes-hit, Removes-none, room-removes}
 use Rattle.iddqd_map.proofs.map.Map.remove_query.Goals as goal
 
@@ -42,3 +43,39 @@ returns-clause-room g c =
     let valid = c.self.invariant.valid in
     room-removes _ _ test c.remove.result (rw (← c.self.view_is) valid) (invariant_of-self-2 g c).valid
     (returns-clause-removes g c)
+
+pub returns-in_err-ix-clause-count : goal.returns-in_err-ix-clause-count
+returns-in_err-ix-clause-count g c =
+    let test = g.X.TakesQuery.stands_for c.args.query in
+    let valid = c.self.invariant.valid in
+    Removes-count _ _ (rw (← c.self.view_is) valid) test c.from_residual.result (returns-in_err-ix-clause-removes g c)
+
+pub returns-in_err-ix-clause-unchanged : goal.returns-in_err-ix-clause-unchanged
+returns-in_err-ix-clause-unchanged g c =
+    let test = g.X.TakesQuery.stands_for c.args.query in
+    let valid = c.self.invariant.valid in
+    Removes-unchanged _ _ (rw (← c.self.view_is) valid) test c.from_residual.result (returns-in_err-ix-clause-removes g c)
+
+pub returns-in_err-ix-clause-freed : goal.returns-in_err-ix-clause-freed
+returns-in_err-ix-clause-freed g c =
+    let test = g.X.TakesQuery.stands_for c.args.query in
+    let valid = c.self.invariant.valid in
+    Removes-freed _ _ (rw (← c.self.view_is) valid) test c.from_residual.result (returns-in_err-ix-clause-removes g c)
+
+pub returns-clause-count : goal.returns-clause-count
+returns-clause-count g c =
+    let test = g.X.TakesQuery.stands_for c.args.query in
+    let valid = c.self.invariant.valid in
+    Removes-count _ _ (rw (← c.self.view_is) valid) test c.remove.result (returns-clause-removes g c)
+
+pub returns-clause-unchanged : goal.returns-clause-unchanged
+returns-clause-unchanged g c =
+    let test = g.X.TakesQuery.stands_for c.args.query in
+    let valid = c.self.invariant.valid in
+    Removes-unchanged _ _ (rw (← c.self.view_is) valid) test c.remove.result (returns-clause-removes g c)
+
+pub returns-clause-freed : goal.returns-clause-freed
+returns-clause-freed g c =
+    let test = g.X.TakesQuery.stands_for c.args.query in
+    let valid = c.self.invariant.valid in
+    Removes-freed _ _ (rw (← c.self.view_is) valid) test c.remove.result (returns-clause-removes g c)

@@ -1,12 +1,12 @@
 use Rattle.std.proofs.Common.{arith}
 use Rattle.std.specs.Fn.{TakesAt, CalledAt}
 use Rattle.iddqd_map.specs.Map.{map_with}
-use Rattle.iddqd_map.proofs.RetainLemmas.{MayAsk-can, RetainsTo-fewer, RetainsTo-room, same_memory}
+use Rattle.iddqd_map.proofs.RetainLemmas.{MayAskInTurn-asks, RetainsTo-fewer, RetainsTo-room, same_memory}
 use Rattle.iddqd_map.proofs.map.Map.retain.Goals as goal
 
 pub retain_in-requires-clause-can_ask : goal.retain_in-requires-clause-can_ask
 retain_in-requires-clause-can_ask g c =
-    rw (← c.self.view_is) at (MayAsk-can (TakesAt g.F.FnMut) (CalledAt g.F.FnMut) _ _ c.requires)
+    rw (← c.self.view_is) at (MayAskInTurn-asks (TakesAt g.F.FnMut) (CalledAt g.F.FnMut) _ _ c.requires)
 
 pub overflow_sub-result : goal.overflow_sub-result
 overflow_sub-result g c =

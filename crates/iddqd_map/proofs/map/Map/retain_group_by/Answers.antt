@@ -1,6 +1,14 @@
-use Rattle.std.specs.Fn.{CalledAt}
-use Rattle.iddqd_map.proofs.RangeRetainLemmas.{KeepsMisses-group, RetainsWithin-group}
+use Rattle.std.specs.Fn.{TakesAt, CalledAt}
+use Rattle.iddqd_keys.specs.OrderedQuery.{is_equal}
+use Rattle.iddqd_map.proofs.RangeRetainLemmas.{AsksWithin-group, MayAskWithin-asks, KeepsMisses-group, RetainsWithin-group}
 use Rattle.iddqd_map.proofs.map.Map.retain_group_by.Goals as goal
+
+pub retain_range_by-requires : goal.retain_range_by-requires
+retain_range_by-requires g c = λ everywhere.
+    let comparing = g.Q.OrdQuery.compare c.args.query in
+    let s = c.args.self.now.store in
+    let asks = MayAskWithin-asks g.X.OrderedAt.key_at g.X.Key.Ord.cmp (is_equal comparing) (TakesAt g.F.FnMut) (CalledAt g.F.FnMut) c.args.f s c.requires in
+    AsksWithin-group g.X.OrderedAt.key_at comparing s s g.X.Key.Ord.cmp (TakesAt g.F.FnMut) (CalledAt g.F.FnMut) c.args.f asks
 
 pub returns-clause-asked : goal.returns-clause-asked
 returns-clause-asked g c =

@@ -1,11 +1,15 @@
 use Rattle.std.proofs.Common.{arith}
 use Rattle.std.specs.Fn.{TakesAt, CalledAt}
-use Rattle.iddqd_map.proofs.RetainLemmas.{MayAsk-can, same_memory}
+use Rattle.std.specs.Range.Bound.{bound_map}
+use Rattle.iddqd_keys.specs.OrderedQuery.{is_between}
+use Rattle.iddqd_map.proofs.RangeRetainLemmas.{MayAskWithin-asks}
+use Rattle.iddqd_map.proofs.RetainLemmas.{same_memory}
 use Rattle.iddqd_map.proofs.map.Map.retain_range_by.Goals as goal
 
 pub retain_within-requires-clause-can_ask : goal.retain_within-requires-clause-can_ask
 retain_within-requires-clause-can_ask g c =
-    rw (← c.self.view_is) at (MayAsk-can (TakesAt g.F.FnMut) (CalledAt g.F.FnMut) _ _ c.requires)
+    let within = is_between (bound_map g.Q.OrdQuery.compare c.args.lower) (bound_map g.Q.OrdQuery.compare c.args.upper) in
+    rw (← c.self.view_is) at (MayAskWithin-asks g.X.OrderedAt.key_at g.X.Key.Ord.cmp within (TakesAt g.F.FnMut) (CalledAt g.F.FnMut) c.args.f c.args.self.now.store c.requires)
 
 pub overflow_sub-result : goal.overflow_sub-result
 overflow_sub-result g c = omega (arith, c.retain_within.ensures.fewer, c.len.ensures, c.len-before.ensures)

@@ -2,14 +2,11 @@ use Rattle.std.proofs.Common.{◌≡◌, ◌≢◌, ◌∙◌, true, false, refl
 use Rattle.std.specs.Fn.{TakesAt, CalledAt}
 use Rattle.std.specs.Range.Bound.{bound_map}
 use Rattle.iddqd.specs.ItemSet.{SizedStore}
-use Rattle.iddqd.specs.LiveItems.{live_items}
 use Rattle.iddqd.specs.Store.{get, removed}
-use Rattle.iddqd_hash.proofs.AskLemmas.{CanAsk-takes, CanAsk-asked}
 use Rattle.iddqd_keys.specs.OrderedQuery.{is_between}
 use Rattle.iddqd_keys.specs.Scan.{IsHit, passes_by}
 use Rattle.iddqd_keys.proofs.NextLemmas.{IsNextHit-between}
-use Rattle.iddqd_map.proofs.RangeRetainLemmas.{RetainsFrom, RetainsFrom-none, RetainsFrom-asked, RetainsWithin-from, first_passes, limit_stays, live_then, next_passes, no_more_live, others_stay, to_ask-asked}
-use Rattle.iddqd_map.proofs.RetainLemmas.{Contains-live}
+use Rattle.iddqd_map.proofs.RangeRetainLemmas.{takes-at, AsksFrom-asked, RetainsFrom, RetainsFrom-none, RetainsFrom-asked, RetainsWithin-from, first_passes, limit_stays, live_then, next_passes, no_more_live, others_stay, to_ask-asked}
 use Rattle.iddqd_map.proofs.map.range_retain.retain_within.Goals as goal
 
 pub loop-next-init : goal.loop-next-init
@@ -21,7 +18,7 @@ loop-next-init g c =
     let first = c.first_between-next.ensures in
     record {
       kept = c.requires.indexed;
-      can = c.requires.can_ask;
+      can = λ n. c.requires.can_ask.at n c.first_between-next.result first;
       among = λ j x there. there;
       passing = first_passes key_at compare s (passes_by key_at within) c.first_between-next.result first;
       retains = λ new last. RetainsWithin-from key_at compare g.met.X.Key.Ord.total within (CalledAt g.F.FnMut) c.args.f.now s new last c.first_between-next.result first;
@@ -35,10 +32,10 @@ loop-next-init g c =
 
 pub retain_at-requires-clause-takes : goal.retain_at-requires-clause-takes
 retain_at-requires-clause-takes g c = λ item live.
-    let i = c.loop-next.invariant in
-    let old = c.args.items.now.store in
-    CanAsk-takes (TakesAt g.F.FnMut) (CalledAt g.F.FnMut) c.loop-next.f (live_items old) item i.can
-    (Contains-live old c.in-Some.ix item (i.among c.in-Some.ix item live))
+    let key_at = g.X.OrderedAt.key_at in
+    let compare = g.X.Key.Ord.cmp in
+    let within = is_between (bound_map g.Q.OrdQuery.compare c.args.lower) (bound_map g.Q.OrdQuery.compare c.args.upper) in
+    takes-at key_at compare within (TakesAt g.F.FnMut) (CalledAt g.F.FnMut) c.loop-next.items.store c.loop-next.f c.loop-next.next c.in-Some.ix item c.loop-next.invariant.can c.in-Some.is live
 
 pub loop-next-smaller : goal.loop-next-smaller
 loop-next-smaller g c =
@@ -85,7 +82,7 @@ loop-next-preserved g c =
     let was = i.among ix item live in
     record {
       kept = did.indexed;
-      can = CanAsk-asked (TakesAt g.F.FnMut) ask f (live_items old) item b after i.can (Contains-live old ix item was) asked;
+      can = AsksFrom-asked key_at compare within (TakesAt g.F.FnMut) ask total s ix item live f after c.loop-next.next next now b i.can c.in-Some.is asked is kept gone;
       among = λ j x there. i.among j x (live_then key_at compare total within ask f after after s now ix item next live passes is now b kept gone asked j x there);
       passing = next_passes key_at compare total within ask f after after s now ix item next live passes is now b kept gone asked;
       retains = λ new last from.

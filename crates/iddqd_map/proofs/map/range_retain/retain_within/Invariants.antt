@@ -1,13 +1,11 @@
 use Rattle.std.proofs.Common.{◌≡◌, ◌≤◌, ℕ, Some}
 use Rattle.std.specs.Fn.{TakesAt, CalledAt}
 use Rattle.std.specs.Range.Bound.{bound_map}
-use Rattle.iddqd.specs.LiveItems.{live_items}
 use Rattle.iddqd.specs.Store.{Store, get, live_count}
-use Rattle.iddqd_hash.specs.Asks.{CanAsk}
 use Rattle.iddqd_keys.specs.OrderedQuery.{is_between}
 use Rattle.iddqd_keys.specs.Scan.{IsHit, passes_by}
 use Rattle.iddqd_map.specs.KeyIndex.{IsIndexed}
-use Rattle.iddqd_map.specs.RangeRetain.{KeepsMisses, RetainsWithin}
+use Rattle.iddqd_map.specs.RangeRetain.{AsksFrom, KeepsMisses, RetainsWithin}
 use Rattle.iddqd_map.proofs.RangeRetainLemmas.{RetainsFrom, to_ask}
 use Rattle.iddqd_map.proofs.map.range_retain.retain_within.Given as goal
 
@@ -19,7 +17,8 @@ invariant-loop-next g l =
     let within = is_between (bound_map g.Q.OrdQuery.compare l.fn.lower) (bound_map g.Q.OrdQuery.compare l.fn.upper) in
     record {
       kept : IsIndexed (g.X.KeyIndex.indexes l.indexes) l.fn.state l.items.store;
-      can : CanAsk (TakesAt g.F.FnMut) (CalledAt g.F.FnMut) l.f (live_items l.fn.items.store);
+      can : (n : ℕ)
+          → AsksFrom key_at compare within (TakesAt g.F.FnMut) (CalledAt g.F.FnMut) l.items.store n l.f l.next;
       among : (j : ℕ) (x : _) → get l.items.store j ≡ Some x → get l.fn.items.store j ≡ Some x;
       passing : (n : ℕ) → l.next ≡ Some n → IsHit l.items.store (passes_by key_at within) n;
       retains : (new : Store _) (last : _)

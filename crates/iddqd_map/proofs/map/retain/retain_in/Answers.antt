@@ -3,14 +3,14 @@ use Rattle.std.specs.Fn.{TakesAt, CalledAt}
 use Rattle.std.proofs.lemmas.Fn.{called_at}
 use Rattle.iddqd.specs.Store.{get, removed}
 use Rattle.iddqd.specs.ItemSet.{SizedStore}
-use Rattle.iddqd_map.proofs.RetainLemmas.{Retaining-none, Retaining-all, Retaining-vacant, takes-next, Retaining-kept, Retaining-removed}
+use Rattle.iddqd_map.proofs.RetainLemmas.{Retaining-first, Retaining-all, Retaining-vacant, takes-next, Retaining-kept, Retaining-removed}
 use Rattle.iddqd_map.proofs.map.retain.retain_in.Goals.{then-not-f, else-not-f}
 use Rattle.iddqd_map.proofs.map.retain.retain_in.Goals as goal
 
 pub loop-at-init : goal.loop-at-init
 loop-at-init g c = record {
   kept = c.requires.indexed;
-  retaining = Retaining-none (TakesAt g.F.FnMut) (CalledAt g.F.FnMut) c.args.f.now c.args.items.now.store c.requires.can_ask;
+  retaining = Retaining-first (TakesAt g.F.FnMut) (CalledAt g.F.FnMut) c.args.f.now c.args.items.now.store c.requires.can_ask;
   slots = refl;
   capacity = refl;
   cells = refl;

@@ -9,8 +9,8 @@ unreachable-requires g c =
     let reported = rw c.in-Err-Duplicate.field-0-is at c.in-Err-Duplicate.ensures.inserts in
     not_refused alike c.self.inside.map c.insert_unique.new.self c.replace_at.new.self c.args.item c.in-Err-Duplicate.item c.in-Err-Duplicate.at reported c.in-Err.field-0 c.in-Err.ensures.replaces
 
-pub returns-in-Ok-replace_at : goal.returns-in-Ok-replace_at
-returns-in-Ok-replace_at g c =
+pub returns-in-Ok-replace_at-clause-inserts : goal.returns-in-Ok-replace_at-clause-inserts
+returns-in-Ok-replace_at-clause-inserts g c =
     let alike = shares g.T.IdOrdItem.key_of (eq_by_cmp g.T.Key.Ord.cmp) in
     let reported = rw c.in-Err-Duplicate.field-0-is at c.in-Err-Duplicate.ensures.inserts in
     rw (← c.self.view_is) (overwritten alike c.self.inside.map c.insert_unique.new.self c.replace_at.new.self c.args.item c.in-Err-Duplicate.item c.in-Err-Duplicate.at reported c.in-Ok-replace_at.was c.in-Ok-replace_at.ensures.replaces)

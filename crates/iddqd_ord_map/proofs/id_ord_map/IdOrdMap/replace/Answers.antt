@@ -6,12 +6,18 @@ use Rattle.iddqd_map.specs.Map.{shares}
 use Rattle.iddqd_ord_map.proofs.CallLemmas.{Replaces-at}
 use Rattle.iddqd_ord_map.proofs.id_ord_map.IdOrdMap.replace.Goals as goal
 
-pub returns-in_default : goal.returns-in_default
-returns-in_default g c = (refl, c.in_default.ensures, refl)
+pub returns-in_default-clause-replaces : goal.returns-in_default-clause-replaces
+returns-in_default-clause-replaces g c = (refl, c.in_default.ensures, refl)
 
-pub returns : goal.returns
-returns g c =
+pub returns-clause-replaces : goal.returns-clause-replaces
+returns-clause-replaces g c =
     let alike = shares g.T.IdOrdItem.key_of (eq_by_cmp g.T.Key.Ord.cmp) in
     let test = passes_by g.T.IdOrdItem.key_of (is_equal (g.Q.OrdQuery.compare c.args.query)) in
     let (was, live, _) = (c.in-Some.ensures c.in-Some.ix).1 refl in
     Replaces-at alike true c.args.self.now c.replace_at.new.self c.in-Some.ix c.args.item was live test c.replace_at.result c.in-Some.ensures (rw (← c.self.view_is) c.replace_at.ensures.replaces)
+
+pub returns-clause-room : goal.returns-clause-room
+returns-clause-room g c = rw (← c.self.view_is) c.replace_at.ensures.room
+
+pub returns-clause-count : goal.returns-clause-count
+returns-clause-count g c = rw (← c.self.view_is) c.replace_at.ensures.count

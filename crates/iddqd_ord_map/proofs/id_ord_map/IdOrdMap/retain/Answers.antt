@@ -1,16 +1,17 @@
 use Rattle.std.proofs.Common.{◌∙◌, ◌-◌, sym, ap, subst}
 use Rattle.std.specs.Fn.{TakesAt, CalledAt}
-use Rattle.iddqd.specs.LiveItems.{live_items}
-use Rattle.iddqd_hash.specs.Asks.{CanAsk}
 use Rattle.iddqd_map.specs.Map.{MapState}
-use Rattle.iddqd_map.proofs.RetainLemmas.{MayAsk-can}
+use Rattle.iddqd_ord_map.specs.KeyOrder.{IsKeyWalk}
+use Rattle.iddqd_ord_map.specs.Retain.{AsksAlong}
+use Rattle.iddqd_ord_map.proofs.RetainLemmas.{MayAskAlong-asks}
 use Rattle.iddqd_ord_map.proofs.id_ord_map.IdOrdMap.retain.Goals as goal
 
 pub retain_in-requires-clause-can_ask : goal.retain_in-requires-clause-can_ask
 retain_in-requires-clause-can_ask g c =
     let same = ap (λ (m : MapState _). m.store) (c.into_parts-items.ensures.map ∙ c.replace.ensures.value ∙ c.self.view_is) in
-    subst (λ s. CanAsk (TakesAt g.F.FnMut) (CalledAt g.F.FnMut) c.args.f (live_items s)) (sym same)
-    (MayAsk-can (TakesAt g.F.FnMut) (CalledAt g.F.FnMut) c.args.f (live_items c.args.self.now.store) c.requires)
+    let is_walk = IsKeyWalk g.T.IdOrdItem.key_of g.T.Key.Ord.cmp in
+    subst (λ s. AsksAlong is_walk (TakesAt g.F.FnMut) (CalledAt g.F.FnMut) c.args.f s) (sym same)
+    (MayAskAlong-asks (TakesAt g.F.FnMut) (CalledAt g.F.FnMut) is_walk c.args.f c.args.self.now.store c.requires)
 
 pub returns-clause-retained : goal.returns-clause-retained
 returns-clause-retained g c =

@@ -5,13 +5,17 @@ use Rattle.iddqd.specs.Store.{removed}
 use Rattle.iddqd.specs.ItemSet.{SizedStore}
 use Rattle.iddqd_order.specs.Iter.{indexes_left}
 use Rattle.iddqd_order.specs.MapBTreeTable.{order_of}
-use Rattle.iddqd_ord_map.proofs.RetainLemmas.{Retaining-none, takes-next, Retaining-kept, Retaining-removed}
+use Rattle.iddqd_ord_map.proofs.RetainLemmas.{Retaining-none, live-next, takes-next, Retaining-kept, Retaining-removed}
 use Rattle.iddqd_ord_map.proofs.id_ord_map.retain.remove_refused.Goals as goal
 
 pub loop-ix-init : goal.loop-ix-init
 loop-ix-init g c =
     let all = ap indexes_left c.into_iter-ix-iterator.ensures.into_iter_gives ∙ c.iter-ix-items.ensures.left in
     record { retaining = Retaining-none (TakesAt g.F.FnMut) (CalledAt g.F.FnMut) c.args.f.now c.args.items.now.store (order_of c.args.table.now) _ all c.requires.valid c.requires.held c.requires.can_ask; slots = refl }
+
+pub item_at-requires : goal.item_at-requires
+item_at-requires g c =
+    live-next (TakesAt g.F.FnMut) (CalledAt g.F.FnMut) c.args.f.now c.args.items.now.store c.loop-ix.items.store (order_of c.args.table.now) (indexes_left c.loop-ix.ix-iterator) (indexes_left c.next.new.self) c.in-Some.ix c.loop-ix.f c.in-Some.ensures.steps c.loop-ix.invariant.retaining
 
 pub f-requires : goal.f-requires
 f-requires g c =

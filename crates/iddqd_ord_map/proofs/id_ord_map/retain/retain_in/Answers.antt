@@ -1,11 +1,15 @@
 use Rattle.std.proofs.Common.{ℕ, length, is_some, ap, arith}
 use Rattle.std.proofs.lemmas.List.Sums.{length-filter, count_by-le-length}
-use Rattle.std.specs.Fn.{CalledAt}
+use Rattle.std.specs.Fn.{TakesAt, CalledAt}
 use Rattle.iddqd.specs.Store.{get}
 use Rattle.iddqd_order.specs.MapBTreeTable.{order_of}
 use Rattle.iddqd_by_order.proofs.OrderedCountLemmas.{length-held}
-use Rattle.iddqd_ord_map.proofs.RetainLemmas.{Sorts-retained, RetainsAlongTo-keys}
+use Rattle.iddqd_ord_map.proofs.RetainLemmas.{AsksAlong-sorted, Sorts-retained, RetainsAlongTo-keys}
 use Rattle.iddqd_ord_map.proofs.id_ord_map.retain.retain_in.Goals as goal
+
+pub remove_refused-requires-clause-can_ask : goal.remove_refused-requires-clause-can_ask
+remove_refused-requires-clause-can_ask g c =
+    AsksAlong-sorted (TakesAt g.F.FnMut) (CalledAt g.F.FnMut) g.T.IdOrdItem.key_of g.T.Key.Ord.cmp c.args.f.now c.args.items.now.store (order_of c.args.table.now) c.requires.sorted c.requires.can_ask
 
 pub returns-clause-sorted : goal.returns-clause-sorted
 returns-clause-sorted g c =

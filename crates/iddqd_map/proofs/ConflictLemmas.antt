@@ -1,10 +1,9 @@
--- An item that a pair of key indexes reports shares a key with the refused one.
+-- For callers: an item that a pair of key indexes reports shares a key with the refused one.
 use Rattle.std.proofs.Common.{◌≡◌, ◌||◌, inl, inr, ℕ, Bool, true, false, Option, Some, None, refl}
-use Rattle.iddqd_maps.specs.Store.{Store}
-use Rattle.iddqd_maps.specs.Scan.{IsHit, HasNoHit}
-use Rattle.iddqd_maps.specs.PairConflict.{ReportBoth, ReportBothOther}
-use Rattle.iddqd_maps.specs.Several.{either_key}
-use Rattle.uses.specs.Exchanges.{HitsOther}
+use Rattle.iddqd.specs.Store.{Store}
+use Rattle.iddqd_keys.specs.Scan.{IsHit, HasNoHit}
+use Rattle.iddqd_map.specs.PairConflict.{ReportBoth, ReportBothOther}
+use Rattle.iddqd_map.specs.Several.{HitsOther, either_key}
 
 or_true : (a : Bool) → (a || true) ≡ true
 or_true true = refl

@@ -1,0 +1,85 @@
+-- For callers of a map in order: what is left after `retain`.
+use Rattle.std.proofs.Common.{◌≡◌, ◌∙◌, ◌≤◌, ◌↔◌, inl, inr, ℕ, Bool, true, List, [], ◌∷◌, map, Contains, filter, Some, refl, sym, ap, subst, arith, Ordering}
+use Rattle.std.proofs.lemmas.Bool.{cond_both}
+use Rattle.std.proofs.lemmas.List.Elements.{All-contains, All-contains_itself, All-filter, Contains-append_cases, Contains-append_left, Contains-append_right, Contains-push, Contains-push_cases, filter_passes}
+use Rattle.iddqd.specs.Store.{Store, get, live_count}
+use Rattle.iddqd_map.specs.Map.{MapState}
+use Rattle.iddqd_map.specs.Retain.{removed_of}
+use Rattle.iddqd_map.proofs.CallerLemmas.{fewer_all}
+use Rattle.iddqd_map.proofs.RetainedLemmas.{kept_tested}
+use Rattle.iddqd_ord_map.specs.KeyOrder.{IsKeyWalk}
+use Rattle.iddqd_ord_map.specs.Retain.{RetainsAlong}
+
+-- no more items than there were
+pub retains_along_fewer :
+    {F T : Type 0} (ask : F → T → Bool → F → Type 0) (f : F) (old new : MapState T)
+    (is_walk : Store T → List (ℕ × T) → Type 0)
+    → RetainsAlong is_walk ask f old new
+    → live_count new.store ≤ live_count old.store
+retains_along_fewer ask f old new is_walk retains =
+    subst (λ s. live_count s ≤ live_count old.store) (sym retains.retained.left)
+    (fewer_all old.store (removed_of retains.retained.asks))
+
+-- exactly the items that pass a test, if the closure answers by it: `I` holds of each of its states, and there its
+-- answer on an item is whether that passes
+module _
+    {F T : Type 0} (ask : F → T → Bool → F → Type 0) (I : F → Type 0) (test : T → Bool)
+    (says : (s : F) (x : T) (b : Bool) (t : F) → I s → ask s x b t → (b ≡ test x) × I t)
+  where
+    pub RetainsAlong-tested :
+        (is_walk : Store T → List (ℕ × T) → Type 0) (f : F) (old new : MapState T)
+        → I f
+        → RetainsAlong is_walk ask f old new
+        → (walk : List (ℕ × T)) × is_walk old.store walk × is_walk new.store (filter (λ p. test p.1) walk)
+    RetainsAlong-tested is_walk f old new i retains =
+        let to = retains.retained in
+        (map (λ a. a.0) to.asks, to.each_once, subst (is_walk new.store) (kept_tested ask I test says f to.asks retains.last i to.were_asked) to.kept)
+
+-- a filtered list has exactly those that pass
+contained :
+    {X : Type 0} (test : X → Bool) (xs : List X) (x : X)
+    → Contains (filter test xs) x
+    → Contains xs x × (test x ≡ true)
+contained test xs x here = (
+  All-contains (Contains xs) (filter test xs) x (All-filter test (Contains xs) xs (All-contains_itself xs)) here,
+  All-contains (λ y. test y ≡ true) (filter test xs) x (filter_passes test xs) here,
+)
+
+kept :
+    {X : Type 0} (test : X → Bool) (xs : List X) (x : X)
+    → Contains xs x
+    → test x ≡ true
+    → Contains (filter test xs) x
+kept test [] x here passes = here
+kept test (y ∷ xs) x here passes =
+    elim (Contains-append_cases (y ∷ []) xs x here) [
+      | inl first ↦ elim (Contains-push_cases [] y x first) [
+        | inl none ↦ absurd (let within = none.1 in omega arith)
+        | inr same ↦
+            let passes_too : test y ≡ true = ap test same ∙ passes in
+            let head = Contains-append_left (y ∷ []) (filter test xs) y (Contains-push [] y) in
+            rw passes_too (subst (Contains (y ∷ filter test xs)) same head)
+      ]
+      | inr behind ↦
+          let later = kept test xs x behind passes in
+          cond_both (test y) (y ∷ filter test xs) (filter test xs) (λ l. Contains l x)
+          (λ _. Contains-append_right (y ∷ []) (filter test xs) x later)
+          (λ _. later)
+    ]
+
+-- so of the items along a walk those stay that pass the test
+module _ {T K : Type 0} (key_of : T → K) (compare : K → K → Ordering) (old new : Store T) (test : T → Bool)
+    (walk : List (ℕ × T))
+    (before : IsKeyWalk key_of compare old walk)
+    (after : IsKeyWalk key_of compare new (filter (λ p. test p.1) walk))
+  where
+    pub walked : (ix : ℕ) (item : T) → (get new ix ≡ Some item) ↔ ((get old ix ≡ Some item) × (test item ≡ true))
+    walked ix item = (
+      λ live.
+          let here = (after.live ix item).1 (live, refl) in
+          let (there, passes) = contained (λ (p : ℕ × T). test p.1) walk (ix, item) here in
+          (((before.live ix item).0 there).0, passes),
+      λ (live, passes).
+          let there = kept (λ (p : ℕ × T). test p.1) walk (ix, item) ((before.live ix item).1 (live, refl)) passes in
+          ((after.live ix item).0 there).0,
+    )
