@@ -4,9 +4,11 @@ pub mod InsertLemmas
 pub mod StepLemmas
 pub mod RunLemmas
 pub mod ValidationLemmas
+pub mod InSyncLemmas
 pub mod QueryLemmas
 pub mod WalkLemmas
 pub mod ReplacementLemmas
 pub mod ModifyLemmas
 pub mod RetainLemmas
 pub mod MemoryLemmas
+pub mod CountLemmas

@@ -1,16 +1,16 @@
 -- What becomes of the memory of a store and two tables, and what room each part has.
-use Rattle.std.proofs.Common.{◌≡◌, ◌∙◌, ◌<◌, ◌≤◌, ◌+◌, ◌-◌, ◌*◌, ◌⊎◌, inl, inr, ℕ, zero, suc, Bool, true, false, cond, List, [], ◌∷◌, length, map, Option, Some, None, Result, Ok, Err, IfOk, OnOk, OnSome, refl, sym, ap, subst, arith, min, max, length-set}
+use Rattle.std.proofs.Common.{◌≡◌, ◌∙◌, ◌<◌, ◌≤◌, ◌+◌, ◌-◌, ◌*◌, ◌⊎◌, inl, inr, ℕ, zero, suc, Bool, true, false, cond, List, [], ◌∷◌, length, map, Option, Some, None, Result, Ok, Err, IfOk, OnOk, OnSome, refl, sym, ap, subst, arith, min, max}
 use Rattle.std.specs.Ordering.{nat_cmp}
 use Rattle.std.specs.FinMap as finite
 use Rattle.std.specs.FinMap.{FinMap}
 use Rattle.std.specs.Cmp.{nat_cmp_total}
 use Rattle.std.proofs.lemmas.Bool.{cases_lt}
 use Rattle.std.proofs.lemmas.Cmp.{tied_itself}
-use Rattle.std.proofs.lemmas.List.{length_push, length-map}
-use Rattle.iddqd.specs.Store.{Store, IsValid, IsFull, get, live_count, slot_count, inserted, removed}
+use Rattle.std.proofs.lemmas.List.{length-map}
+use Rattle.iddqd.specs.Store.{IsValid, live_count, slot_count}
 use Rattle.iddqd.specs.ItemSet.{SizedStore, room as set_room}
 use Rattle.iddqd.specs.Sizes.{doubled}
-use Rattle.iddqd.proofs.StoreLemmas.{IsValid-inserted, IsValid-removed}
+use Rattle.iddqd.proofs.LiveCountLemmas.{live_count-inserted, live_count-removed}
 use Rattle.iddqd_hash.specs.HashTable.{Table, entries, capacity as hashed_capacity, memory as hashed_cells, room as hashed_room}
 use Rattle.iddqd_hash.specs.MapHashTable.{filed, filed_from, swapped, indexes_of}
 use Rattle.iddqd_hash.specs.Sizes as hash_sizes
@@ -80,38 +80,6 @@ module _ {T S : Type 0} (s : State T S) (paired : IsPaired s) where
 
   pub length-order : length s.order ≡ live_count s.store
   length-order = length-held s.store s.order (Holds-order s paired)
-
--- ---- how many items there are
-
-module _ {T : Type 0} where
-  pub live_count-inserted :
-      (s : Store T) (item : T)
-      → IsValid s
-      → (IsFull s → ⊥)
-      → live_count (inserted s item) ≡ live_count s + 1
-  live_count-inserted s item valid not_full =
-      by_free s.items s.free valid.counted (IsValid-inserted s item valid not_full).counted
-    where
-      by_free :
-          (items : List (Option T)) (free : List ℕ)
-          → live_count (record { items = items; free = free; limit = s.limit }) + length free ≡ length items
-          → live_count (inserted (record { items = items; free = free; limit = s.limit }) item) + length
-          (inserted (record { items = items; free = free; limit = s.limit }) item).free ≡ length
-          (inserted (record { items = items; free = free; limit = s.limit }) item).items
-          → live_count (inserted (record { items = items; free = free; limit = s.limit }) item) ≡ live_count
-          (record { items = items; free = free; limit = s.limit }) + 1
-      by_free items [] was is = omega (arith, length_push items (Some item))
-      by_free items (ix ∷ rest) was is = omega (arith, length-set items ix (Some item))
-
-  pub live_count-removed :
-      (s : Store T) (ix : ℕ) (item : T)
-      → IsValid s
-      → get s ix ≡ Some item
-      → live_count s ≡ live_count (removed s ix) + 1
-  live_count-removed s ix item valid live =
-      let was = valid.counted in
-      let is = (IsValid-removed s ix item valid live).counted in
-      omega (arith, was, is, length-set s.items ix None)
 
 -- ---- the room of a collection and that of its parts
 

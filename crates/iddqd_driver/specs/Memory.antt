@@ -17,7 +17,7 @@ use Rattle.iddqd_driver.specs.declared.command.Command.TheVariants.{Insert}
 use Rattle.iddqd_driver.specs.declared.command.Reply.{Reply}
 use Rattle.iddqd_driver.specs.declared.command.Reply.TheVariants.{Refused}
 use Rattle.iddqd_driver.specs.declared.keyed_items.InsertRefusal.{InsertRefusal}
-use Rattle.iddqd_driver.specs.declared.keyed_items.InsertRefusal.TheVariants.{Memory as OutOfMemory}
+use Rattle.iddqd_driver.specs.declared.keyed_items.InsertRefusal.TheVariants.{Duplicate, Memory as OutOfMemory}
 
 -- How many slots the store's memory holds, how many indexes the hash table can hold, how many cells it has, and how
 -- many indexes the ordered table can hold.
@@ -81,6 +81,11 @@ IsInsert command = ⊥
 abbrev pub IsOutOfMemory : {T : Type 0} → InsertRefusal T → Type 0
 IsOutOfMemory (OutOfMemory item) = ⊤
 IsOutOfMemory refusal = ⊥
+
+-- an item was refused since a look-up found one of its keys
+abbrev pub IsDuplicate : {T : Type 0} → InsertRefusal T → Type 0
+IsDuplicate (Duplicate item first second) = ⊤
+IsDuplicate refusal = ⊥
 
 -- the item of a command was refused since memory ran out
 abbrev pub RefusesMemory : {T : Type 0} → Reply T → Type 0

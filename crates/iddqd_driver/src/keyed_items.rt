@@ -25,7 +25,7 @@ ghost use Rattle.iddqd_driver.specs.State.{empty_state, empty_state_within, clea
 ghost use Rattle.iddqd_driver.specs.KeyIndexes.{first_key_index, second_key_index, finds_reported, hash_in, LooksUp, IsInSync, Keeps, KeepsUnlessChanged};
 ghost use Rattle.iddqd_driver.specs.Machine.{Refuses, Inserts, ReportsAsScan, Removes, RemovesBy, Overwrites, Step};
 ghost use Rattle.iddqd_driver.specs.Run.{Run};
-ghost use Rattle.iddqd_driver.specs.Memory.{no_memory, capacity, room, InsertsInMemory, InsertsInParts, TakesForOne, StepsInMemory, RunsInMemory};
+ghost use Rattle.iddqd_driver.specs.Memory.{no_memory, capacity, room, InsertsInMemory, InsertsInParts, IsDuplicate, TakesForOne, StepsInMemory, RunsInMemory};
 
 mod defaults;
 mod memory;
@@ -197,8 +197,10 @@ impl<T: KeyedItem, S: BuildHasher> KeyedItems<T, S> {
         self.hash_and_find(key).1
     }
 
-    /// The index of the item with this second key. It makes at most 4 + 2d comparisons, where the
-    /// number of items has d binary digits.
+    /// The index of the item with this second key.
+    ///
+    /// It is one search of the ordered table, whose contract allows at most 4 + 2d comparisons, where the number of
+    /// items has d binary digits. The contract here doesn't count them; tests do.
     #[tactic(auto, using(crate::proofs::KeepsLemmas::order_has_live_indexes))]
     pub fn find2(&self, key: &T::Key2) -> Option<ItemIndex>
         ensures paired { IsPaired self.now.state }
@@ -210,7 +212,8 @@ impl<T: KeyedItem, S: BuildHasher> KeyedItems<T, S> {
     /// Inserts an item, if neither of its keys is found.
     ///
     /// A duplicate is reported even if the store is full or no memory is left, and a full store even if
-    /// no memory is left. A refusal returns the item and changes nothing.
+    /// no memory is left. With room, an item is refused only as a duplicate. A refusal returns the item and
+    /// changes nothing.
     pub fn insert(&mut self, item: T) -> Result<ItemIndex, InsertRefusal<T>>
         ensures inserts { Inserts ⟦<Self as Keyed>⟧.keys self.old.state item result self.new.state }
         ensures tells { ReportsAsScan ⟦<Self as Keyed>⟧.keys self.old.state item result }
@@ -219,6 +222,8 @@ impl<T: KeyedItem, S: BuildHasher> KeyedItems<T, S> {
         ensures few { let store = self.old.state.store in
             TakesForOne store.limit (live_count store) self.old.memory self.new.memory }
         ensures room { OnOk result (1 ≤ room self.old → room self.old ≡ room self.new + 1) }
+        ensures roomy { 1 ≤ room self.old → IfErr result IsDuplicate }
+        ensures count { OnOk result (live_count self.new.state.store ≡ live_count self.old.state.store + 1) }
     {
         let (hash, first) = self.hash_and_find(item.key1());
         let (items, filed, order) = (&mut self.items, &mut self.filed, &mut self.order);
@@ -233,6 +238,7 @@ impl<T: KeyedItem, S: BuildHasher> KeyedItems<T, S> {
         ensures memory { self.new.memory ≡ self.old.memory }
         ensures room { OnSome result
             (live_count self.old.state.store ≤ capacity self.old → room self.new ≡ room self.old + 1) }
+        ensures count { OnSome result (live_count self.old.state.store ≡ live_count self.new.state.store + 1) }
     {
         let item = self.items.get(ix)?;
         let hash = hashed::hash_of::<T, First, S>(&self.state, item);
@@ -246,6 +252,9 @@ impl<T: KeyedItem, S: BuildHasher> KeyedItems<T, S> {
             self.new.state }
         ensures keeps { Keeps ⟦<Self as Keyed>⟧.keys self.old.state self.new.state }
         ensures memory { self.new.memory ≡ self.old.memory }
+        ensures room { OnSome result
+            (live_count self.old.state.store ≤ capacity self.old → room self.new ≡ room self.old + 1) }
+        ensures count { OnSome result (live_count self.old.state.store ≡ live_count self.new.state.store + 1) }
     {
         self.remove1_by(key)
     }
@@ -256,6 +265,9 @@ impl<T: KeyedItem, S: BuildHasher> KeyedItems<T, S> {
             self.new.state }
         ensures keeps { Keeps ⟦<Self as Keyed>⟧.keys self.old.state self.new.state }
         ensures memory { self.new.memory ≡ self.old.memory }
+        ensures room { OnSome result
+            (live_count self.old.state.store ≤ capacity self.old → room self.new ≡ room self.old + 1) }
+        ensures count { OnSome result (live_count self.old.state.store ≡ live_count self.new.state.store + 1) }
     {
         self.remove2_by(key)
     }
@@ -269,6 +281,7 @@ impl<T: KeyedItem, S: BuildHasher> KeyedItems<T, S> {
         ensures overwrites { Overwrites self.old.state ix item result self.new.state }
         ensures keeps { KeepsUnlessChanged ⟦<Self as Keyed>⟧.keys self.old.state ix item self.new.state }
         ensures memory { self.new.memory ≡ self.old.memory }
+        ensures count { live_count self.new.state.store ≡ live_count self.old.state.store }
     {
         if self.items.get(ix).is_none() {
             return Err(item);

@@ -49,5 +49,5 @@ pub use Rattle.iddqd_driver.specs.Modify.{KeepsKeysOfFound, ModifiesAt, Modifies
 pub use Rattle.iddqd_by_hash.specs.Retain.{MayAsk, RetainsTo, kept_of, removed_of}
 pub use Rattle.iddqd_driver.specs.Retain.{unbound_all, Retains}
 pub use Rattle.iddqd_driver.specs.Memory.{SizedState, no_memory, capacity, room, reservable, IsNoLower, IsMadeFor}
-pub use Rattle.iddqd_driver.specs.Memory.{IsOutOfMemory, InsertsInMemory, TakesForOne, ReservesInMemory, ShrinksInMemory}
+pub use Rattle.iddqd_driver.specs.Memory.{IsDuplicate, IsOutOfMemory, InsertsInMemory, TakesForOne, ReservesInMemory, ShrinksInMemory}
 pub use Rattle.iddqd_driver.specs.Memory.{RefusesMemory, IsServedBelow, StepsInMemory, RunsInMemory}

@@ -59,7 +59,7 @@ module _
         scan_hits s.store (shares key item) r (looks.as_scan hashing (StandsForOne-key hashing (key.key_of item) hash lawful hashed) exact) ix
 
 -- a store with a free index isn't full
-not_full_after : {T : Type 0} (s : Store T) (ix : ℕ) (rest : List ℕ) → IsFull (removed_all s (ix ∷ rest)) → ⊥
+pub not_full_after : {T : Type 0} (s : Store T) (ix : ℕ) (rest : List ℕ) → IsFull (removed_all s (ix ∷ rest)) → ⊥
 not_full_after s ix [] full = let none = full.0 in cc
 not_full_after s ix (next ∷ rest) full = not_full_after (removed s ix) next rest full
 

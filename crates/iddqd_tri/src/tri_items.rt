@@ -10,7 +10,7 @@
 //!
 //! A clause sees the state and beside it the memory, so a call that leaves the memory as it was says so in one
 //! equation.
-ghost use Rattle.std.specs.Prelude.{◌≡◌, ◌↔◌, ◌+◌, ◌≤◌, ℕ, min, max, IsTrue, IsOk, IfOk, Err, option_copied};
+ghost use Rattle.std.specs.Prelude.{◌≡◌, ◌↔◌, ◌+◌, ◌≤◌, ℕ, min, max, count_by, is_some, IsTrue, OnSome, IsOk, IfOk, Err, option_copied};
 ghost use Rattle.iddqd.specs.{get, slot_count, live_count};
 ghost use Rattle.iddqd_keys.specs.Scan.{IsLive};
 ghost use Rattle.iddqd_by_hash.specs.Hashed.{AreLive, LooksUp};
@@ -33,6 +33,8 @@ use iddqd_by_hash::hashed;
 use iddqd_by_hash::hashed::query_hash;
 use iddqd_hash::hash_table::MapHashTable;
 use iddqd_keys::key_of::{KeyOf, KeyQuery};
+/// The trait of the items, under another name: an item that is kept in a `TriHashMap` too implements it once.
+pub use iddqd_keys::tri_hash_item::TriHashItem as TriItem;
 use iddqd_keys::tri_hash_item::{Key1, Key2, Key3, TriHashItem};
 use std::alloc::{AllocError, Global};
 use std::hash::{BuildHasher, Hash};
@@ -190,6 +192,9 @@ impl<T: TriHashItem, S: BuildHasher> TriItems<T, S> {
     pub fn remove(&mut self, ix: ItemIndex) -> Option<T>
         ensures removes { RemovesItem self.old.state ix result self.new.state }
         ensures memory { self.new.memory ≡ self.old.memory }
+        ensures room { OnSome result
+            (live_count self.old.state.store ≤ capacity self.old → room self.new ≡ room self.old + 1) }
+        ensures count { OnSome result (live_count self.old.state.store ≡ live_count self.new.state.store + 1) }
         ensures state_before { IsTriState ⟦<Self as TriKeyed>⟧.keys self.old.state }
         ensures state_after { IsTriState ⟦<Self as TriKeyed>⟧.keys self.new.state }
     {
@@ -199,9 +204,9 @@ impl<T: TriHashItem, S: BuildHasher> TriItems<T, S> {
     /// Inserts an item, and removes the items that share a key with it, at most three. It returns these by rising
     /// index, in the first places of the array.
     ///
-    /// If it removes one, it takes no memory and doesn't refuse the item. If it removes none, it refuses the item if
-    /// the store is full, or if there is no room and memory runs out. A refusal returns the item, leaves the others,
-    /// and gives back no memory that was there.
+    /// If it removes one, or if there is room, it takes no memory and doesn't refuse the item. Otherwise it refuses the
+    /// item if the store is full, or if memory runs out. A refusal returns the item, leaves the others, and gives back
+    /// no memory that was there.
     pub fn insert_overwrite(
         &mut self,
         item: T,
@@ -218,6 +223,14 @@ impl<T: TriHashItem, S: BuildHasher> TriItems<T, S> {
             Grows s.limit (live_count s + 1) self.old.memory self.new.memory }
         ensures needed { (back : T) → result ≡ Err (TriRefusal.Memory back)
             → NeedsMemory ⟦<Self as TriKeyed>⟧.keys self.old item }
+        ensures roomy { 1 ≤ room self.old → IsOk result }
+
+        // How many items there are then, and for how many more there is room: one item more, without those that it
+        // returns.
+        ensures count { IfOk result (λ r. live_count self.new.state.store + count_by is_some r.1
+            ≡ live_count self.old.state.store + 1) }
+        ensures room { IfOk result (λ r. 1 ≤ room self.old
+            → room self.new + 1 ≡ room self.old + count_by is_some r.1) }
     {
         let hashes = TriHashes::of(&self.state, &item);
         let clashes = self.clashes(&item, &hashes);

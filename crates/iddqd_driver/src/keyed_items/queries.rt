@@ -2,9 +2,11 @@
 //!
 //! A query stands for a key: a `&str` for a `String`, say, so that no key is copied for a look-up. In every state a
 //! look-up by it returns what a look-up by each key for which it stands may return.
-ghost use Rattle.std.specs.Prelude.{◌≡◌, option_copied};
+ghost use Rattle.std.specs.Prelude.{◌≡◌, ◌≤◌, ◌+◌, OnSome, option_copied};
+ghost use Rattle.iddqd.specs.{live_count};
 ghost use Rattle.iddqd_by_order.specs.Ordered.{is_equal};
 ghost use Rattle.iddqd_driver.specs.KeyIndexes.{first_key_index, second_key_index, Keeps};
+ghost use Rattle.iddqd_driver.specs.Memory.{capacity, room};
 ghost use Rattle.iddqd_driver.specs.Queries.{LooksUpBy, LooksUpItem, LooksUpItemBy, RemovesByQuery};
 
 use super::{Keyed, KeyedItems, remove_item, take_item};
@@ -41,7 +43,7 @@ impl<T: KeyedItem, S: BuildHasher> KeyedItems<T, S> {
         hashed::find::<T, First, AsEquivalent<Q>>(&self.filed, &self.items, hash, &query)
     }
 
-    /// The index of the item with the second key for which the query stands. It makes as many comparisons as `find2`.
+    /// The index of the item with the second key for which the query stands. It searches as `find2` does.
     #[tactic(auto, using(crate::proofs::KeepsLemmas::order_has_live_indexes))]
     pub fn find2_by<Q: OrdQuery<T::Key2>>(&self, query: Q) -> Option<ItemIndex>
         ensures { LooksUpBy (second_key_index ⟦<Self as Keyed>⟧.keys) self.now.state
@@ -72,6 +74,9 @@ impl<T: KeyedItem, S: BuildHasher> KeyedItems<T, S> {
             (Q.stands_for query) result self.new.state }
         ensures keeps { Keeps ⟦<Self as Keyed>⟧.keys self.old.state self.new.state }
         ensures memory { self.new.memory ≡ self.old.memory }
+        ensures room { OnSome result
+            (live_count self.old.state.store ≤ capacity self.old → room self.new ≡ room self.old + 1) }
+        ensures count { OnSome result (live_count self.old.state.store ≡ live_count self.new.state.store + 1) }
     {
         let hash = query_hash(&self.state, query);
         let (filed, query) = (&mut self.filed, AsEquivalent(query));
@@ -86,6 +91,9 @@ impl<T: KeyedItem, S: BuildHasher> KeyedItems<T, S> {
             (is_equal (Q.compare query)) result self.new.state }
         ensures keeps { Keeps ⟦<Self as Keyed>⟧.keys self.old.state self.new.state }
         ensures memory { self.new.memory ≡ self.old.memory }
+        ensures room { OnSome result
+            (live_count self.old.state.store ≤ capacity self.old → room self.new ≡ room self.old + 1) }
+        ensures count { OnSome result (live_count self.old.state.store ≡ live_count self.new.state.store + 1) }
     {
         let (order, query) = (&mut self.order, AsComparable(query));
         let ix = ordered::take::<T, Second, AsComparable<Q>>(order, &self.items, &query)?;

@@ -82,6 +82,7 @@ impl<T: KeyedItem, S: BuildHasher> KeyedItems<T, S> {
         ensures memory { self.new.memory ≡ self.old.memory }
         ensures not_refused { live_count self.old.state.store ≤ self.old.memory.ordered
             → IfErr result (λ refusal. IsReplaceOutOfMemory refusal → ⊥) }
+        ensures count { live_count self.new.state.store ≡ live_count self.old.state.store }
     {
         if self.items.get(ix).is_none() {
             return Err(ReplaceRefusal::Missing(item));

@@ -59,8 +59,7 @@ impl<T: KeyedItem, S: BuildHasher> KeyedItems<T, S> {
     /// from both ends: none if the lower bound is above the upper one.
     ///
     /// If a second key was changed silently, the result is some consecutive part of the ordered table, whatever the
-    /// second keys there are. Each query is compared with at most 4 + 2d second keys, where the number of items has d
-    /// binary digits. It takes no memory.
+    /// second keys there are. It is one search for each bound that there is, as `find2`, and takes no memory.
     #[tactic(auto, using(crate::proofs::KeepsLemmas::order_has_live_indexes))]
     pub fn range_by_key2<Q: OrdQuery<T::Key2>>(
         &self,

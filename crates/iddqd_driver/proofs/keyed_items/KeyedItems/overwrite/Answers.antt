@@ -1,5 +1,6 @@
 use Rattle.std.proofs.Common.{arith}
 use Rattle.std.proofs.lemmas.Grind.{common_steps}
+use Rattle.iddqd.proofs.LiveCountLemmas.{live_count-rebound}
 use Rattle.iddqd_driver.proofs.KeyLemmas.{AreLawful-from_bounds}
 use Rattle.iddqd_driver.proofs.KeepsLemmas.{IsPaired-rebound, KeepsUnlessChanged-rebound}
 use Rattle.iddqd_driver.proofs.keyed_items.KeyedItems.overwrite.Goals as goal
@@ -28,3 +29,8 @@ returns-clause-overwrites g c = grind (arith, common_steps)
 
 pub returns-clause-memory : goal.returns-clause-memory
 returns-clause-memory g c = rw (← c.self.view_is, c.replace.ensures.rebound)
+
+pub returns-clause-count : goal.returns-clause-count
+returns-clause-count g c =
+    let out = c.replace.ensures in
+    rw (← c.self.view_is, out.rebound) (live_count-rebound _ c.args.ix c.args.item _ c.self.invariant.valid out.value)

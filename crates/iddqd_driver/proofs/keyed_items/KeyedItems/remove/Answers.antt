@@ -1,6 +1,7 @@
 use Rattle.std.proofs.Common.{Some, arith}
 use Rattle.std.proofs.lemmas.Grind.{common_steps}
 use Rattle.iddqd_driver.specs.Memory.{sized_of}
+use Rattle.iddqd_driver.proofs.CountLemmas.{count-removed}
 use Rattle.iddqd_driver.proofs.MemoryLemmas.{room-removed}
 use Rattle.iddqd_driver.proofs.KeyLemmas.{AreLawful-from_bounds}
 use Rattle.iddqd_driver.proofs.KeepsLemmas.{IsPaired-unbound, Keeps-unbound}
@@ -41,3 +42,12 @@ returns-clause-room g c =
     (room-removed whole left c.self.invariant c.args.ix (Some c.remove_item.result)
     (out.item, rw (out.removed, c.remove_index.ensures.taken, out.taken))
     (rw (out.slots, hashed.same_capacity, hashed.same_memory, c.remove_item.ensures.ordered)))
+
+pub returns-clause-count : goal.returns-clause-count
+returns-clause-count g c =
+    let whole = sized_of c.self.inside.state c.self.inside.items c.self.inside.filed c.self.inside.order in
+    let left = sized_of c.self.inside.state c.remove_item.new.items c.remove_index.new.table c.remove_item.new.order in
+    let out = c.remove_item.ensures in
+    rw (← c.self.view_is)
+    (count-removed whole.state left.state c.self.invariant c.args.ix c.remove_item.result out.item
+    (rw (out.removed, c.remove_index.ensures.taken, out.taken)))

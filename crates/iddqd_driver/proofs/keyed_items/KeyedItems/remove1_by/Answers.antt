@@ -2,7 +2,9 @@ use Rattle.std.proofs.Common.{rules, ◌≡◌, ◌∙◌, Some, None, refl, ap,
 use Rattle.std.proofs.lemmas.Grind.{common_steps}
 use Rattle.iddqd.specs.MapHash.{hash_one}
 use Rattle.iddqd_driver.specs.Keys.{keys_of}
-use Rattle.iddqd_driver.specs.Memory.{SizedState}
+use Rattle.iddqd_driver.specs.Memory.{SizedState, sized_of}
+use Rattle.iddqd_driver.proofs.CountLemmas.{count-removed}
+use Rattle.iddqd_driver.proofs.MemoryLemmas.{room-removed}
 use Rattle.iddqd_driver.proofs.KeyLemmas.{AreLawful-from_bounds}
 use Rattle.iddqd_driver.proofs.KeepsLemmas.{IsPaired-unbound, Keeps-unbound}
 use Rattle.iddqd_driver.proofs.QueryLemmas.{LooksUpBy-hashed}
@@ -55,3 +57,23 @@ pub returns-clause-memory : goal.returns-clause-memory
 returns-clause-memory g c =
     let hashed = c.in_ok-ix.ensures.memory in
     rw (← c.self.view_is, c.remove_item.ensures.slots, hashed.same_capacity, hashed.same_memory, c.remove_item.ensures.ordered)
+
+pub returns-clause-room : goal.returns-clause-room
+returns-clause-room g c =
+    let whole = sized_of c.self.inside.state c.self.inside.items c.self.inside.filed c.self.inside.order in
+    let left = sized_of c.self.inside.state c.remove_item.new.items c.take.new.table c.remove_item.new.order in
+    let out = c.remove_item.ensures in
+    let hashed = c.in_ok-ix.ensures.memory in
+    rw (← c.self.view_is)
+    (room-removed whole left c.self.invariant c.in_ok-ix.ix (Some c.remove_item.result)
+    (out.item, rw (out.removed, c.in_ok-ix.ensures.taken, out.taken))
+    (rw (out.slots, hashed.same_capacity, hashed.same_memory, out.ordered)))
+
+pub returns-clause-count : goal.returns-clause-count
+returns-clause-count g c =
+    let whole = sized_of c.self.inside.state c.self.inside.items c.self.inside.filed c.self.inside.order in
+    let left = sized_of c.self.inside.state c.remove_item.new.items c.take.new.table c.remove_item.new.order in
+    let out = c.remove_item.ensures in
+    rw (← c.self.view_is)
+    (count-removed whole.state left.state c.self.invariant c.in_ok-ix.ix c.remove_item.result out.item
+    (rw (out.removed, c.in_ok-ix.ensures.taken, out.taken)))

@@ -1,8 +1,11 @@
-use Rattle.std.proofs.Common.{rules, ◌≡◌, None, refl, arith}
+use Rattle.std.proofs.Common.{rules, ◌≡◌, Some, None, refl, arith}
 use Rattle.std.proofs.lemmas.Grind.{common_steps}
 use Rattle.iddqd_keys.specs.OrderedQuery.{compares_as_key}
 use Rattle.iddqd_driver.proofs.KeyLemmas.{AreLawful-from_bounds}
 use Rattle.iddqd_driver.specs.Keys.{keys_of}
+use Rattle.iddqd_driver.specs.Memory.{sized_of}
+use Rattle.iddqd_driver.proofs.CountLemmas.{count-removed}
+use Rattle.iddqd_driver.proofs.MemoryLemmas.{room-removed}
 use Rattle.iddqd_driver.proofs.KeepsLemmas.{IsPaired-unbound, Keeps-unbound}
 use Rattle.iddqd_driver.proofs.QueryLemmas.{LooksUpBy-ordered}
 use Rattle.iddqd_driver.proofs.keyed_items.KeyedItems.remove2_by.Goals as goal
@@ -54,3 +57,23 @@ pub returns-clause-memory : goal.returns-clause-memory
 returns-clause-memory g c =
     let hashed = c.remove_index.ensures.memory in
     rw (← c.self.view_is, c.take_item-item.ensures.slots, hashed.same_capacity, hashed.same_memory, c.in_ok-ix.ensures.memory)
+
+pub returns-clause-room : goal.returns-clause-room
+returns-clause-room g c =
+    let whole = sized_of c.self.inside.state c.self.inside.items c.self.inside.filed c.self.inside.order in
+    let left = sized_of c.self.inside.state c.take_item-item.new.items c.remove_index.new.table c.take.new.table in
+    let out = c.take_item-item.ensures in
+    let hashed = c.remove_index.ensures.memory in
+    rw (← c.self.view_is)
+    (room-removed whole left c.self.invariant c.in_ok-ix.ix (Some c.take_item-item.result)
+    (out.item, rw (out.removed, c.remove_index.ensures.taken, c.in_ok-ix.ensures.taken))
+    (rw (out.slots, hashed.same_capacity, hashed.same_memory, c.in_ok-ix.ensures.memory)))
+
+pub returns-clause-count : goal.returns-clause-count
+returns-clause-count g c =
+    let whole = sized_of c.self.inside.state c.self.inside.items c.self.inside.filed c.self.inside.order in
+    let left = sized_of c.self.inside.state c.take_item-item.new.items c.remove_index.new.table c.take.new.table in
+    let out = c.take_item-item.ensures in
+    rw (← c.self.view_is)
+    (count-removed whole.state left.state c.self.invariant c.in_ok-ix.ix c.take_item-item.result out.item
+    (rw (out.removed, c.remove_index.ensures.taken, c.in_ok-ix.ensures.taken)))

@@ -5,6 +5,7 @@ use Rattle.iddqd_driver.specs.Keys.{Keys, keys_of}
 use Rattle.iddqd_driver.specs.State.{State, state_of}
 use Rattle.iddqd_driver.specs.KeyIndexes.{LooksUp, Keeps, first_key_index, second_key_index}
 use Rattle.iddqd_driver.proofs.KeyLemmas.{AreLawful, AreLawful-from_bounds}
+use Rattle.iddqd_driver.proofs.CountLemmas.{count-replaced}
 use Rattle.iddqd_driver.proofs.MemoryLemmas.{length-order}
 use Rattle.iddqd_driver.proofs.ReplacementLemmas.{not_for_memory, ReportsOtherIndex-found, Replaces-rebound, Keeps-rebound}
 use Rattle.iddqd_driver.proofs.keyed_items.KeyedItems.replace.Goals.{After-rebind, then-is_some-via-then-is_some, then-is_some-via-else-is_some+then-is_some-2}
@@ -109,3 +110,10 @@ returns-then-is_none-clause-keeps g c = grind (arith, common_steps)
 
 pub returns-then-is_none-clause-replaces : goal.returns-then-is_none-clause-replaces
 returns-then-is_none-clause-replaces g c = grind (arith, common_steps)
+
+pub returns-clause-count : goal.returns-clause-count
+returns-clause-count g c =
+    let out = c.rebind.ensures in
+    rw (← c.self.view_is)
+    (count-replaced _ c.rebind.new.items.store c.self.invariant.valid c.args.ix c.args.item c.rebind.result
+    out.was out.stored out.items_stay)

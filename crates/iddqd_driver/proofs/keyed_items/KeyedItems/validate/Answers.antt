@@ -37,7 +37,7 @@ second_memory g c =
     let s = state_of c.self.inside.state c.self.inside.items.store c.self.inside.filed c.self.inside.order in
     let allowed = c.in_ok-validate.ensures.allows.0 refl in
     let expected = subst (λ n. AreAsExpected c.args.compactness n s.order) (sym c.len-len.ensures) (AreAsExpected-order s c.self.invariant c.args.compactness allowed) in
-    let told = IsMemory-with_table_name (AreAsExpected c.args.compactness c.len-len.result s.order) _ c.validate-3.result expected c.validate-3.ensures in
+    let told = IsMemory-with_table_name (AreAsExpected c.args.compactness c.len-len.result s.order) _ c.validate-3.result expected c.validate-3.ensures.sound in
     let memory = subst (λ r. IfErr r IsMemory) (sym c.of_table-2.ensures ∙ c.in_err-of_table-2.was) told in
     let p = err_from_is_err_and c.from_residual-in_err-of_table-2.result c.from_residual-in_err-of_table-2.ensures.1 in
     rw (p.1, p.2) memory

@@ -14,6 +14,7 @@ use Rattle.iddqd_tri.proofs.ClashLemmas.{none_listed, some_listed, some_there}
 use Rattle.iddqd_tri.proofs.TriLemmas.{AreLawful-from_bounds}
 use Rattle.iddqd_tri.proofs.TriCallLemmas.{ClashesAt-live, AreClashes-listed, HasNoClash-none, with_none, inserted_apart, inserted_over}
 use Rattle.iddqd_tri.proofs.TriMemoryLemmas.{Grows-parts, Grows-none, Grows-same, HaveRoom-held, set_room-held}
+use Rattle.iddqd_tri.proofs.TriCountLemmas.{count-overwriting, room-overwriting, IsOk-roomy}
 use Rattle.iddqd_tri.proofs.tri_items.TriItems.insert_overwrite.Goals.{After-replace_clashes-ix}
 use Rattle.iddqd_tri.proofs.tri_items.TriItems.insert_overwrite.Given.{Over}
 use Rattle.iddqd_tri.proofs.tri_items.TriItems.insert_overwrite.Goals as goal
@@ -228,3 +229,69 @@ returns-in_err-ix-clause-needed g c =
     let same : (back : _) → c.from_residual.result ≡ Err (Memory back) → Memory back ≡ error = λ back is. subst (λ r. IsErrAnd r (λ e. e ≡ error)) is c.from_residual.ensures.1 in
     let needed : (back : _) → c.from_residual.result ≡ Err (Memory back) → 1 ≤ room (sized_tri_of c.self.inside.state items tables) → ⊥ = λ back is some. c.insert_without_clash.ensures.needed back (c.in_err-ix.was ∙ ap Err (sym (same back is))) (set_room-held items c.self.invariant.valid (omega (arith, some))) (HaveRoom-held items tables c.self.invariant.held 1 (omega (arith, some))) in
     rw (← c.self.view_is) (λ back is. record { no_clash = none_err g c; no_room = let never = needed back is in omega arith })
+
+-- ---- how many items there are then, and how many more need no memory
+
+pub returns-then-is_empty-clause-count : goal.returns-then-is_empty-clause-count
+returns-then-is_empty-clause-count g c =
+    let was = tri_state_of c.self.inside.state c.self.inside.items.store c.self.inside.tables in
+    let is = tri_state_of c.self.inside.state c.insert_without_clash.new.items.store c.insert_without_clash.new.tables in
+    let did = subst (λ r. Overwriting (keys_in g) was c.args.item (with_none r) is) c.in_ok-ix.was (did_ok g c).1 in
+    rw (← c.self.view_is)
+    (count-overwriting (keys_in g) c.args.item was c.self.invariant (with_none (Ok c.in_ok-ix.ix)) is did)
+
+pub returns-then-is_empty-clause-room : goal.returns-then-is_empty-clause-room
+returns-then-is_empty-clause-room g c =
+    let was = sized_tri_of c.self.inside.state c.self.inside.items c.self.inside.tables in
+    let is = sized_tri_of c.self.inside.state c.insert_without_clash.new.items c.insert_without_clash.new.tables in
+    let did = subst (λ r. Overwriting (keys_in g) was.state c.args.item (with_none r) is.state) c.in_ok-ix.was (did_ok g c).1 in
+    let stays : 1 ≤ room was → is.memory ≡ was.memory = λ some. Grows-none _ _ _ _ (omega (arith, some)) (omega (arith, some)) (grown_ok g c) in
+    rw (← c.self.view_is)
+    (room-overwriting (keys_in g) c.args.item was c.self.invariant (with_none (Ok c.in_ok-ix.ix)) is did stays)
+
+-- what a refusal answers
+did_refuse : (g : _) (c : goal.After-from_residual g)
+    → let was = tri_state_of c.self.inside.state c.self.inside.items.store c.self.inside.tables in
+    let is = tri_state_of c.self.inside.state c.insert_without_clash.new.items.store c.insert_without_clash.new.tables in
+    Overwriting (keys_in g) was c.args.item c.from_residual.result is
+did_refuse g c =
+    let was = tri_state_of c.self.inside.state c.self.inside.items.store c.self.inside.tables in
+    let is = tri_state_of c.self.inside.state c.insert_without_clash.new.items.store c.insert_without_clash.new.tables in
+    let left = subst (λ r. Overwriting (keys_in g) was c.args.item (with_none r) is) c.in_err-ix.was (did_err g c).1 in
+    let back = sym (error_of c.from_residual.result c.in_err-ix.field-0.0 c.from_residual.ensures) in
+    subst (λ r. Overwriting (keys_in g) was c.args.item r is) back left
+
+pub returns-in_err-ix-clause-count : goal.returns-in_err-ix-clause-count
+returns-in_err-ix-clause-count g c =
+    let was = tri_state_of c.self.inside.state c.self.inside.items.store c.self.inside.tables in
+    rw (← c.self.view_is)
+    (count-overwriting (keys_in g) c.args.item was c.self.invariant c.from_residual.result _ (did_refuse g c))
+
+pub returns-in_err-ix-clause-room : goal.returns-in_err-ix-clause-room
+returns-in_err-ix-clause-room g c =
+    let was = sized_tri_of c.self.inside.state c.self.inside.items c.self.inside.tables in
+    let is = sized_tri_of c.self.inside.state c.insert_without_clash.new.items c.insert_without_clash.new.tables in
+    let stays : 1 ≤ room was → is.memory ≡ was.memory = λ some. Grows-none _ _ _ _ (omega (arith, some)) (omega (arith, some)) (grown_err g c) in
+    rw (← c.self.view_is)
+    (room-overwriting (keys_in g) c.args.item was c.self.invariant c.from_residual.result is (did_refuse g c) stays)
+
+pub returns-in_err-ix-clause-roomy : goal.returns-in_err-ix-clause-roomy
+returns-in_err-ix-clause-roomy g c =
+    let was = sized_tri_of c.self.inside.state c.self.inside.items c.self.inside.tables in
+    let needed = rw (← c.self.view_is) at (returns-in_err-ix-clause-needed g c) in
+    rw (← c.self.view_is)
+    (IsOk-roomy (keys_in g) c.args.item was c.self.invariant c.from_residual.result _ (did_refuse g c) needed)
+
+pub returns-clause-count : goal.returns-clause-count
+returns-clause-count g c =
+    let was = tri_state_of c.self.inside.state c.self.inside.items.store c.self.inside.tables in
+    rw (← c.self.view_is)
+    (count-overwriting (keys_in g) c.args.item was c.self.invariant (Ok (pair g c)) _ (over g c).1)
+
+pub returns-clause-room : goal.returns-clause-room
+returns-clause-room g c =
+    let was = sized_tri_of c.self.inside.state c.self.inside.items c.self.inside.tables in
+    let is = sized_tri_of c.self.inside.state c.replace_clashes-ix.new.items c.replace_clashes-ix.new.tables in
+    rw (← c.self.view_is)
+    (room-overwriting (keys_in g) c.args.item was c.self.invariant (Ok (pair g c)) is (over g c).1
+    (λ some. c.replace_clashes-ix.ensures.memory))
