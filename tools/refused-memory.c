@@ -4,7 +4,10 @@
    each allocation that follows. In the N-th child the N-th allocation after the mark fails; with -DFROM a second row of
    children lets all allocations after the N-th fail too. Each child has to pass the test and to free all of its memory.
    A row ends with the first child in which no allocation is left to fail. The test itself then runs on with all of its
-   memory, and reports how many failed allocations its children stood. */
+   memory, and reports how many failed allocations its children stood.
+
+   A request of COUNTED bytes notes how many blocks are allocated. A later one of COUNTED + N bytes, N below 1000, fails
+   if fewer than N of these were freed since. So a test can tell that a call gave blocks back. */
 #include <errno.h>
 #include <fcntl.h>
 #include <stdio.h>
@@ -14,6 +17,7 @@
 #include <unistd.h>
 
 #define MARK 1299709
+#define COUNTED 2750159
 #ifdef FROM
 enum { ROWS = 2 };
 #else
@@ -27,6 +31,7 @@ void __interceptor_free(void *), ___interceptor_free(void *);
 
 static unsigned marks, requests, stood;
 static long blocks;       /* allocated and not freed */
+static long noted;        /* how many these were at the request of COUNTED bytes */
 static unsigned first;    /* in a child: the number of the first allocation that fails */
 static int with_rest;     /* in a child: whether all after it fail too */
 static unsigned *refused; /* how many failed in the child, in memory that it shares with the test */
@@ -69,6 +74,8 @@ __attribute__((destructor)) static void end(void) {
 }
 
 static int is_refused(size_t size) {
+    if (size == COUNTED) noted = blocks;
+    if (size >= COUNTED && size < COUNTED + 1000) return noted - blocks < (long)(size - COUNTED);
     if (size == MARK) {
         if (++marks == 1) refuse_in_turn();
         return 0;

@@ -1,5 +1,7 @@
-//! The ordered table: where an index goes, and how often a search asks.
+//! The ordered tables: where an index goes, and how often a search asks. Where a function says `T: Table`, the tree and
+//! the sorted vector run it with the same values.
 mod asks;
+mod calls;
 mod hashes;
 mod keys;
 mod lying;
@@ -7,17 +9,19 @@ mod names;
 mod ranges;
 mod retains;
 mod thousand;
+mod vector;
 
+use calls::Table;
 use iddqd::item_index::ItemIndex;
-use iddqd_order::btree_table::{Asking, MapBTreeTable};
-use std::alloc::{AllocError, Global};
+use iddqd_order::btree_table::Asking;
+use std::alloc::AllocError;
 use std::cmp::Ordering;
 use std::process::Abort;
 
 // Adds an index where the answers lead. It is not stored yet.
-fn insert_by<F: FnMut(ItemIndex) -> Ordering>(
+fn insert_by<T: Table, F: FnMut(ItemIndex) -> Ordering>(
     rt: &impl Abort,
-    table: &mut MapBTreeTable,
+    table: &mut T,
     ix: u32,
     answer: F,
 ) -> Result<(), AllocError>
@@ -25,16 +29,15 @@ fn insert_by<F: FnMut(ItemIndex) -> Ordering>(
 {
     let ix = ItemIndex::new(ix);
     assert!(rt; ix != ItemIndex::SENTINEL);
-    assert!(rt; !table.contains_index(ix));
+    assert!(rt; !table.has(ix));
     let mut asking = Asking::new(answer);
-    table.prepare_insert_by(ix, &mut asking)?.insert();
-    Ok(())
+    table.add_by(ix, &mut asking)
 }
 
 // Adds an index by these answers in turn, and says how often it was asked.
-fn insert_told(
+fn insert_told<T: Table>(
     rt: &impl Abort,
-    table: &mut MapBTreeTable,
+    table: &mut T,
     ix: u32,
     odd: Ordering,
     even: Ordering,
@@ -48,49 +51,46 @@ fn insert_told(
 }
 
 // Removes an index by these answers in turn, and says whether it was found and how often it was asked.
-fn remove_told(table: &mut MapBTreeTable, ix: u32, odd: Ordering, even: Ordering) -> (bool, u32) {
+fn remove_told<T: Table>(table: &mut T, ix: u32, odd: Ordering, even: Ordering) -> (bool, u32) {
     let mut asks = 0u32;
     let mut asking = Asking::new(|_: ItemIndex| {
         asks = asks.wrapping_add(1);
         if asks % 2 == 1 { odd } else { even }
     });
-    let is_removed = table
-        .prepare_remove_by(ItemIndex::new(ix), &mut asking)
-        .remove();
+    let is_removed = table.take_by(ItemIndex::new(ix), &mut asking);
     (is_removed, asks)
 }
 
 // Finds by these answers in turn, and says how often it was asked.
-fn find_told(table: &MapBTreeTable, odd: Ordering, even: Ordering) -> (Option<ItemIndex>, u32) {
+fn find_told<T: Table>(table: &T, odd: Ordering, even: Ordering) -> (Option<ItemIndex>, u32) {
     let mut asks = 0u32;
     let mut asking = Asking::new(|_: ItemIndex| {
         asks = asks.wrapping_add(1);
         if asks % 2 == 1 { odd } else { even }
     });
-    let found = table.find_by(&mut asking);
+    let found = table.hit_by(&mut asking);
     (found, asks)
 }
 
 // Adds the indexes behind those of a table, in that order.
-fn append(rt: &impl Abort, table: &mut MapBTreeTable, indexes: &[u32]) -> Result<(), AllocError> {
+fn append<T: Table>(rt: &impl Abort, table: &mut T, indexes: &[u32]) -> Result<(), AllocError> {
     for ix in indexes {
         insert_told(rt, table, *ix, Ordering::Greater, Ordering::Greater)?;
     }
     Ok(())
 }
 
-// The indexes below `len`, each added by that answer alone: they rise by Greater, and fall by Less.
-fn filled(
+// Adds the indexes below `len`, each by that answer alone: they rise by Greater, and fall by Less.
+fn fill<T: Table>(
     rt: &impl Abort,
-    alloc: Global,
+    table: &mut T,
     len: u32,
     answer: Ordering,
-) -> Result<MapBTreeTable, AllocError> {
-    let mut table = MapBTreeTable::new(alloc);
+) -> Result<(), AllocError> {
     for ix in 0..len {
-        insert_told(rt, &mut table, ix, answer, answer)?;
+        insert_told(rt, table, ix, answer, answer)?;
     }
-    Ok(table)
+    Ok(())
 }
 
 // 4 and twice the number of binary digits of the length.
@@ -100,12 +100,11 @@ fn bound(len: usize) -> u32 {
 }
 
 // Whether the table is in that order.
-fn has_order(table: &MapBTreeTable, expected: &[u32]) -> bool {
-    let mut walk = table.iter();
-    for number in expected {
-        if walk.next() != Some(ItemIndex::new(*number)) {
-            return false;
-        }
-    }
-    walk.next().is_none()
+fn has_order<T: Table>(table: &T, expected: &[u32]) -> bool {
+    let mut rest = expected.iter();
+    let is_beginning = table.all(|ix| match rest.next() {
+        Some(number) => *number == ix.as_u32(),
+        None => false,
+    });
+    is_beginning && rest.next().is_none()
 }

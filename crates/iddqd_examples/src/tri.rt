@@ -4,8 +4,7 @@ use crate::driver::script::{assert_answer, halves, ix, printed, words};
 use iddqd::hash_builder::DefaultHashBuilder;
 use iddqd::item_index::ItemIndex;
 use iddqd_keys::key_of::KeyQuery;
-use iddqd_tri::tri_hash_item::TriHashItem;
-use iddqd_tri::tri_items::TriItems;
+use iddqd_tri::tri_items::{TriItem, TriItems};
 use iddqd_tri::tri_refusal::TriRefusal;
 use std::alloc::{AllocError, Global};
 use std::hash::BuildHasher;
@@ -16,7 +15,7 @@ use std::test::Fail;
 #[derive(Clone, Copy, Debug)]
 struct Trio(u32, u32, u32);
 
-impl TriHashItem for Trio {
+impl TriItem for Trio {
     type Key1 = u32;
 
     type Key2 = u32;
