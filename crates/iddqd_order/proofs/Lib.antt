@@ -5,7 +5,9 @@ mod CursorLemmas
 mod DescentLemmas
 mod DigitLemmas
 mod FrontLemmas
+mod GapLeftLemmas
 pub mod GapLemmas
+mod GapNumberLemmas
 pub mod IndexListLemmas
 mod InnerLemmas
 pub mod InsertLemmas
@@ -29,5 +31,6 @@ mod SearchLemmas
 pub mod TableLemmas
 pub mod TreeLemmas
 mod SpotCursorLemmas
+mod SpotLemmas
 pub mod WeaveLemmas
 mod WeaveRemovalLemmas

@@ -1,5 +1,5 @@
 -- What mending leaves of nodes.
-use Rattle.iddqd_order.proofs.Names.{◌≡◌, ◌∙◌, ℕ, zero, suc, ◌+◌, ◌-◌, ◌<◌, ◌≤◌, List, [], ◌∷◌, ◌++◌, length, take, drop, set, get_or, map, remove, Option, Some, None, option_to_list, IsSome, ◌↔◌, append_assoc, subst, refl, ap, sym, arith, add-one, sub-one, length-append, length-drop, length-take, length-take-le, length-map, get_or-remove_below, get_or_default, set_comm, All, All-append, All-cons, All-nil, inl, inr, cases_eq, map-append, nil_from_length, Node, row, children, child_room, weave, flat, IsFormed, IsChild, MayLackOne, IsMended, most_in_row, least_in_row}
+use Rattle.iddqd_order.proofs.Names.{◌≡◌, ◌∙◌, ℕ, zero, suc, ◌+◌, ◌-◌, ◌<◌, ◌≤◌, List, [], ◌∷◌, ◌++◌, length, take, drop, set, get_or, map, remove, Option, Some, None, option_to_list, IsSome, ◌↔◌, append_assoc, subst, refl, ap, sym, arith, add-one, sub-one, length-append, length-drop, length-take, length-take-le, length-map, get_or-remove_below, get_or_default, set_comm, All, All-append, All-cons, All-nil, inl, inr, cases_eq, map-append, nil_from_length, Node, row, children, child_room, weave, flat, IsFormed, IsChild, MayLackOne, IsMended, all_children, append-nil, most_in_row, least_in_row}
 use Rattle.std.proofs.Common.{get_or-take, get_or-drop, take-suc, take-suc-set, drop-set-lt, length-set}
 use Rattle.std.proofs.lemmas.List.{set_split, set_at}
 use Rattle.iddqd_order.proofs.WeaveLemmas.{All-front, All-back, rest, weave-more}
@@ -101,27 +101,49 @@ neighbours h i j xs ks l r low high lt f el er =
 
 -- two neighbours are replaced by nodes with the same indexes: the whole order stays
 woven :
-    (h i : ℕ) (xs ys : List ℕ) (ks ls : List Node) (l r : Node)
+    (f : Node → List ℕ) (i : ℕ) (xs ys : List ℕ) (ks ls : List Node) (l r : Node)
     → i < length xs
     → length ks ≡ length xs + 1
     → l ≡ get_or ks i l
     → r ≡ get_or ks (suc i) r
     → length ls ≡ length ys + 1
-    → weave ys (lists h ls) ≡ flat h l ++ get_or xs i 0 ∷ flat h r
+    → weave ys (map f ls) ≡ f l ++ get_or xs i 0 ∷ f r
     → weave (take i xs ++ (ys ++ drop (suc i) xs))
-    (lists h (take i ks ++ (ls ++ drop (suc (suc i)) ks))) ≡ weave xs (lists h ks)
-woven h i [] ys ks ls l r lt e el er n s = absurd (omega arith)
-woven h i (x ∷ xs) ys [] ls l r lt e el er n s = absurd (omega arith)
-woven h i (x ∷ xs) ys (k ∷ []) ls l r lt e el er n s = absurd (omega arith)
-woven h zero (x ∷ xs) ys (k ∷ (k2 ∷ ks)) ls l r lt e el er n s =
-    let f : Node → List ℕ = λ k. flat h k in
-    let b : List ℕ = rest xs (lists h ks) in
+    (map f (take i ks ++ (ls ++ drop (suc (suc i)) ks))) ≡ weave xs (map f ks)
+woven f i [] ys ks ls l r lt e el er n s = absurd (omega arith)
+woven f i (x ∷ xs) ys [] ls l r lt e el er n s = absurd (omega arith)
+woven f i (x ∷ xs) ys (k ∷ []) ls l r lt e el er n s = absurd (omega arith)
+woven f zero (x ∷ xs) ys (k ∷ (k2 ∷ ks)) ls l r lt e el er n s =
+    let b : List ℕ = rest xs (map f ks) in
     ap (weave (ys ++ xs)) (map-append f ls ks)
-    ∙ weave-more ys xs (lists h ls) (lists h ks) (omega (arith, n, length-map ls f))
+    ∙ weave-more ys xs (map f ls) (map f ks) (omega (arith, n, length-map ls f))
     ∙ ap (λ z. z ++ b) (s ∙ (λ j. f (el j) ++ x ∷ f (er j))) ∙ append_assoc (f k) (x ∷ f k2) b
-    ∙ ap (λ z. f k ++ x ∷ z) (sym (weave-more [] xs (f k2 ∷ []) (lists h ks) refl))
-woven h (suc i) (x ∷ xs) ys (k ∷ (k2 ∷ ks)) ls l r lt e el er n s =
-    ap (λ z. flat h k ++ x ∷ z) (woven h i xs ys (k2 ∷ ks) ls l r (omega arith) (omega arith) el er n s)
+    ∙ ap (λ z. f k ++ x ∷ z) (sym (weave-more [] xs (f k2 ∷ []) (map f ks) refl))
+woven f (suc i) (x ∷ xs) ys (k ∷ (k2 ∷ ks)) ls l r lt e el er n s =
+    ap (λ z. f k ++ x ∷ z) (woven f i xs ys (k2 ∷ ks) ls l r (omega arith) (omega arith) el er n s)
+
+all_children-append : (ks ls : List Node) → all_children (ks ++ ls) ≡ all_children ks ++ all_children ls
+all_children-append [] ls = refl
+all_children-append (k ∷ ks) ls =
+    ap (λ z. children k ++ z) (all_children-append ks ls)
+    ∙ sym (append_assoc (children k) (all_children ks) (all_children ls))
+
+-- and with the same children: their order stays, too
+same_children :
+    (i : ℕ) (ks ls : List Node) (l r : Node)
+    → suc i < length ks
+    → l ≡ get_or ks i l
+    → r ≡ get_or ks (suc i) r
+    → all_children ls ≡ children l ++ children r
+    → all_children (take i ks ++ (ls ++ drop (suc (suc i)) ks)) ≡ all_children ks
+same_children i [] ls l r lt el er s = absurd (omega arith)
+same_children i (k ∷ []) ls l r lt el er s = absurd (omega arith)
+same_children zero (k ∷ (k2 ∷ ks)) ls l r lt el er s =
+    all_children-append ls ks
+    ∙ ap (λ z. z ++ all_children ks) (s ∙ (λ j. children (el j) ++ children (er j)))
+    ∙ append_assoc (children k) (children k2) (all_children ks)
+same_children (suc i) (k ∷ (k2 ∷ ks)) ls l r lt el er s =
+    ap (λ z. children k ++ z) (same_children i (k2 ∷ ks) ls l r (omega arith) el er s)
 
 mended :
     (h i : ℕ) (xs ys : List ℕ) (ks ls : List Node) (l r : Node)
@@ -130,8 +152,10 @@ mended :
     → length ys ≤ 1
     → All (IsChild h) ls
     → weave ys (lists h ls) ≡ flat h l ++ get_or xs i 0 ∷ flat h r
+    → weave ys (map row ls) ≡ row l ++ get_or xs i 0 ∷ row r
+    → all_children ls ≡ children l ++ children r
     → IsMended h xs ks (take i xs ++ (ys ++ drop (suc i) xs)) (take i ks ++ (ls ++ drop (suc (suc i)) ks))
-mended h i xs ys ks ls l r n one few all items =
+mended h i xs ys ks ls l r n one few all items same_rows below =
     let o = n.one_more in let at = n.here in let w = n.within in
     let rows : length (take i xs ++ (ys ++ drop (suc i) xs)) + 1 ≡ length xs + length ys =
     omega (arith, length-append (take i xs) (ys ++ drop (suc i) xs), length-append ys (drop (suc i) xs), length-take-le i xs (omega arith), length-drop (suc i) xs) in
@@ -142,7 +166,9 @@ mended h i xs ys ks ls l r n one few all items =
       fewer = omega arith;
       one_more = omega arith;
       below = All-append (IsChild h) (take i ks) (ls ++ drop (suc (suc i)) ks) n.before (All-append (IsChild h) ls (drop (suc (suc i)) ks) all n.behind);
-      items = woven h i xs ys ks ls l r at o n.left n.right one items;
+      items = woven (λ k. flat h k) i xs ys ks ls l r at o n.left n.right one items;
+      rows = woven row i xs ys ks ls l r at o n.left n.right one same_rows;
+      grandchildren = same_children i ks ls l r (omega arith) n.left n.right below;
     }
 
 set_pair :
@@ -184,7 +210,8 @@ mended-shared h i xs ks l r new_l m new_r n rows below left right =
     (right.0, sized-formed h new_r right.1 (All-back P (children new_l) (children new_r) every)) in
     rw (add-one i, set_split xs i m at, set_pair ks i new_l new_r (omega arith))
     (mended h i xs (m ∷ []) ks (new_l ∷ new_r ∷ []) l r n refl (omega arith) (All-cons (IsChild h) new_l (new_r ∷ []) low (All-cons (IsChild h) new_r [] high (All-nil (IsChild h))))
-    (flat-pair h new_l m new_r left.1 right.1 ∙ (λ j. weave (rows j) (lists (h - 1) (below j))) ∙ sym (flat-pair h l (get_or xs i 0) r a.0 b.0)))
+    (flat-pair h new_l m new_r left.1 right.1 ∙ (λ j. weave (rows j) (lists (h - 1) (below j))) ∙ sym (flat-pair h l (get_or xs i 0) r a.0 b.0))
+    rows (ap (λ z. children new_l ++ z) (append-nil (children new_r)) ∙ below))
 
 -- the last index of l moved up between the nodes, the index x between them moved to the beginning of r, and so did the
 -- last child of l, if there is one
@@ -345,4 +372,5 @@ merged h i xs ks l r one x j ex rows below more =
     (omega arith, sized-formed h one s (rw below (All-append P (children l) (children r) a.1 b.1))) in
     rw (add-one i, set_joined ks i one (omega arith))
     (mended h i xs [] ks (one ∷ []) l r n refl (omega arith) (All-cons (IsChild h) one [] child (All-nil (IsChild h)))
-    (flat-sized h one s ∙ (λ k. weave (rows k) (lists (h - 1) (below k))) ∙ sym (flat-pair h l x r a.0 b.0) ∙ ap (λ z. flat h l ++ z ∷ flat h r) ex))
+    (flat-sized h one s ∙ (λ k. weave (rows k) (lists (h - 1) (below k))) ∙ sym (flat-pair h l x r a.0 b.0) ∙ ap (λ z. flat h l ++ z ∷ flat h r) ex)
+    (rows ∙ ap (λ z. row l ++ z ∷ row r) ex) (append-nil (children one) ∙ below))

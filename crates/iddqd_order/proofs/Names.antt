@@ -13,7 +13,7 @@ pub use Rattle.iddqd_order.specs.KeyOrder.{ComparesKeys, InsertsInKeyOrder, IsIn
 pub use Rattle.iddqd_order.specs.MapBTreeTable.{IsIndexList, sentinel, without, Order}
 pub use Rattle.iddqd_order.specs.Node.{AtIndex, FullBelow, InGap, Stop, IsInner, IsLeaf, after, before, child, children, child_room, row, weave, IsPlaceIn, ReachesGap, ReachesIndex, LeadsToIndex, IsPut, place, Reaches}
 unfoldable pub use Rattle.iddqd_order.specs.Node.{IsFormed, IsFullBelow, flat, place_at_level, Passes}
-pub use Rattle.iddqd_order.specs.Removal.{IsChild, IsEmptied, IsMended, MayLackOne}
+pub use Rattle.iddqd_order.specs.Removal.{IsChild, IsEmptied, IsMended, LeadsBelow, MayLackOne, all_children, gaps_before, joined_rows, place_below}
 pub use Rattle.iddqd_order.specs.Row.{IsSplit}
 pub use Rattle.iddqd_order.specs.Search.{Askable, CanSearch, Finds, IsPlace, IsRising, IsSteadyRising, Searches, SearchesWithin, with_ties}
 pub use Rattle.iddqd_order.specs.Tree.{ReachesGapIn, ReachesIndexIn, IsTree, in_order, inners_in, place_in, place_at_level_in, FullIn, IsTable, ReachesIn, blocks_for}
@@ -22,7 +22,7 @@ pub use Rattle.iddqd_order.specs.declared.btree_table.asking.Asking.{Asking}
 pub use Rattle.iddqd_order.specs.declared.btree_table.node.Node.{Node}
 pub use Rattle.iddqd_order.specs.declared.btree_table.gap.Gap.{Gap}
 pub use Rattle.iddqd_order.specs.Shape.{most_children, most_levels, free_indexes, indexes_of_a_block, most_in_row, least_in_row}
-pub use Rattle.iddqd_order.specs.declared.btree_table.path.Spot.{Spot}
+pub use Rattle.iddqd_order.specs.declared.btree_table.spot.Spot.{Spot}
 pub use Rattle.iddqd_order.specs.declared.btree_table.reserve.TheConstants.{MOST_INDEXES}
 pub use Rattle.iddqd_order.specs.declared.btree_table.node.Node.TheOpen.{Node-F}
 pub use Rattle.iddqd_order.specs.declared.btree_table.node.Node.TheViews.{out-Node, out-roll-Node, roll-Node, roll-out-Node}

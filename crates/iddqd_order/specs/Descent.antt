@@ -5,7 +5,7 @@ use Rattle.std.specs.Fn.{Mut}
 use Rattle.iddqd_order.specs.declared.btree_table.asking.Asking.{Asking}
 use Rattle.iddqd_order.specs.declared.btree_table.gap.Gap.{Gap}
 use Rattle.iddqd_order.specs.declared.btree_table.node.Node.{Node}
-use Rattle.iddqd_order.specs.declared.btree_table.path.Spot.{Spot}
+use Rattle.iddqd_order.specs.declared.btree_table.spot.Spot.{Spot}
 use Rattle.iddqd_order.specs.Gap.{Fits, gap_place}
 use Rattle.iddqd_order.specs.MapBTreeTable.{Order, order_of, IsSpot, spot_place}
 use Rattle.iddqd_order.specs.Node.{flat, Stop, AtIndex, InGap, Reaches, place_at_level, IsFullBelow}

@@ -29,6 +29,7 @@ pub mod Shape
 pub mod Sizes
 pub mod State
 pub mod Tree
+pub mod Spot
 pub mod SpotCursor
 -- what a caller's clauses cite, from one place: of the crate below, and of this one
 pub use Rattle.iddqd.specs.Compaction

@@ -5,7 +5,7 @@ use Rattle.std.specs.Option.{ForSome}
 use Rattle.std.specs.Coded.{×_prop, Unit-prop}
 use native.Mathlib.Nat.{ℕ_set}
 use Rattle.iddqd_order.specs.declared.btree_table.node.Node.{Node}
-use Rattle.iddqd_order.specs.declared.btree_table.path.Spot.{Spot}
+use Rattle.iddqd_order.specs.declared.btree_table.spot.Spot.{Spot}
 use Rattle.iddqd_order.specs.Node.{AtIndex}
 use Rattle.iddqd_order.specs.Tree.{in_order, inners_in, blocks_for, ReachesIndexIn, place_at_level_in, ReachesIn-prop}
 pub use Rattle.iddqd.specs.Compaction.{sentinel}

@@ -10,9 +10,9 @@ ghost use Rattle.iddqd_order.specs.Tree.{ReachesGapIn, FullIn, ReachesIndexIn, R
 
 use crate::btree_table::asking::Asking;
 use crate::btree_table::gap::Gap;
-use crate::btree_table::path::Spot;
 use crate::btree_table::prepared_insert::PreparedBTreeInsert;
 use crate::btree_table::reading::{AsOrdering, ByQuery, Reads};
+use crate::btree_table::spot::Spot;
 use crate::btree_table::table::MapBTreeTable;
 use iddqd::item_index::ItemIndex;
 use iddqd::map_hash::Comparable;

@@ -7,13 +7,6 @@ use std::marker::Model;
 // The most levels of a tree.
 const LEVELS: usize = 12;
 
-// Where an index is stored: a path to it, and the level of its node.
-#[derive(Clone, Copy)]
-pub(super) struct Spot {
-    pub(super) path: Path,
-    pub(super) level: usize,
-}
-
 // A place for each level: at level 0 a place in the leaf, and above the leaves the place of the child that the path
 // takes. At a spot's level it is the place of the index.
 #[derive(Clone, Copy)]
@@ -37,6 +30,16 @@ impl Path {
     {
         Path {
             places: [0; LEVELS],
+        }
+    }
+
+    // The same path.
+    pub(super) fn copied(&self) -> Path
+        ensures same { result ≡ self.now }
+        ensures length { length result ≡ most_levels }
+    {
+        Path {
+            places: self.places,
         }
     }
 

@@ -7,7 +7,7 @@ ghost use Rattle.iddqd_order.specs.Gap.{NeedsNoMoreBlocks};
 ghost use Rattle.iddqd_order.specs.KeyOrder.{StaysInKeyOrder};
 ghost use Rattle.iddqd_order.specs.MapBTreeTable.{order_of, capacity, without, LeadsTo, LeadsTo-prop};
 
-use crate::btree_table::path::Spot;
+use crate::btree_table::spot::Spot;
 use crate::btree_table::table::MapBTreeTable;
 use iddqd::item_index::ItemIndex;
 

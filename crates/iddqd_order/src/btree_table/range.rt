@@ -265,7 +265,7 @@ impl MapBTreeTable {
     }
 
     // The path to the gap where a range with this lower bound begins.
-    fn find_lower<K: Ord + Drop, Q: Comparable<K>, F: FnMut(ItemIndex) -> K>(
+    pub(super) fn find_lower<K: Ord + Drop, Q: Comparable<K>, F: FnMut(ItemIndex) -> K>(
         &self,
         lower: Bound<&Q>,
         asking: &mut Asking<F>,

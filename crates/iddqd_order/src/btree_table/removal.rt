@@ -5,13 +5,16 @@
 //! there is none.
 //!
 //! If two inner nodes are merged, the block of the second goes to the reserve.
-ghost use Rattle.std.specs.Prelude.{◌≡◌, ◌↔◌, ℕ, ◌+◌, ◌<◌, ◌≤◌, [], ◌∷◌, ◌++◌, length, slice_index, slice_index_or, option_to_list, vec_capacity, IsSome, min};
+//!
+//! The path then goes to the gap where the index stood. Mending keeps the gaps of a node's children in their order, so
+//! that gap is counted through before it, and looked for after it.
+ghost use Rattle.std.specs.Prelude.{◌≡◌, ◌↔◌, ℕ, List, ◌+◌, ◌-◌, ◌<◌, ◌≤◌, [], ◌∷◌, ◌++◌, length, slice_index, slice_index_or, option_to_list, vec_capacity, IsSome, min};
 ghost use Rattle.std.specs.List.{remove};
 ghost use Rattle.iddqd_order.specs.Shape.{most_in_row, least_in_row, most_children, most_levels};
 ghost use Rattle.iddqd_order.specs.declared.btree_table.node.Node.{Node};
-ghost use Rattle.iddqd_order.specs.Node.{row, children, child_room, row as row_of, flat, inners, IsFormed, ReachesIndex, place_at_level};
-ghost use Rattle.iddqd_order.specs.Removal.{MayLackOne, IsMended, IsEmptied, inners_of, Recounts};
-ghost use Rattle.iddqd_order.specs.Tree.{in_order, inners_in, IsTree, ReachesIndexIn, place_at_level_in};
+ghost use Rattle.iddqd_order.specs.Node.{row, children, child_room, row as row_of, flat, inners, place, IsFormed, ReachesGap, ReachesIndex, place_at_level};
+ghost use Rattle.iddqd_order.specs.Removal.{MayLackOne, IsMended, IsEmptied, LeadsBelow, gaps_before, inners_of, place_below, Recounts};
+ghost use Rattle.iddqd_order.specs.Tree.{in_order, inners_in, place_in, IsTree, ReachesGapIn, ReachesIndexIn, place_at_level_in};
 
 use crate::btree_table::node::Node;
 use crate::btree_table::path::Path;
@@ -19,25 +22,30 @@ use crate::btree_table::reserve::Reserve;
 use crate::btree_table::row::{LEAST, Row};
 use iddqd::item_index::ItemIndex;
 
-// Removes the index to which the path goes at the level. Returns it and the new height. It takes no memory.
+// Removes the index to which the path goes at the level, and sends the path to the gap where it stood. Returns the index
+// and the new height. It takes no memory.
 pub(super) fn remove_in(
     root: &mut Option<Node>,
     height: usize,
-    path: &Path,
+    path: &mut Path,
     level: usize,
     reserve: &mut Reserve,
 ) -> (ItemIndex, usize)
     requires tree { IsTree root.old height }
-    requires holds { ReachesIndexIn level root.old height path.now }
+    requires holds { ReachesIndexIn level root.old height path.old }
+    requires path { length path.old ≡ most_levels }
     requires inners { reserve.old.inners ≡ inners_in root.old height }
     ensures index { result.0
-        ≡ slice_index (in_order root.old height) (place_at_level_in level root.old height path.now) }
+        ≡ slice_index (in_order root.old height) (place_at_level_in level root.old height path.old) }
+    ensures goes { ReachesGapIn root.new result.1 path.new }
+    ensures place { place_in root.new result.1 path.new ≡ place_at_level_in level root.old height path.old }
+    ensures path { length path.new ≡ most_levels }
     ensures inners { reserve.new.inners ≡ inners_in root.new result.1 }
     ensures reserved { reserve.new.reserved ≡ reserve.old.reserved }
     ensures no_higher { result.1 ≤ height }
     ensures tree { IsTree root.new result.1 }
     ensures items { in_order root.new result.1
-        ≡ remove (in_order root.old height) (place_at_level_in level root.old height path.now) }
+        ≡ remove (in_order root.old height) (place_at_level_in level root.old height path.old) }
 {
     let Some(node) = root else { unreachable!() };
     let removed = node.remove(height, path, level, reserve);
@@ -48,7 +56,7 @@ pub(super) fn remove_in(
 }
 
 // Drops a root without indexes, and returns the new height. The root's only child, if there is one, becomes the root,
-// and the old root's block goes to the reserve.
+// and the old root's block goes to the reserve. A path to a gap still goes there.
 pub(super) fn drop_empty_root(
     root: &mut Option<Node>,
     height: usize,
@@ -61,6 +69,9 @@ pub(super) fn drop_empty_root(
     ensures no_higher { result ≤ height }
     ensures tree { IsTree root.new result }
     ensures items { in_order root.new result ≡ in_order root.old height }
+    ensures goes { (p : List ℕ) → ReachesGapIn root.old height p → ReachesGapIn root.new result p }
+    ensures places { (p : List ℕ) → ReachesGapIn root.old height p →
+        place_in root.new result p ≡ place_in root.old height p }
 {
     let Some(Node { mut children, .. }) = root.take() else {
         return height;
@@ -75,24 +86,30 @@ pub(super) fn drop_empty_root(
 
 impl Node {
     // Removes the index to which the path goes at the level, and returns it. This node may then hold one index fewer.
+    // The path then goes to the gap where the index stood.
     pub(super) fn remove(
         &mut self,
         height: usize,
-        path: &Path,
+        path: &mut Path,
         level: usize,
         reserve: &mut Reserve,
     ) -> ItemIndex
         requires levels { height < most_levels }
         requires some { 1 ≤ length (row self.old) }
         requires formed { IsFormed height self.old }
-        requires holds { ReachesIndex level height self.old path.now }
+        requires holds { ReachesIndex level height self.old path.old }
+        requires path { length path.old ≡ most_levels }
         requires counted { inners height self.old ≤ reserve.old.inners }
-        ensures index { result ≡ slice_index (flat height self.old) (place_at_level level height self.old path.now) }
+        ensures index { result ≡ slice_index (flat height self.old) (place_at_level level height self.old path.old) }
         ensures counted { Recounts reserve.old reserve.new (inners height self.old) (inners height self.new) }
         ensures items { flat height self.new
-            ≡ remove (flat height self.old) (place_at_level level height self.old path.now) }
+            ≡ remove (flat height self.old) (place_at_level level height self.old path.old) }
         ensures formed { IsFormed height self.new }
         ensures fewer { length (row self.old) ≤ length (row self.new) + 1 }
+        ensures goes { ReachesGap height self.new path.new }
+        ensures place { place height self.new path.new ≡ place_at_level level height self.old path.old }
+        ensures path { length path.new ≡ most_levels }
+        ensures above { (m : ℕ) → height < m → slice_index path.new m ≡ slice_index path.old m }
     {
         let i = path.get(height);
         if height == 0 {
@@ -102,11 +119,12 @@ impl Node {
             let here = self.row.get(i);
             let last = self.children[i].remove_last(height - 1, reserve);
             self.row.set(i, last);
+            path.set_and_zero_below(height, i + 1);
             here
         } else {
             self.children[i].remove(height - 1, path, level, reserve)
         };
-        mend(&mut self.row, &mut self.children, i, reserve);
+        mend_along(&mut self.row, &mut self.children, i, height, path, reserve);
         removed
     }
 
@@ -206,6 +224,72 @@ impl Node {
         let _ = self.children.append(&mut children);
         reserve.put_back(children);
     }
+}
+
+// Mends the i-th child of a node at level `height`, as `mend` does. The path goes on to the same gap.
+fn mend_along(
+    row: &mut Row,
+    children: &mut Vec<Node>,
+    i: usize,
+    height: usize,
+    path: &mut Path,
+    reserve: &mut Reserve,
+)
+    requires inner { 0 < height }
+    requires levels { height < most_levels }
+    requires lacks { MayLackOne (height - 1) i row.old children.old.items }
+    requires some { 1 ≤ reserve.old.inners }
+    requires leads { LeadsBelow height children.old.items path.old }
+    requires path { length path.old ≡ most_levels }
+    ensures mended { IsMended (height - 1) row.old children.old.items row.new children.new.items }
+    ensures counted { Recounts reserve.old reserve.new (inners_of (height - 1) children.old.items)
+        (inners_of (height - 1) children.new.items) }
+    ensures capacity { vec_capacity children.new ≡ vec_capacity children.old }
+    ensures leads { LeadsBelow height children.new.items path.new }
+    ensures place { (d e : Node) → place_below height row.new children.new.items d path.new
+        ≡ place_below height row.old children.old.items e path.old }
+    ensures path { length path.new ≡ most_levels }
+    ensures above { (m : ℕ) → height < m → slice_index path.new m ≡ slice_index path.old m }
+{
+    if children[i].row.len() >= LEAST {
+        return;
+    }
+    let gap = number_of_gap(children.as_slice(), path.get(height), path.get(height - 1));
+    fill_up(row, children, i, reserve);
+    let (at, place) = gap_of_number(children.as_slice(), gap);
+    path.set(height, at);
+    path.set(height - 1, place);
+}
+
+// The number of the gap `place` of the child `at`, if the gaps of all children are counted through.
+fn number_of_gap(children: &[Node], at: usize, place: usize) -> usize
+    requires at { at ≤ most_in_row }
+    requires within { at ≤ length children.now }
+    requires few { (j : ℕ) → (d : Node) → j < at → length (row (slice_index_or children.now j d)) ≤ most_in_row }
+    requires place { place ≤ most_in_row }
+    ensures { result ≡ gaps_before at children.now + place }
+{
+    let mut gaps = place;
+    for i in 0..at {
+        gaps += children[i].row.len() + 1;
+    }
+    gaps
+}
+
+// The child and the place of the gap that has a number.
+fn gap_of_number(children: &[Node], number: usize) -> (usize, usize)
+    requires { number < gaps_before (length children.now) children.now }
+    ensures within { result.0 < length children.now }
+    ensures place { (d : Node) → result.1 ≤ length (row (slice_index_or children.now result.0 d)) }
+    ensures number { gaps_before result.0 children.now + result.1 ≡ number }
+{
+    let mut place = number;
+    let mut at = 0;
+    while place > children[at].row.len() {
+        place -= children[at].row.len() + 1;
+        at += 1;
+    }
+    (at, place)
 }
 
 // Mends the i-th child if it has one index too few.

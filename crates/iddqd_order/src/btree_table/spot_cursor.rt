@@ -7,7 +7,8 @@ ghost use Rattle.iddqd_order.specs.Shape.{most_levels};
 ghost use Rattle.iddqd_order.specs.SpotCursor.{IsSpotCursor, StepsToNext, SamePlaces};
 
 use crate::btree_table::node::Node;
-use crate::btree_table::path::{Path, Spot};
+use crate::btree_table::path::Path;
+use crate::btree_table::spot::Spot;
 use iddqd::item_index::ItemIndex;
 
 // Where an index is stored, and its place in the whole list.

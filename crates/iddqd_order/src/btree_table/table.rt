@@ -1,5 +1,6 @@
 //! The table: a tree of distinct indexes, searched from the root down.
 ghost use Rattle.std.specs.Prelude.{◌≡◌, ◌≢◌, ◌↔◌, ℕ, ◌+◌, ◌-◌, ◌<◌, ◌≤◌, List, [], length, map, slice_get, slice_index, is_some, IfOk, IsOk, IsSome, Contains, insert, IsTrue, false, Some, None};
+ghost use Rattle.std.specs.List.{remove};
 ghost use Rattle.std.specs.declared.cmp.Ordering.{Ordering};
 ghost use Rattle.iddqd.specs.Compaction.{CanRemap, remapped};
 ghost use Rattle.iddqd_order.specs.Asks.{AsksWithin};
@@ -20,7 +21,7 @@ use crate::btree_table::gap::Gap;
 use crate::btree_table::into_iter::IntoIter;
 use crate::btree_table::iter::{Iter, Rest};
 use crate::btree_table::node::Node;
-use crate::btree_table::path::{Path, Spot};
+use crate::btree_table::path::Path;
 use crate::btree_table::prepared_insert::PreparedBTreeInsert;
 use crate::btree_table::prepared_remove::PreparedBTreeRemove;
 use crate::btree_table::reading::{AsOrdering, ByKey, ByQuery, Reads};
@@ -28,6 +29,7 @@ use crate::btree_table::removal::remove_in;
 use crate::btree_table::renaming::rename_in;
 use crate::btree_table::reserve::{MOST_INDEXES, Reserve};
 use crate::btree_table::retain::retain_in;
+use crate::btree_table::spot::Spot;
 use crate::btree_table::state::State;
 use crate::btree_table::tree::put_in;
 use iddqd::hash_builder::DefaultHashBuilder;
@@ -644,13 +646,29 @@ impl MapBTreeTable {
         ensures no_higher { self.new.height ≤ self.old.height }
         ensures reserved { self.new.reserved ≡ self.old.reserved }
     {
-        let (ix, height) = remove_in(
-            &mut self.root,
-            self.height,
-            &spot.path,
-            spot.level,
-            &mut self.reserve,
-        );
+        let mut path = spot.path.copied();
+        self.remove_along(&mut path, spot.level)
+    }
+
+    // Removes the index to which the path goes at the level, and returns it. The path then goes to the gap where the
+    // index stood.
+    pub(super) fn remove_along(&mut self, path: &mut Path, level: usize) -> ItemIndex
+        requires holds { ReachesIndexIn level self.old.root self.old.height path.old }
+        requires path { length path.old ≡ most_levels }
+        ensures within { place_at_level_in level self.old.root self.old.height path.old < length (order_of self.old) }
+        ensures index { result ≡ slice_index (order_of self.old)
+            (place_at_level_in level self.old.root self.old.height path.old) }
+        ensures removed { order_of self.new ≡ without (order_of self.old) result }
+        ensures items { order_of self.new ≡ remove (order_of self.old)
+            (place_at_level_in level self.old.root self.old.height path.old) }
+        ensures goes { ReachesGapIn self.new.root self.new.height path.new }
+        ensures place { place_in self.new.root self.new.height path.new
+            ≡ place_at_level_in level self.old.root self.old.height path.old }
+        ensures path { length path.new ≡ most_levels }
+        ensures no_higher { self.new.height ≤ self.old.height }
+        ensures reserved { self.new.reserved ≡ self.old.reserved }
+    {
+        let (ix, height) = remove_in(&mut self.root, self.height, path, level, &mut self.reserve);
         self.height = height;
         self.len -= 1;
         ix

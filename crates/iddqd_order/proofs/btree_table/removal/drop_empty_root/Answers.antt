@@ -1,4 +1,5 @@
 use Rattle.iddqd_order.proofs.Names.{sym, arith, rules}
+use Rattle.iddqd_order.proofs.GapLeftLemmas.{bare-place, lowered-goes}
 use Rattle.iddqd_order.proofs.RemovalLemmas.{IsBare, bare, IsLowered, lowered}
 use Rattle.iddqd_order.proofs.btree_table.removal.drop_empty_root.Goals as goal
 
@@ -35,3 +36,16 @@ returns-clause-tree c = rw c.saturating_sub.ensures (left c).tree
 
 pub returns-clause-items : goal.returns-clause-items
 returns-clause-items c = rw c.saturating_sub.ensures (left c).items
+
+pub returns-in_default-pop-clause-places : goal.returns-in_default-pop-clause-places
+returns-in_default-pop-clause-places c p goes =
+    rw c.take.ensures.after
+    (sym (bare-place c.args.height c.args.root.now c.in-Some.field-0 p c.in-Some.ensures.value c.requires.emptied (search rules) goes))
+
+pub returns-clause-goes : goal.returns-clause-goes
+returns-clause-goes c p goes =
+    rw c.saturating_sub.ensures (lowered-goes c.args.height c.args.root.now c.in-Some.field-0 c.pop.new.self.items c.in-Some-pop.child p c.in-Some.ensures.value c.requires.emptied c.in-Some-pop.ensures.items (left c).alone goes).goes
+
+pub returns-clause-places : goal.returns-clause-places
+returns-clause-places c p goes =
+    rw c.saturating_sub.ensures (lowered-goes c.args.height c.args.root.now c.in-Some.field-0 c.pop.new.self.items c.in-Some-pop.child p c.in-Some.ensures.value c.requires.emptied c.in-Some-pop.ensures.items (left c).alone goes).place

@@ -1,10 +1,11 @@
-use Rattle.iddqd_order.proofs.Names.{rules, ℕ, suc, ◌-◌, remove, slice_index, arith, ap, sym, ◌∙◌, ◌≡◌, subst, child, roll-Node, out-roll-Node, row, children, child_room, flat, place_at_level}
+use Rattle.iddqd_order.proofs.Names.{rules, refl, most_levels, ◌<◌, [], ◌∷◌, ◌++◌, length, ℕ, suc, ◌-◌, remove, slice_index, arith, ap, sym, ◌∙◌, ◌≡◌, subst, child, roll-Node, out-roll-Node, row, children, child_room, flat, place_at_level}
 use Rattle.iddqd_order.proofs.NodeLemmas.{row-roll, children-roll, room-roll}
 use Rattle.iddqd_order.proofs.RemovalLemmas.{holds-leaf, holds-level, goes-below, ends-inner, child-below, child-before, remade-leaf, TookNow, took-now, took-below, took-here, remade, room-kept}
 use Rattle.iddqd_order.proofs.DescentLemmas.{child_is}
 use Rattle.iddqd_order.proofs.SpotCursorLemmas.{ends-here, read-below}
 use Rattle.iddqd_order.specs.Node.{inners}
 use Rattle.iddqd_order.specs.Removal.{inners_of, Recounts}
+use Rattle.iddqd_order.proofs.GapLeftLemmas.{LeadsTo, goes-there, left-in_leaf, left-here, left-below}
 use Rattle.iddqd_order.proofs.RecountLemmas.{child-counted, inners-leaf, unchanged, recounted-below, recounted-mended}
 use Rattle.iddqd_order.proofs.btree_table.node.Node.+remove.Goals as goal
 use Rattle.iddqd_order.proofs.btree_table.node.Node.+remove.Goals.{then-height-level, else-height-level}
@@ -20,6 +21,7 @@ returns-then-height-eq0 t c =
     remade-leaf c.args.level c.args.height c.get-i.result c.args.self.now
     (roll-Node _) c.args.path.now c.if-height-eq0.true c.get-i.ensures c.requires.formed c.requires.holds
     (row-roll _ ∙ c.remove.ensures.items) (children-roll _) in
+    let left = left-in_leaf c.args.level c.args.height c.get-i.result c.args.self.now (roll-Node _) c.args.path.now c.if-height-eq0.true c.get-i.ensures c.requires.holds (row-roll _ ∙ c.remove.ensures.items) in
     record {
       index =
           c.remove.ensures.value
@@ -30,6 +32,10 @@ returns-then-height-eq0 t c =
       counted =
           unchanged c.args.reserve.now (inners-leaf c.args.height c.args.self.now c.if-height-eq0.true)
           (inners-leaf c.args.height (roll-Node _) c.if-height-eq0.true);
+      goes = left.goes;
+      place = left.place;
+      path = c.requires.path;
+      above = λ m lt. refl;
     }
 
 pub index_mut-requires : goal.index_mut-requires
@@ -56,6 +62,14 @@ pub set-requires : goal.set-requires
 set-requires t c =
     simp out-roll-Node (ends-inner c.args.height c.args.level c.get-i.result c.args.self.now c.args.path.now c.if-height-eq0.false c.if-height-level.true c.get-i.ensures c.requires.formed c.requires.holds).within
 
+pub overflow_add-i : goal.overflow_add-i
+overflow_add-i t c =
+    omega (arith, (ends-here (omega (arith, c.if-height-level.true)) c.get-i.ensures c.requires.formed c.requires.holds).low)
+
+pub set_and_zero_below-requires-clause-place : goal.set_and_zero_below-requires-clause-place
+set_and_zero_below-requires-clause-place t c =
+    omega (arith, (ends-here (omega (arith, c.if-height-level.true)) c.get-i.ensures c.requires.formed c.requires.holds).low)
+
 pub index_mut-requires-else-height-level : goal.index_mut-requires-else-height-level
 index_mut-requires-else-height-level t c =
     let le = holds-level c.args.level c.args.height c.args.self.now c.args.path.now c.requires.holds in
@@ -68,11 +82,11 @@ remove-removed-requires t c =
     let le = holds-level c.args.level c.args.height c.args.self.now c.args.path.now c.requires.holds in
     let here = (goes-below c.args.height c.args.level c.get-i.result c.args.self.now c.args.path.now (omega arith) c.get-i.ensures c.requires.formed c.requires.holds).here in
     let k = child-counted c.args.height c.get-i.result c.args.self.now c.index_mut-else-height-level.result.now c.if-height-eq0.false here (search rules) in
-    (omega arith, (omega arith, (omega arith, (b.formed.1, (b.holds, omega (arith, k, c.requires.counted))))))
+    (omega arith, (omega arith, (omega arith, (b.formed.1, (b.holds, (c.requires.path, omega (arith, k, c.requires.counted)))))))
 
 -- what is mended, on both ways
 took :
-    (t : ℕ) (c : goal.After-mend-arg-3-1 t)
+    (t : ℕ) (c : goal.After-mend_along-arg-4-1 t)
     → TookNow c.args.height c.get-i.result c.args.self.now c.if-height-level.self
     (remove (flat c.args.height c.args.self.now)
     (place_at_level c.args.level c.args.height c.args.self.now c.args.path.now))
@@ -95,7 +109,7 @@ took t c =
 
 -- the index is the one to which the path goes, on both ways
 index :
-    (t : ℕ) (c : goal.After-mend-arg-3-1 t)
+    (t : ℕ) (c : goal.After-mend_along-arg-4-1 t)
     → c.if-height-level.removed
     ≡ slice_index (flat c.args.height c.args.self.now)
     (place_at_level c.args.level c.args.height c.args.self.now c.args.path.now)
@@ -116,7 +130,7 @@ index t c =
     ]
 
 below :
-    (t : ℕ) (c : goal.After-mend-arg-3-1 t)
+    (t : ℕ) (c : goal.After-mend_along-arg-4-1 t)
     → Recounts c.args.reserve.now c.if-height-level.reserve (inners c.args.height c.args.self.now)
     (suc (inners_of (c.args.height - 1) (children c.if-height-level.self)))
 below t c =
@@ -133,24 +147,70 @@ below t c =
           (recounted-below c.args.height c.get-i.result c.args.self.now w.index_mut-else-height-level.result.now w.remove-removed.new.self c.args.reserve.now w.remove-removed.new.reserve c.if-height-eq0.false here (search rules) w.remove-removed.ensures.counted))
     ]
 
-pub mend-requires : goal.mend-requires
-mend-requires t c =
+-- where the path goes then, on both ways
+left :
+    (t : ℕ) (c : goal.After-mend_along-arg-4-1 t)
+    → LeadsTo c.args.height (row c.if-height-level.self) (children c.if-height-level.self) c.if-height-level.path
+    (place_at_level c.args.level c.args.height c.args.self.now c.args.path.now)
+left t c =
+    elim c.if-height-level.branch [
+      | then-height-level w ↦
+          (let set_is = simp out-roll-Node at w.set.ensures in
+          let e = ends-inner c.args.height c.args.level c.get-i.result c.args.self.now c.args.path.now c.if-height-eq0.false w.if-height-level.true c.get-i.ensures c.requires.formed c.requires.holds in
+          let same : w.index_mut.result.now ≡ child c.args.self.now c.get-i.result =
+          child_is c.args.self.now c.get-i.result w.index_mut.result.now e.here (search rules) in
+          rw (ap row w.self-is ∙ row-roll _ ∙ set_is, ap children w.self-is ∙ children-roll _ ∙ children-roll _, w.path-is)
+          (left-here c.args.level c.args.height c.get-i.result c.args.self.now w.remove_last-last.new.self c.args.path.now w.set_and_zero_below.new.self w.remove_last-last.result c.if-height-eq0.false w.if-height-level.true c.get-i.ensures c.requires.formed c.requires.holds (subst (λ z. flat (c.args.height - 1) z ≡ flat (c.args.height - 1) w.remove_last-last.new.self ++ w.remove_last-last.result ∷ []) same w.remove_last-last.ensures.items) w.set_and_zero_below.ensures.here w.set_and_zero_below.ensures.below))
+      | else-height-level w ↦
+          (let d = w.remove-removed.ensures in
+          let inner = c.if-height-eq0.false in
+          let same : slice_index w.remove-removed.new.path c.args.height ≡ c.get-i.result =
+          d.above c.args.height (omega arith) ∙ sym c.get-i.ensures in
+          rw (ap row w.self-is ∙ row-roll _, ap children w.self-is ∙ children-roll _, w.path-is)
+          (left-below c.args.level c.args.height c.get-i.result c.args.self.now w.index_mut-else-height-level.result.now w.remove-removed.new.self c.args.path.now w.remove-removed.new.path c.if-height-eq0.false w.if-height-level.false c.get-i.ensures c.requires.formed c.requires.holds (search rules) same (record { goes = d.goes; place = d.place })))
+    ]
+
+-- what stays of it
+kept_above :
+    (t : ℕ) (c : goal.After-mend_along-arg-4-1 t)
+    → (length c.if-height-level.path ≡ most_levels)
+    × ((m : ℕ) → c.args.height < m → slice_index c.if-height-level.path m ≡ slice_index c.args.path.now m)
+kept_above t c =
+    elim c.if-height-level.branch [
+      | then-height-level w ↦ rw w.path-is (w.set_and_zero_below.ensures.length, w.set_and_zero_below.ensures.above)
+      | else-height-level w ↦ rw w.path-is (w.remove-removed.ensures.path, λ m lt. w.remove-removed.ensures.above m (omega arith))
+    ]
+
+pub mend_along-requires : goal.mend_along-requires
+mend_along-requires t c =
+    let inner = c.if-height-eq0.false in
+    let levels = c.requires.levels in
     record {
-      lacks = (c.args.height - 1, (took t c).took.may_lack);
+      inner = omega arith;
+      levels = c.requires.levels;
+      lacks = (took t c).took.may_lack;
       some = omega (arith, c.requires.counted, (below t c).inners);
+      leads = (left t c).leads;
+      path = (kept_above t c).0;
     }
 
 pub returns : goal.returns
 returns t c =
     let k = took t c.before in
+    let did = c.mend_along.ensures in
     let m =
-    remade c.args.height c.get-i.result c.args.self.now (roll-Node _) _ _ _ _ _ k.took
-    (c.mend.ensures.mended (c.args.height - 1) k.took.may_lack) (row-roll _) (children-roll _)
-    (room-kept c.args.self.now _ (c.mend.ensures.capacity ∙ k.room_is)) in
+    remade c.args.height c.get-i.result c.args.self.now (roll-Node _) _ _ _ _ _ k.took did.mended (row-roll _)
+    (children-roll _) (room-kept c.args.self.now _ (did.capacity ∙ k.room_is)) in
+    let was = left t c.before in
+    let there = goes-there c.args.height (roll-Node _) _ _ c.mend_along.new.path (place_at_level c.args.level c.args.height c.args.self.now c.args.path.now) c.if-height-eq0.false (row-roll _) (children-roll _) (record { leads = did.leads; place = λ d. did.place d d ∙ was.place d }) in
     record {
       index = index t c.before;
       items = m.items;
       formed = m.formed;
       fewer = m.fewer;
-      counted = recounted-mended c.args.height c.args.self.now (roll-Node _) (children c.if-height-level.self) c.mend.new.children.items c.args.reserve.now c.if-height-level.reserve c.mend.new.reserve c.if-height-eq0.false (below t c.before) (c.mend.ensures.counted (c.args.height - 1) k.took.may_lack) (children-roll _);
+      counted = recounted-mended c.args.height c.args.self.now (roll-Node _) (children c.if-height-level.self) c.mend_along.new.children.items c.args.reserve.now c.if-height-level.reserve c.mend_along.new.reserve c.if-height-eq0.false (below t c.before) did.counted (children-roll _);
+      goes = there.goes;
+      place = there.place;
+      path = did.path;
+      above = λ m lt. did.above m lt ∙ (kept_above t c.before).1 m lt;
     }

@@ -1,0 +1,112 @@
+-- The index behind a gap, one level at a time.
+use Rattle.iddqd_order.proofs.Names.{AtIndex, IsTree, in_order, place_at_level_in, ReachesIndexIn, IfSome, IsNone, Option, None, Some, slice_get-get_or, get_or-remove_above, length-remove, remove, cases_lt, inl, inr, ◌≡◌, ◌≢◌, ◌∙◌, ℕ, zero, suc, ◌+◌, ◌-◌, ◌<◌, List, length, slice_index, refl, sym, ap, arith, Node, row, children, child, before, flat, IsFormed, place, place_at_level}
+use Rattle.std.specs.List.{slice_get}
+use Rattle.std.specs.Option.{option_map}
+use Rattle.std.proofs.lemmas.Option.{slice_get_past}
+use Rattle.iddqd_order.specs.Spot.{StandsBehind}
+use Rattle.iddqd_order.proofs.TreeLemmas.{place_at_level_in-within}
+use Rattle.iddqd_order.proofs.CursorLemmas.{Below, place-at}
+use Rattle.iddqd_order.proofs.DescentLemmas.{child-read}
+use Rattle.iddqd_order.proofs.NodeLemmas.{lists, place_at_level-within, below-holds, goes-below, holds-here, holds-level, place-leaf, place_at_level-at}
+use Rattle.iddqd_order.proofs.SpotCursorLemmas.{ends-here}
+
+pub behind-in_leaf :
+    (h i : ℕ) (n : Node) (p : List ℕ) (ix : ℕ)
+    → h ≡ 0
+    → i ≡ slice_index p h
+    → i < length (row n)
+    → ix ≡ slice_index (row n) i
+    → StandsBehind h n p ix h
+unfolding flat
+behind-in_leaf zero i n p ix e ei lt is = record {
+  holds = holds-here 0 n p (omega arith);
+  place_is = refl;
+  index = is ∙ ap (λ z. slice_index (row n) z) (ei ∙ sym (place-leaf 0 n p refl));
+}
+behind-in_leaf (suc h) i n p ix e ei lt is = absurd (omega arith)
+
+pub behind-below :
+    (h i : ℕ) (n k : Node) (p : List ℕ) (ix l : ℕ)
+    → h ≢ 0
+    → IsFormed h n
+    → Below h i n k p
+    → i ≡ slice_index p h
+    → StandsBehind (h - 1) k p ix l
+    → StandsBehind h n p ix l
+behind-below h i n k p ix l ne f b ei s =
+    let le = holds-level l (h - 1) k p s.holds in
+    let holds = below-holds l h n p ne (rw (← ei) b.here) (rw (← ei, ← b.is) s.holds) in
+    let d = goes-below h l i n p (omega arith) ei f holds in
+    let at = place-at h i n p ne (sym ei) in
+    let low = s.place_is in
+    let same : place_at_level l h n p ≡ place h n p =
+    omega (arith, d.place, at, low, ap (λ z. place_at_level l (h - 1) z p) b.is, ap (λ z. place (h - 1) z p) b.is) in
+    let q : ℕ = place_at_level l (h - 1) (child n i) p in
+    let there : place (h - 1) k p ≡ q = sym low ∙ ap (λ z. place_at_level l (h - 1) z p) b.is in
+    record {
+      holds = holds;
+      place_is = same;
+      index =
+          s.index ∙ (λ j. slice_index (flat (h - 1) (b.is j)) (there j))
+          ∙ sym (child-read h n i q ne f b.here d.within) ∙ ap (slice_index (flat h n)) (sym d.place ∙ same);
+    }
+
+pub behind-here :
+    (h i : ℕ) (n k : Node) (p : List ℕ) (ix : ℕ)
+    → h ≢ 0
+    → IsFormed h n
+    → Below h i n k p
+    → i ≡ slice_index p h
+    → place (h - 1) k p ≡ length (flat (h - 1) k)
+    → i < length (row n)
+    → ix ≡ slice_index (row n) i
+    → StandsBehind h n p ix h
+behind-here h i n k p ix ne f b ei last lt is =
+    let holds = holds-here h n p (omega arith) in
+    let own = place_at_level-at h h n p ne refl in
+    let at = place-at h i n p ne (sym ei) in
+    let whole : length (flat (h - 1) (child n (slice_index p h))) ≡ length (flat (h - 1) (child n i)) =
+    ap (λ z. length (flat (h - 1) (child n z))) (sym ei) in
+    let front : length (before (slice_index p h) (row n) (lists (h - 1) (children n))) ≡ length (before i (row n) (lists (h - 1) (children n))) =
+    ap (λ z. length (before z (row n) (lists (h - 1) (children n)))) (sym ei) in
+    let same : place_at_level h h n p ≡ place h n p =
+    omega (arith, own, at, whole, front, last, ap (λ z. place (h - 1) z p) b.is, ap (λ z. length (flat (h - 1) z)) b.is) in
+    record {
+      holds = holds;
+      place_is = same;
+      index =
+          is ∙ sym (ends-here (omega arith) ei f holds).spot_is ∙ ap (λ z. slice_index (flat h n) z) same;
+    }
+
+-- what stands at a spot, and behind a gap, in a table
+pub spot-read :
+    (r : Option Node) (h l : ℕ) (p : List ℕ)
+    → IsTree r h
+    → ReachesIndexIn l r h p
+    → slice_get (in_order r h) (place_at_level_in l r h p) ≡ Some (slice_index (in_order r h) (place_at_level_in l r h p))
+spot-read r h l p t w =
+    slice_get-get_or (in_order r h) (place_at_level_in l r h p) 0 (place_at_level_in-within AtIndex l r h p t w)
+
+pub behind-read :
+    (h : ℕ) (n : Node) (p : List ℕ) (r : Option (ℕ × ℕ))
+    → IsFormed h n
+    → IfSome r (λ r. StandsBehind h n p r.0 r.1)
+    → (IsNone r → place h n p ≡ length (flat h n))
+    → option_map (λ (r : ℕ × ℕ). r.0) r ≡ slice_get (flat h n) (place h n p)
+behind-read h n p None f s last = sym (slice_get_past (flat h n) (place h n p) (omega (arith, last refl)))
+behind-read h n p (Some (ix, l)) f s last =
+    let lt = place_at_level-within l h n p f s.holds in
+    let low = s.place_is in
+    ap Some s.index ∙ sym (slice_get-get_or (flat h n) (place h n p) 0 (omega arith))
+
+-- after a removal, what stood behind stands there
+pub remove-next :
+    (xs : List ℕ) (i : ℕ)
+    → i < length xs
+    → slice_get (remove xs i) i ≡ slice_get xs (i + 1)
+remove-next xs i lt =
+    let long = length-remove xs i lt in
+    elim (cases_lt (i + 1) (length xs)) [
+      | inl more ↦ slice_get-get_or (remove xs i) i 0 (omega arith) ∙ ap Some (get_or-remove_above xs i 0 i (omega arith) lt) ∙ sym (slice_get-get_or xs (i + 1) 0 more)
+      | inr last ↦ slice_get_past (remove xs i) i (omega arith) ∙ sym (slice_get_past xs (i + 1) last)
+    ]

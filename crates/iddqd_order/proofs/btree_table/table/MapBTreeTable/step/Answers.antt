@@ -1,0 +1,17 @@
+use Rattle.std.proofs.Common.{rules}
+use Rattle.std.specs.List.{slice_get}
+use Rattle.iddqd_order.proofs.Names.{◌≡◌, ◌∙◌, ◌+◌, Some, sym, ap, order_of, ReachesIndexIn, place_at_level_in, in_order}
+use Rattle.iddqd_order.proofs.SpotLemmas.{spot-read}
+use Rattle.iddqd_order.proofs.btree_table.table.MapBTreeTable.step.Goals as goal
+
+pub returns-clause-next : goal.returns-clause-next
+unfolding order_of
+returns-clause-next c =
+    let t = c.tree-height.ensures in
+    let root = c.args.self.now.root in
+    let height = c.args.self.now.height in
+    let path = c.step-next.new.path in
+    let level = c.in_ok-next.field-0 in
+    let holds : ReachesIndexIn level root height path = search rules in
+    let next : place_at_level_in level root height path ≡ place_at_level_in c.args.spot.now.level root height c.args.spot.now.path + 1 = search rules in
+    ap Some c.index_at.ensures ∙ sym (spot-read root height level path t.tree holds) ∙ ap (slice_get (in_order root height)) next

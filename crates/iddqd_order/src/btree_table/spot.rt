@@ -1,0 +1,124 @@
+//! Spots: where indexes stand, for a caller that goes along a table and removes indexes as it goes.
+//!
+//! A spot borrows no table. It is valid for the table that it was found in until that table's tree changes; `take_at`
+//! changes the tree, and moves the spot to the index that stood behind the removed one. So a run of indexes is removed
+//! by one search.
+ghost use Rattle.std.specs.Prelude.{◌≡◌, ℕ, ◌+◌, ◌<◌, ◌≤◌, None, length, slice_get, slice_index, IfSome, IsNone, IsSome};
+ghost use Rattle.std.specs.List.{remove};
+ghost use Rattle.std.specs.Option.{option_map};
+ghost use Rattle.iddqd_order.specs.MapBTreeTable.{IsSpot, capacity, order_of, spot_place};
+ghost use Rattle.iddqd_order.specs.Node.{IsFormed, ReachesGap, flat, place};
+ghost use Rattle.iddqd_order.specs.Range.{bound_reading};
+ghost use Rattle.iddqd_order.specs.Search.{CanSearch};
+ghost use Rattle.iddqd_order.specs.Shape.{most_levels};
+ghost use Rattle.iddqd_order.specs.Spot.{FindsFrom, StandsBehind};
+ghost use Rattle.iddqd_order.specs.Tree.{ReachesGapIn, ReachesIndexIn, place_at_level_in, place_in};
+
+use crate::btree_table::asking::Asking;
+use crate::btree_table::node::Node;
+use crate::btree_table::path::Path;
+use crate::btree_table::table::MapBTreeTable;
+use iddqd::item_index::ItemIndex;
+use iddqd::map_hash::Comparable;
+use std::ops::Bound;
+
+/// Where an index is stored: a path to it, and the level of its node.
+#[derive(Clone, Copy)]
+pub struct Spot {
+    pub(super) path: Path,
+    pub(super) level: usize,
+}
+
+#[tactic(auto, unfolding(crate::specs::MapBTreeTable::order_of, crate::specs::MapBTreeTable::capacity))]
+impl MapBTreeTable {
+    /// The first index within the lower bound, with its spot. The asking answers the keys.
+    ///
+    /// If keys change, it is the index behind some gap. It asks at most `4 + 2 * digits(len)` times, and takes no
+    /// memory. Without a bound it asks nothing.
+    pub fn first_from<K: Ord + Drop, Q: Comparable<K>, F: FnMut(ItemIndex) -> K>(
+        &self,
+        lower: Bound<&Q>,
+        asking: &mut Asking<F>,
+    ) -> Option<(ItemIndex, Spot)>
+        requires { CanSearch F.FnMut (order_of self.now) None asking.old }
+        ensures { FindsFrom F.FnMut self.now (bound_reading Q.compare lower.entry) asking.old result asking.new }
+    {
+        let path = self.find_lower(lower, asking);
+        let (ix, level) = self.behind(&path)?;
+        Some((ix, Spot { path, level }))
+    }
+
+    /// Moves the spot to the index behind it, and returns that index. It asks nothing and takes no memory.
+    pub fn step(&self, spot: &mut Spot) -> Option<ItemIndex>
+        requires { IsSpot self.now spot.old }
+        ensures next { result ≡ slice_get (order_of self.now) (spot_place self.now spot.old + 1) }
+        ensures spot { IsSome result → IsSpot self.now spot.new }
+        ensures place { IsSome result → spot_place self.now spot.new ≡ spot_place self.now spot.old + 1 }
+    {
+        let (root, height) = self.tree();
+        let Some(node) = root else { unreachable!() };
+        let mut path = spot.path.copied();
+        let (_, next) = node.step(height, &mut path, spot.level);
+        *spot = Spot { path, level: next? };
+        Some(self.index_at(spot))
+    }
+
+    /// Removes the index at the spot, and moves the spot to the index behind it, which it returns. It asks nothing and
+    /// takes no memory. The others keep their order.
+    pub fn take_at(&mut self, spot: &mut Spot) -> Option<ItemIndex>
+        requires { IsSpot self.old spot.old }
+        ensures removed { order_of self.new ≡ remove (order_of self.old) (spot_place self.old spot.old) }
+        ensures next { result ≡ slice_get (order_of self.old) (spot_place self.old spot.old + 1) }
+        ensures spot { IsSome result → IsSpot self.new spot.new }
+        ensures place { IsSome result → spot_place self.new spot.new ≡ spot_place self.old spot.old }
+        ensures memory { capacity self.new ≡ capacity self.old }
+    {
+        let mut path = spot.path.copied();
+        self.remove_along(&mut path, spot.level);
+        let (ix, level) = self.behind(&path)?;
+        *spot = Spot { path, level };
+        Some(ix)
+    }
+
+    // The index behind the gap to which a path goes, and its level.
+    fn behind(&self, path: &Path) -> Option<(ItemIndex, usize)>
+        requires { ReachesGapIn self.now.root self.now.height path.now }
+        ensures next { option_map (λ (r : ℕ × ℕ). r.0) result
+            ≡ slice_get (order_of self.now) (place_in self.now.root self.now.height path.now) }
+        ensures level { IfSome result (λ r. ReachesIndexIn r.1 self.now.root self.now.height path.now) }
+        ensures place { IfSome result (λ r. place_at_level_in r.1 self.now.root self.now.height path.now
+            ≡ place_in self.now.root self.now.height path.now) }
+        ensures within { place_in self.now.root self.now.height path.now ≤ length (order_of self.now) }
+    {
+        let (root, height) = self.tree();
+        let Some(node) = root else { return None };
+        node.behind(height, path)
+    }
+}
+
+impl Node {
+    // The index behind the gap to which a path goes, and its level. None if the gap is behind all indexes below this
+    // node.
+    fn behind(&self, height: usize, path: &Path) -> Option<(ItemIndex, usize)>
+        requires formed { IsFormed height self.now }
+        requires levels { height < most_levels }
+        requires goes { ReachesGap height self.now path.now }
+        ensures found { IfSome result (λ r. StandsBehind height self.now path.now r.0 r.1) }
+        ensures ended { IsNone result → place height self.now path.now ≡ length (flat height self.now) }
+    {
+        let place = path.get(height);
+        if height == 0 {
+            if place < self.row.len() {
+                return Some((self.row.get(place), 0));
+            }
+            return None;
+        }
+        if let Some(found) = self.children[place].behind(height - 1, path) {
+            return Some(found);
+        }
+        if place < self.row.len() {
+            return Some((self.row.get(place), height));
+        }
+        None
+    }
+}
