@@ -1,82 +1,101 @@
--- What stands behind an index of a sorted list.
-use Rattle.std.proofs.Common.{◌≡◌, ◌↔◌, ◌∙◌, ◌&&◌, ◌≤◌, ◌-◌, inl, inr, ℕ, Bool, true, not, List, [], ◌∷◌, drop, filter, length, Option, Some, None, MatchOption, refl, sym, ap, Ordering, arith, length-drop, take_all}
+-- What stands at a place of a sorted list, and behind it.
+use Rattle.std.proofs.Common.{◌≡◌, ◌≢◌, ◌∙◌, ◌+◌, ◌<◌, ◌≤◌, inl, inr, ℕ, Bool, true, suc, List, [], ◌∷◌, drop, get_or, length, Option, Some, None, refl, sym, ap, subst, Ordering, arith, slice_index}
 use Rattle.std.specs.Cmp.{IsTotalOrder}
-use Rattle.std.specs.List.{Contains}
-use Rattle.std.specs.Ordering.{is_gt, ordering_then}
-use Rattle.std.specs.declared.cmp.Ordering.TheVariants.{Less, Equal, Greater}
-use Rattle.std.proofs.lemmas.List.Kept.{IsStrictlySortedBy-filter}
-use Rattle.iddqd.specs.Store.{Store}
+use Rattle.std.specs.List.{Contains, slice_get}
+use Rattle.std.proofs.Math.Seq.{drop-cons}
+use Rattle.std.proofs.lemmas.Bool.{cases_eq, cases_lt}
+use Rattle.std.proofs.lemmas.List.{drop_all, get_or_default}
+use Rattle.std.proofs.lemmas.List.Elements.{Contains-get_or}
+use Rattle.std.proofs.lemmas.Map.Keys.{Less-from_sorted}
+use Rattle.std.proofs.lemmas.Option.{slice_get-get_or, slice_get_past, slice_get_within}
+use Rattle.iddqd.specs.Store.{Store, get}
 use Rattle.iddqd.proofs.LiveLemmas.{item_at, live_at}
-use Rattle.iddqd.proofs.StoreLemmas.{contains_head, contains_cases, contains_none}
-use Rattle.iddqd_order.specs.Search.{IsPlace, IsRising, with_ties}
-use Rattle.iddqd_order.proofs.BoundLemmas.{is_within, part-within}
-use Rattle.iddqd_order.proofs.KeyOrderLemmas.{IsRising-from_sorted}
-use Rattle.iddqd_by_order.specs.Ordered.{IsInPlace, IsSortedScan}
-use Rattle.iddqd_by_order.proofs.OrderedRangeLemmas.{kept_from, keeps}
-use Rattle.iddqd_keys.specs.KeyWalk.{by_key_then_index, ComesBefore, IsNextHit}
-use Rattle.iddqd_keys.specs.Scan.{IsHit}
-use Rattle.iddqd_keys.proofs.KeyWalkLemmas.{in_front, totals}
+use Rattle.iddqd_by_order.specs.Ordered.{IsSortedScan}
+use Rattle.iddqd_keys.specs.KeyWalk.{ComesBefore, IsFirstHit, IsNextHit, SortsWithin}
+use Rattle.iddqd_keys.specs.Scan.{IsHit, IsLive, passes_by}
+use Rattle.iddqd_keys.proofs.KeyWalkLemmas.{IsFirstHit-head, IsFirstHit-none, totals}
+use Rattle.iddqd_keys.proofs.NextLemmas.{not_before_itself}
 
-behind_is : (r : Ordering) → (not (is_gt (ordering_then r Greater)) && true) ≡ true → r ≡ Less
-behind_is Less is = refl
-behind_is Equal is = cc
-behind_is Greater is = cc
+-- the first of a list's end
+pub first-at :
+    {T K : Type 0} (key_of : T → K) (compare : K → K → Ordering) (s : Store T) (order : List ℕ) (within : K → Bool)
+    (place : ℕ)
+    → SortsWithin key_of compare within s (drop place order)
+    → IsFirstHit key_of compare s (passes_by key_of within) (slice_get order place)
+first-at key_of compare s order within place sorts = elim (cases_lt place (length order)) [
+  | inl lt ↦ subst (IsFirstHit key_of compare s (passes_by key_of within)) (sym (slice_get-get_or order place 0 lt)) (IsFirstHit-head key_of compare s within (get_or order place 0) (drop (suc place) order) (drop place order) sorts (drop-cons order place 0 lt))
+  | inr le ↦ subst (IsFirstHit key_of compare s (passes_by key_of within)) (sym (slice_get_past order place le)) (IsFirstHit-none key_of compare s within (drop place order) sorts (drop_all place order le))
+]
 
 module _
     {T K : Type 0} (key_of : T → K) (compare : K → K → Ordering) (total : IsTotalOrder compare) (s : Store T)
-    (order : List ℕ) (o : IsSortedScan key_of compare s order) (after : ℕ)
+    (order : List ℕ) (o : IsSortedScan key_of compare s order) (place : ℕ) (within : place < length order)
   where
-    -- how the index compares with each of the list
-    abbrev pub answer : ℕ → Ordering
-    answer = by_key_then_index key_of compare s after
+    abbrev here : ℕ
+    here = slice_index order place
 
-    pub IsRising-after : IsRising (with_ties None answer) order
-    IsRising-after = IsRising-from_sorted (totals key_of compare total s) order o.placed after (with_ties None answer) (λ k within. refl)
+    in_order : (i j : ℕ) → i < j → j < length order → ComesBefore key_of compare s (get_or order i 0) (get_or order j 0)
+    in_order i j lt less = Less-from_sorted _ order i j 0 o.placed lt less
 
-    module _ (place : ℕ) (is_place : IsPlace (λ ix. ordering_then (answer ix) Greater) order place) where
-      abbrev behind : ℕ → Bool
-      behind = is_within (λ ix. ordering_then (answer ix) Greater) (λ _. Greater)
+    -- what comes behind stands behind
+    stands-behind :
+        (k : ℕ)
+        → k < length order
+        → ComesBefore key_of compare s here (get_or order k 0)
+        → place < k
+    stands-behind k less before = elim (cases_lt place k) [
+      | inl lt ↦ lt
+      | inr le ↦ absurd (elim (cases_eq k place) [
+        | inl same ↦ not_before_itself key_of compare total s here (subst (λ z. ComesBefore key_of compare s here (get_or order z 0)) same before)
+        | inr apart ↦ not_before_itself key_of compare total s here ((totals key_of compare total s).trans here (get_or order k 0) here before (in_order k place (omega arith) within))
+      ])
+    ]
 
-      chosen : drop place order ≡ filter behind order
-      chosen =
-          let short : length (drop place order) ≤ length order - place = omega (arith, length-drop place order) in
-          sym (take_all (length order - place) (drop place order) short)
-          ∙ part-within (λ ix. ordering_then (answer ix) Greater) (λ _. Greater) order place (length order) is_place (record {
-            within = omega arith;
-            greater_before = λ k less. refl;
-            less_from = λ k from less. absurd (omega (arith, from, less));
-          })
+    -- where a live index stands
+    place-of :
+        (j : ℕ)
+        → IsHit s (λ _. true) j
+        → (k : ℕ) × (k < length order) × (get_or order k 0 ≡ j)
+    place-of j (item, is, _) =
+        let (k, less, same) = (o.holds.each j).1 (live_at s j item is) in
+        (k, less, get_or_default order k 0 j less ∙ same)
 
-      each_behind :
-          (j : ℕ) → Contains (filter behind order) j ↔ (IsHit s (λ _. true) j × ComesBefore key_of compare s after j)
-      each_behind j = (
-        λ here.
-            let (stored, chosen) = kept_from behind order j here in
-            let (item, is) = item_at s j ((o.holds.each j).0 stored) in
-            ((item, is, refl), behind_is (answer j) chosen),
-        λ ((item, is, _), before).
-            keeps behind order j ((o.holds.each j).1 (live_at s j item is)) (ap (λ r. not (is_gt (ordering_then r Greater)) && true) before),
-      )
+    next-some :
+        place + 1 < length order
+        → IsNextHit key_of compare s (λ _. true) here (Some (get_or order (place + 1) 0))
+    next-some more =
+        let n : ℕ = get_or order (place + 1) 0 in
+        let (item, is) = item_at s n ((o.holds.each n).0 (Contains-get_or order (place + 1) 0 more)) in (
+          (item, is, refl),
+          in_order place (place + 1) (omega arith) more,
+          λ j hit before apart.
+              let (k, less, same) = place-of j hit in
+              let behind = stands-behind k less (subst (ComesBefore key_of compare s here) (sym same) before) in
+              elim (cases_eq k (place + 1)) [
+                | inl next ↦ absurd (apart (sym same ∙ ap (λ z. get_or order z 0) next))
+                | inr later ↦ subst (ComesBefore key_of compare s n) same (in_order (place + 1) k (omega arith) less)
+              ],
+        )
 
-      placed : IsInPlace key_of compare s (filter behind order)
-      placed = IsStrictlySortedBy-filter _ behind order o.placed
+    next-none :
+        length order ≤ place + 1
+        → IsNextHit key_of compare s (λ _. true) here None
+    next-none last j hit before =
+        let (k, less, same) = place-of j hit in
+        let behind = stands-behind k less (subst (ComesBefore key_of compare s here) (sym same) before) in
+        absurd (omega arith)
 
-      -- the first of what stands behind it
-      pub IsNextHit-ahead :
-          (ahead rest : List ℕ) (r : Option ℕ)
-          → ahead ≡ drop place order
-          → MatchOption r ((ahead ≡ []) × (rest ≡ [])) (λ ix. ahead ≡ ix ∷ rest)
-          → IsNextHit key_of compare s (λ _. true) after r
-      IsNextHit-ahead ahead rest None is (none, _) = λ j hit before.
-          contains_none j (rw (sym chosen ∙ sym is ∙ none) at ((each_behind j).1 (hit, before)))
-      IsNextHit-ahead ahead rest (Some ix) is first =
-          let all : filter behind order ≡ ix ∷ rest = sym chosen ∙ sym is ∙ first in
-          let sorted : IsInPlace key_of compare s (ix ∷ rest) = rw all at placed in
-          let own = (each_behind ix).0 (rw all (contains_head ix rest)) in (
-            own.0,
-            own.1,
-            λ j hit before apart. elim (contains_cases ix j rest (rw all at ((each_behind j).1 (hit, before)))) [
-              | inl same ↦ absurd (apart (sym same))
-              | inr there ↦ in_front key_of compare s ix rest sorted j there
-            ],
-          )
+    -- the next behind a place
+    pub next-at : IsNextHit key_of compare s (λ _. true) here (slice_get order (place + 1))
+    next-at = elim (cases_lt (place + 1) (length order)) [
+      | inl more ↦ subst (IsNextHit key_of compare s (λ _. true) here) (sym (slice_get-get_or order (place + 1) 0 more)) (next-some more)
+      | inr last ↦ subst (IsNextHit key_of compare s (λ _. true) here) (sym (slice_get_past order (place + 1) last)) (next-none last)
+    ]
+
+    -- the next behind it is live
+    pub next-live : (n : ℕ) → slice_get order (place + 1) ≡ Some n → IsLive s n
+    next-live n is =
+        let less = slice_get_within order (place + 1) n is in
+        let same : Some (get_or order (place + 1) 0) ≡ Some n = sym (slice_get-get_or order (place + 1) 0 less) ∙ is in
+        let own : get_or order (place + 1) 0 ≡ n = cc in
+        subst (IsLive s) own ((o.holds.each (get_or order (place + 1) 0)).0 (Contains-get_or order (place + 1) 0 less))

@@ -1,5 +1,5 @@
 -- What stands between two bounds of a table's list: a run of it, and where it is in place exactly what is within both.
-use Rattle.std.proofs.Common.{◌≡◌, ◌∙◌, ◌&&◌, inl, inr, ℕ, Bool, true, false, not, List, [], ◌∷◌, filter, cond, Some, None, refl, sym, ap, subst, Ordering, arith}
+use Rattle.std.proofs.Common.{◌-◌, ◌≤◌, drop, length, length-drop, take_all, ◌≡◌, ◌∙◌, ◌&&◌, inl, inr, ℕ, Bool, true, false, not, List, [], ◌∷◌, filter, cond, Some, None, refl, sym, ap, subst, Ordering, arith}
 use Rattle.std.specs.Cmp.{IsTotalOrder}
 use Rattle.std.specs.Fn.{Mut}
 use Rattle.std.specs.List.{Contains}
@@ -204,6 +204,20 @@ module _
                 subst (SortsWithin key_of compare between s)
                 (sym (part-within (lower_at lower) (upper_at upper) order from to (begins_at lower from begins) (ends_at upper to ends)))
                 (SortsWithin-chosen placed)
+
+          -- all from a lower bound on
+          pub SortsWithin-behind :
+              IsInPlace key_of compare s order
+              → (from : Bound (Bor K → Ordering))
+              → from ≡ reads lower
+              → (place : ℕ)
+              → Begins g order from old place
+              → Ends g order (reads upper) old (length order)
+              → SortsWithin key_of compare between s (drop place order)
+          SortsWithin-behind placed from from_is place begins ends =
+              let short : length (drop place order) ≤ length order - place = omega (arith, length-drop place order) in
+              subst (SortsWithin key_of compare between s) (take_all (length order - place) (drop place order) short)
+              (SortsWithin-part placed place (length order) (subst (λ b. Begins g order b old place) from_is begins) ends)
 
           WalksWithin-part :
               (from to : ℕ)

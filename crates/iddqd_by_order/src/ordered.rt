@@ -147,7 +147,7 @@ where
 }
 
 // The same bound, with its query wrapped in `BorrowedKeyQuery`.
-fn by_borrowed_key<Q>(bound: Bound<Q>) -> Bound<BorrowedKeyQuery<Q>>
+pub(crate) fn by_borrowed_key<Q>(bound: Bound<Q>) -> Bound<BorrowedKeyQuery<Q>>
     ensures { bound_map (λ query. query.0) result ≡ bound }
 {
     match bound {

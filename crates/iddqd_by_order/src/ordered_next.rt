@@ -2,26 +2,31 @@
 //! order of a key.
 //!
 //! It is for a caller that goes along the table and changes or removes items as it goes. An iterator would borrow the
-//! table and the store all the while; here nothing is borrowed between two steps.
-ghost use Rattle.std.specs.Prelude.{◌≡◌, true};
-ghost use Rattle.std.specs.Ordering.{nat_cmp, ordering_then};
+//! table and the store all the while; here nothing is borrowed between two steps. A spot of the table says how far the
+//! caller has come, so that only the first step searches.
+ghost use Rattle.std.specs.Prelude.{◌≡◌, ℕ, IfSome};
+ghost use Rattle.std.specs.Option.{option_map};
 ghost use Rattle.std.specs.Range.Bound.{bound_map};
-ghost use Rattle.iddqd_order.specs.{order_of};
+ghost use Rattle.std.specs.declared.ops.Bound.{Bound};
+ghost use Rattle.iddqd_order.specs.{capacity, order_of, without};
+ghost use Rattle.iddqd_order.specs.MapBTreeTable.{IsSpot};
+ghost use Rattle.iddqd_order.specs.Spot.{StandsAt, spot_index};
+ghost use Rattle.iddqd_order.specs.declared.btree_table.spot.Spot.{Spot as SpotOf};
 ghost use Rattle.iddqd_keys.specs.KeyWalk.{IsFirstHit, IsNextHit};
 ghost use Rattle.iddqd_keys.specs.OrderedQuery.{is_up_to, is_within};
 ghost use Rattle.iddqd_keys.specs.Scan.{IsKeyAt, IsLive, passes_by};
 ghost use Rattle.iddqd_by_order.specs.Ordered.{IsSortedScan};
 
-use crate::ordered;
+use crate::ordered::by_borrowed_key;
 use iddqd::item_index::ItemIndex;
 use iddqd::item_set::ItemSet;
 use iddqd_keys::key_of::{KeyOf, key_at};
 use iddqd_keys::order_query::OrdQuery;
-use iddqd_order::btree_table::{Asking, MapBTreeTable};
+use iddqd_order::btree_table::{Asking, MapBTreeTable, Spot};
 use std::cmp::Ordering;
 use std::ops::Bound;
 
-/// The first index whose item's key is within the bounds, by key and then by index.
+/// The first index whose item's key is within the bounds, by key and then by index, with its spot.
 ///
 /// It is one search of the table by the lower bound, of 4 + 2d comparisons at most, as `ordered::find`, and one
 /// comparison by the upper bound. It takes no memory.
@@ -30,72 +35,107 @@ pub fn first_between<T, E, Q>(
     items: &ItemSet<T>,
     lower: Bound<Q>,
     upper: Bound<Q>,
-) -> Option<ItemIndex>
+) -> Option<(ItemIndex, Spot)>
 where
     E: KeyOf<T>,
     E::Key: Ord,
     Q: OrdQuery<E::Key>,
     requires { IsSortedScan E.key_of E.Key.cmp items.now.store (order_of table.now) }
-    ensures { let within = is_within Q.compare lower upper in
-        IsFirstHit E.key_of E.Key.cmp items.now.store (passes_by E.key_of within) result }
+    ensures first { let within = is_within Q.compare lower upper in
+        IsFirstHit E.key_of E.Key.cmp items.now.store (passes_by E.key_of within)
+        (option_map (λ (r : ℕ × SpotOf). r.0) result) }
+    ensures spot { IfSome result (λ r. StandsAt table.now r.1 r.0) }
 {
-    let first = ordered::range::<T, E, Q>(table, items, lower, Bound::Unbounded).next()?;
+    let (first, spot) = first_from::<T, E, Q>(table, items, lower)?;
     if is_up_to::<E::Key, Q>(upper, key_at::<T, E>(items, first)) {
-        Some(first)
+        Some((first, spot))
     } else {
         None
     }
 }
 
-/// The next index behind a live one, by key and then by index, if its item's key is within the upper bound.
+// The first index whose item's key is within the lower bound, with its spot.
+fn first_from<T, E, Q>(
+    table: &MapBTreeTable,
+    items: &ItemSet<T>,
+    lower: Bound<Q>,
+) -> Option<(ItemIndex, Spot)>
+where
+    E: KeyOf<T>,
+    E::Key: Ord,
+    Q: OrdQuery<E::Key>,
+    requires { IsSortedScan E.key_of E.Key.cmp items.now.store (order_of table.now) }
+    ensures first { let from = is_within Q.compare lower Bound.Unbounded in
+        IsFirstHit E.key_of E.Key.cmp items.now.store (passes_by E.key_of from)
+        (option_map (λ (r : ℕ × SpotOf). r.0) result) }
+    ensures spot { IfSome result (λ r. StandsAt table.now r.1 r.0) }
+{
+    let mut asking = Asking::new(
+        |at: ItemIndex|
+            requires { IsLive items.now.store at }
+            ensures { IsKeyAt E.key_of items.entry.now.store at result.now }
+        { key_at::<T, E>(items, at) },
+    );
+    let from = by_borrowed_key(lower);
+    table.first_from(from.as_ref(), &mut asking)
+}
+
+/// Moves the spot of a live index to the next one behind it, by key and then by index, and returns that index, if its
+/// item's key is within the upper bound.
 ///
-/// It is one search of the table by the live one's key, of 4 + 2d comparisons at most, as `ordered::find`, and one
-/// comparison by the query. It takes no memory.
+/// It is one comparison by the upper bound, and takes no memory.
 pub fn next_between<T, E, Q>(
     table: &MapBTreeTable,
     items: &ItemSet<T>,
-    after: ItemIndex,
+    spot: &mut Spot,
     upper: Bound<Q>,
 ) -> Option<ItemIndex>
 where
     E: KeyOf<T>,
     E::Key: Ord,
     Q: OrdQuery<E::Key>,
-    requires live { IsLive items.now.store after }
+    requires spot { IsSpot table.now spot.old }
     requires sorted { IsSortedScan E.key_of E.Key.cmp items.now.store (order_of table.now) }
-    ensures { IsNextHit E.key_of E.Key.cmp items.now.store
-        (passes_by E.key_of (is_up_to (bound_map Q.compare upper))) after result }
+    ensures next { IsNextHit E.key_of E.Key.cmp items.now.store
+        (passes_by E.key_of (is_up_to (bound_map Q.compare upper))) (spot_index table.now spot.old) result }
+    ensures spot { IfSome result (λ next. StandsAt table.now spot.new next) }
 {
-    let ix = next_after::<T, E>(table, items, after)?;
-    if is_up_to::<E::Key, Q>(upper, key_at::<T, E>(items, ix)) {
-        Some(ix)
+    let next = table.step(spot)?;
+    if is_up_to::<E::Key, Q>(upper, key_at::<T, E>(items, next)) {
+        Some(next)
     } else {
         None
     }
 }
 
-// The next index behind a live one, by key and then by index.
-fn next_after<T, E>(
-    table: &MapBTreeTable,
+/// Removes the index at the spot from the table, and moves the spot as `next_between` does. The store still has the item
+/// at the index.
+///
+/// It is one comparison by the upper bound, and takes no memory.
+pub fn take_between<T, E, Q>(
+    table: &mut MapBTreeTable,
     items: &ItemSet<T>,
-    after: ItemIndex,
+    spot: &mut Spot,
+    upper: Bound<Q>,
 ) -> Option<ItemIndex>
 where
     E: KeyOf<T>,
     E::Key: Ord,
-    requires live { IsLive items.now.store after }
-    requires sorted { IsSortedScan E.key_of E.Key.cmp items.now.store (order_of table.now) }
-    ensures { IsNextHit E.key_of E.Key.cmp items.now.store (λ _. true) after result }
+    Q: OrdQuery<E::Key>,
+    requires spot { IsSpot table.old spot.old }
+    requires sorted { IsSortedScan E.key_of E.Key.cmp items.now.store (order_of table.old) }
+    ensures next { IsNextHit E.key_of E.Key.cmp items.now.store
+        (passes_by E.key_of (is_up_to (bound_map Q.compare upper))) (spot_index table.old spot.old) result }
+    ensures spot { IfSome result (λ next. StandsAt table.new spot.new next) }
+    ensures taken { order_of table.new ≡ without (order_of table.old) (spot_index table.old spot.old) }
+    ensures memory { capacity table.new ≡ capacity table.old }
 {
-    let key = key_at::<T, E>(items, after);
-    let mut asking = Asking::new(
-        |at: ItemIndex| -> Ordering
-            requires { IsLive items.now.store at }
-            ensures { IsKeyAt (λ item. ordering_then (E.Key.cmp key.entry.now (E.key_of item)) (nat_cmp after at))
-                items.entry.now.store at result }
-        { key.cmp(key_at::<T, E>(items, at)).then(after.cmp(&at)) },
-    );
-    table.iter_after_by(&mut asking).next()
+    let next = table.take_at(spot)?;
+    if is_up_to::<E::Key, Q>(upper, key_at::<T, E>(items, next)) {
+        Some(next)
+    } else {
+        None
+    }
 }
 
 // Whether a key is within an upper bound.

@@ -16,6 +16,11 @@ use Rattle.iddqd_order.specs.declared.btree_table.spot.Spot.{Spot}
 abbrev pub spot_index : Order → Spot → ℕ
 spot_index t spot = slice_index (order_of t) (spot_place t spot)
 
+-- the index ix stands at the spot
+pub record StandsAt (t : Order) (spot : Spot) (ix : ℕ) : Type 0 where
+  pub is_spot : IsSpot t spot
+  pub index : spot_index t spot ≡ ix
+
 -- ix is the index behind the gap to which p goes, and stands at this level
 pub record StandsBehind (h : ℕ) (n : Node) (p : List ℕ) (ix level : ℕ) : Type 0 where
   pub holds : ReachesIndex level h n p
@@ -30,5 +35,5 @@ module _ {F R : Type 0} (g : Mut F (ℕ × Unit {0}) R) (t : Order) (lower : Bou
     pub within : place ≤ length (order_of t)
     pub begins : Begins g (order_of t) lower old place
     pub index : option_map (λ (r : ℕ × Spot). r.0) found ≡ slice_get (order_of t) place
-    pub spot : IfSome found (λ r. IsSpot t r.1)
+    pub spot : IfSome found (λ r. StandsAt t r.1 r.0)
     pub place_is : IfSome found (λ r. spot_place t r.1 ≡ place)

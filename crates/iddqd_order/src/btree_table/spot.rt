@@ -4,14 +4,13 @@
 //! changes the tree, and moves the spot to the index that stood behind the removed one. So a run of indexes is removed
 //! by one search.
 ghost use Rattle.std.specs.Prelude.{◌≡◌, ℕ, ◌+◌, ◌<◌, ◌≤◌, None, length, slice_get, slice_index, IfSome, IsNone, IsSome};
-ghost use Rattle.std.specs.List.{remove};
 ghost use Rattle.std.specs.Option.{option_map};
-ghost use Rattle.iddqd_order.specs.MapBTreeTable.{IsSpot, capacity, order_of, spot_place};
+ghost use Rattle.iddqd_order.specs.MapBTreeTable.{IsSpot, capacity, order_of, spot_place, without};
 ghost use Rattle.iddqd_order.specs.Node.{IsFormed, ReachesGap, flat, place};
 ghost use Rattle.iddqd_order.specs.Range.{bound_reading};
 ghost use Rattle.iddqd_order.specs.Search.{CanSearch};
 ghost use Rattle.iddqd_order.specs.Shape.{most_levels};
-ghost use Rattle.iddqd_order.specs.Spot.{FindsFrom, StandsBehind};
+ghost use Rattle.iddqd_order.specs.Spot.{FindsFrom, StandsAt, StandsBehind, spot_index};
 ghost use Rattle.iddqd_order.specs.Tree.{ReachesGapIn, ReachesIndexIn, place_at_level_in, place_in};
 
 use crate::btree_table::asking::Asking;
@@ -34,7 +33,7 @@ impl MapBTreeTable {
     /// The first index within the lower bound, with its spot. The asking answers the keys.
     ///
     /// If keys change, it is the index behind some gap. It asks at most `4 + 2 * digits(len)` times, and takes no
-    /// memory. Without a bound it asks nothing.
+    /// memory.
     pub fn first_from<K: Ord + Drop, Q: Comparable<K>, F: FnMut(ItemIndex) -> K>(
         &self,
         lower: Bound<&Q>,
@@ -51,8 +50,9 @@ impl MapBTreeTable {
     /// Moves the spot to the index behind it, and returns that index. It asks nothing and takes no memory.
     pub fn step(&self, spot: &mut Spot) -> Option<ItemIndex>
         requires { IsSpot self.now spot.old }
+        ensures within { spot_place self.now spot.old < length (order_of self.now) }
         ensures next { result ≡ slice_get (order_of self.now) (spot_place self.now spot.old + 1) }
-        ensures spot { IsSome result → IsSpot self.now spot.new }
+        ensures spot { IfSome result (λ next. StandsAt self.now spot.new next) }
         ensures place { IsSome result → spot_place self.now spot.new ≡ spot_place self.now spot.old + 1 }
     {
         let (root, height) = self.tree();
@@ -67,9 +67,10 @@ impl MapBTreeTable {
     /// takes no memory. The others keep their order.
     pub fn take_at(&mut self, spot: &mut Spot) -> Option<ItemIndex>
         requires { IsSpot self.old spot.old }
-        ensures removed { order_of self.new ≡ remove (order_of self.old) (spot_place self.old spot.old) }
+        ensures within { spot_place self.old spot.old < length (order_of self.old) }
+        ensures removed { order_of self.new ≡ without (order_of self.old) (spot_index self.old spot.old) }
         ensures next { result ≡ slice_get (order_of self.old) (spot_place self.old spot.old + 1) }
-        ensures spot { IsSome result → IsSpot self.new spot.new }
+        ensures spot { IfSome result (λ next. StandsAt self.new spot.new next) }
         ensures place { IsSome result → spot_place self.new spot.new ≡ spot_place self.old spot.old }
         ensures memory { capacity self.new ≡ capacity self.old }
     {
