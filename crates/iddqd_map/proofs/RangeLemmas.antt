@@ -1,16 +1,18 @@
 -- For maps: what calls leave that remove the items whose keys are within bounds, one after the other.
-use Rattle.std.proofs.Common.{◌≡◌, ◌+◌, ℕ, Bool, [], ◌∷◌, Some, None, refl, subst, Ordering, arith, length-set}
+use Rattle.std.proofs.Common.{◌≡◌, ◌≢◌, ◌∙◌, ◌+◌, ℕ, Bool, [], ◌∷◌, Option, Some, None, refl, subst, Ordering, arith, length-set}
 use Rattle.std.specs.Cmp.{IsTotalOrder}
 use Rattle.std.specs.declared.ops.Bound.TheVariants.{Included}
 use Rattle.iddqd.specs.Store.{Store, IsValid, get, live_count, removed}
 use Rattle.iddqd.proofs.LiveLemmas.{get-removed_other}
 use Rattle.iddqd_keys.specs.OrderedQuery.{is_equal}
 use Rattle.iddqd_keys.specs.OrderedQuery.{is_between}
-use Rattle.iddqd_keys.specs.KeyWalk.{IsFirstHit, pairs_at}
-use Rattle.iddqd_keys.specs.Scan.{HasNoHit, passes_by}
+use Rattle.iddqd_keys.specs.KeyWalk.{ComesBefore, IsFirstHit, IsNextHit, pairs_at}
+use Rattle.iddqd_keys.specs.Scan.{HasNoHit, IsHit, passes_by}
 use Rattle.iddqd_keys.proofs.KeyWalkLemmas.{SortsWithin-none, SortsWithin-first, hit_before, pairs_at-alike}
 use Rattle.iddqd_keys.proofs.KeyWalkLemmas.{between_equal}
 use Rattle.iddqd_keys.proofs.KeyWalkLemmas.{pairs_at-first}
+use Rattle.iddqd_keys.proofs.NextLemmas.{before_still, next_still, not_before_itself}
+use Rattle.iddqd_keys.proofs.ScanLemmas.{live_before}
 use Rattle.iddqd_map.specs.Ranges.{LeavesOthers, RemovesAlong}
 
 -- one item fewer is left
@@ -61,6 +63,32 @@ module _
             given = rw pairs (next, given, rw same at then.given);
             left = then.left;
           }
+
+-- once the first hit is removed, the first is the one that came next
+module _
+    {T K : Type 0} (key_of : T → K) (compare : K → K → Ordering) (total : IsTotalOrder compare) (s : Store T)
+    (test : T → Bool) (ix : ℕ) (item : T) (live : get s ix ≡ Some item)
+    (first : IsFirstHit key_of compare s test (Some ix))
+  where
+    before-too : (j : ℕ) → IsHit (removed s ix) test j → (j ≢ ix) × IsHit s test j
+    before-too j (y, there, passed) =
+        let (apart, was) = live_before s ix j item y live there in
+        (apart, (y, was, passed))
+
+    pub IsFirstHit-removed :
+        (next : Option ℕ)
+        → IsNextHit key_of compare s test ix next
+        → IsFirstHit key_of compare (removed s ix) test next
+    IsFirstHit-removed None is = λ j hit.
+        let (apart, was) = before-too j hit in
+        is j was (first.1 j was apart)
+    IsFirstHit-removed (Some n) is = (
+      next_still key_of compare total s test ix (Some n) is [] item live n refl,
+      λ j hit other.
+          let (apart, was) = before-too j hit in
+          let n_apart : n ≢ ix = λ same. not_before_itself key_of compare total s ix (subst (λ k. ComesBefore key_of compare s ix k) same is.1) in
+          before_still key_of compare s ix n j n_apart apart ∙ is.2 j was (first.1 j was apart) other,
+    )
 
 -- between a query and itself are the keys at which it is Equal
 module _ {T K : Type 0} (key_of : T → K) (comparing : K → Ordering) (old new : Store T) where

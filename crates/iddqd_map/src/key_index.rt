@@ -7,10 +7,12 @@
 //! A call that takes memory does so before anything is written: `look_up`, `plan`, `make_room`, then `insert`;
 //! `plan_move`, `ready_move`, then `commit_move`. The plans in between are plain data: they borrow nothing, and own no
 //! memory.
-ghost use Rattle.std.specs.Prelude.{◌≡◌, ◌≢◌, ◌≤◌, ◌+◌, ◌<◌, true, false, min, max, length, IsOk, IfOk, OnOk, OnErr};
+ghost use Rattle.std.specs.Prelude.{◌≡◌, ◌≢◌, ◌≤◌, ◌+◌, ◌<◌, true, false, min, max, length, IsOk, IfOk, OnOk, OnErr, IfSome};
+ghost use Rattle.std.specs.Option.{option_map};
+ghost use Rattle.std.specs.Range.Bound.{bound_map};
 ghost use Rattle.iddqd.specs.{next_index, removed, rebound, sentinel, live_count, slot_count, IsValid, Allows, Validates};
-ghost use Rattle.iddqd_keys.specs.KeyWalk.{IsFirstHit};
-ghost use Rattle.iddqd_keys.specs.OrderedQuery.{is_within};
+ghost use Rattle.iddqd_keys.specs.KeyWalk.{IsFirstHit, IsNextHit};
+ghost use Rattle.iddqd_keys.specs.OrderedQuery.{is_up_to, is_within};
 ghost use Rattle.iddqd_keys.specs.Scan.{AnswersScan, IsLive, HasNoHit, passes_by};
 ghost use Rattle.iddqd_map.specs.KeyIndex.{IndexesNone, IsNextOf, IsPlannedForOne, IndexesOneMore, IsRemapOfSome, IndexesCompacted, IndexesAllOf, IsNextReported, FindsSpot, FindsMove, TakesFound};
 
@@ -523,21 +525,69 @@ pub trait FindsWithHashAt<P, T, S>: HashedAt<P, T, S> {
 }
 
 /// A key index with a key by its order at the place `P`, unique or not.
+///
+/// A call that goes along the order may remove items as it goes. So nothing is borrowed between two steps: a spot says
+/// where an index stands, and only `first_between` searches.
 pub trait OrderedAt<P, T, S>: KeyIndex<T, S> {
+    ghost use Rattle.std.specs.Prelude.{ℕ};
+
     /// The key.
     type Key: Ord;
+    /// Where an index stands in the order.
+    type Spot: Drop;
 
     ghost key_at: { T → Self.Key };
 
-    /// The first index whose item has a key within the bounds, by key and then by index.
+    // The index stands at the spot.
+    ghost stands: { Self → Self.Spot → ℕ → Type 0 };
+
+    /// The first index whose item has a key within the bounds, by key and then by index, with its spot.
     fn first_between<Q: OrdQuery<Self::Key>>(
         &self,
         items: &ItemSet<T>,
         state: &S,
         lower: Bound<Q>,
         upper: Bound<Q>,
-    ) -> Option<ItemIndex>
+    ) -> Option<(ItemIndex, Self::Spot)>
         requires indexed { Self.KeyIndex.indexes self.now state.now items.now.store }
-        ensures { let within = is_within Q.compare lower upper in
-            IsFirstHit key_at Self.Key.cmp items.now.store (passes_by key_at within) result };
+        ensures first { let within = is_within Q.compare lower upper in
+            IsFirstHit key_at Self.Key.cmp items.now.store (passes_by key_at within)
+            (option_map (λ (r : ℕ × Self.Spot). r.0) result) }
+        ensures stands { IfSome result (λ r. stands self.now r.1 r.0) };
+
+    /// Moves the spot of a live index to the next one behind it, by key and then by index, and returns that index, if
+    /// its item's key is within the bound.
+    fn next_between<Q: OrdQuery<Self::Key>>(
+        &self,
+        items: &ItemSet<T>,
+        state: &S,
+        spot: &mut Self::Spot,
+        ix: ItemIndex,
+        upper: Bound<Q>,
+    ) -> Option<ItemIndex>
+        requires live { IsLive items.now.store ix }
+        requires indexed { Self.KeyIndex.indexes self.now state.now items.now.store }
+        requires stands { stands self.now spot.old ix }
+        ensures next { IsNextHit key_at Self.Key.cmp items.now.store
+            (passes_by key_at (is_up_to (bound_map Q.compare upper))) ix result }
+        ensures stands { IfSome result (stands self.now spot.new) };
+
+    /// Removes a live index, and moves its spot as `next_between` does. It takes no memory.
+    fn take_between<Q: OrdQuery<Self::Key>>(
+        &mut self,
+        items: &ItemSet<T>,
+        state: &S,
+        spot: &mut Self::Spot,
+        ix: ItemIndex,
+        upper: Bound<Q>,
+    ) -> Option<ItemIndex>
+        requires live { IsLive items.now.store ix }
+        requires indexed { Self.KeyIndex.indexes self.old state.now items.now.store }
+        requires stands { stands self.old spot.old ix }
+        ensures next { IsNextHit key_at Self.Key.cmp items.now.store
+            (passes_by key_at (is_up_to (bound_map Q.compare upper))) ix result }
+        ensures stands { IfSome result (stands self.new spot.new) }
+        ensures indexed { Self.KeyIndex.indexes self.new state.now (removed items.now.store ix) }
+        ensures capacity { Self.KeyIndex.capacity self.new ≡ Self.KeyIndex.capacity self.old }
+        ensures cells { Self.KeyIndex.cells self.new ≡ Self.KeyIndex.cells self.old };
 }

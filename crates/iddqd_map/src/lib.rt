@@ -17,7 +17,6 @@ pub mod id_hash_map;
 pub mod key_index;
 mod linked_steps;
 pub mod map;
-pub mod next_at;
 pub mod no_conflict;
 pub mod pair;
 pub mod pair_conflict;

@@ -567,12 +567,16 @@ where
 impl<P, T, S, A, B, C> OrderedAt<Left<P>, T, S> for Pair<A, B, C>
 where
     A: OrderedAt<P, T, S>,
-    B: KeyIndex<T, S>,
+    B: Removes<T, S>,
     C: ReportsPair<A::Conflict, B::Conflict>,
 {
     type Key = A::Key;
 
+    type Spot = A::Spot;
+
     ghost key_at = { A.OrderedAt.key_at };
+
+    ghost stands = { λ x spot ix. A.OrderedAt.stands x.first spot ix };
 
     fn first_between<Q: OrdQuery<A::Key>>(
         &self,
@@ -580,20 +584,47 @@ where
         state: &S,
         lower: Bound<Q>,
         upper: Bound<Q>,
-    ) -> Option<ItemIndex> {
+    ) -> Option<(ItemIndex, A::Spot)> {
         self.first.first_between(items, state, lower, upper)
+    }
+
+    fn next_between<Q: OrdQuery<A::Key>>(
+        &self,
+        items: &ItemSet<T>,
+        state: &S,
+        spot: &mut A::Spot,
+        ix: ItemIndex,
+        upper: Bound<Q>,
+    ) -> Option<ItemIndex> {
+        self.first.next_between(items, state, spot, ix, upper)
+    }
+
+    fn take_between<Q: OrdQuery<A::Key>>(
+        &mut self,
+        items: &ItemSet<T>,
+        state: &S,
+        spot: &mut A::Spot,
+        ix: ItemIndex,
+        upper: Bound<Q>,
+    ) -> Option<ItemIndex> {
+        self.second.remove(items, state, ix);
+        self.first.take_between(items, state, spot, ix, upper)
     }
 }
 
 impl<P, T, S, A, B, C> OrderedAt<Right<P>, T, S> for Pair<A, B, C>
 where
-    A: KeyIndex<T, S>,
+    A: Removes<T, S>,
     B: OrderedAt<P, T, S>,
     C: ReportsPair<A::Conflict, B::Conflict>,
 {
     type Key = B::Key;
 
+    type Spot = B::Spot;
+
     ghost key_at = { B.OrderedAt.key_at };
+
+    ghost stands = { λ x spot ix. B.OrderedAt.stands x.second spot ix };
 
     fn first_between<Q: OrdQuery<B::Key>>(
         &self,
@@ -601,7 +632,30 @@ where
         state: &S,
         lower: Bound<Q>,
         upper: Bound<Q>,
-    ) -> Option<ItemIndex> {
+    ) -> Option<(ItemIndex, B::Spot)> {
         self.second.first_between(items, state, lower, upper)
+    }
+
+    fn next_between<Q: OrdQuery<B::Key>>(
+        &self,
+        items: &ItemSet<T>,
+        state: &S,
+        spot: &mut B::Spot,
+        ix: ItemIndex,
+        upper: Bound<Q>,
+    ) -> Option<ItemIndex> {
+        self.second.next_between(items, state, spot, ix, upper)
+    }
+
+    fn take_between<Q: OrdQuery<B::Key>>(
+        &mut self,
+        items: &ItemSet<T>,
+        state: &S,
+        spot: &mut B::Spot,
+        ix: ItemIndex,
+        upper: Bound<Q>,
+    ) -> Option<ItemIndex> {
+        self.first.remove(items, state, ix);
+        self.second.take_between(items, state, spot, ix, upper)
     }
 }

@@ -23,7 +23,7 @@ pub use iddqd_keys::{hash_query as hash_query, key_of as key_of, order_query as 
 pub use iddqd_map::{
     bi_hash_map as bi_hash_map, by_hash as by_hash, by_hash_multi as by_hash_multi,
     grouped_at as grouped_at, id_hash_map as id_hash_map, key_index as key_index, map as map,
-    next_at as next_at, no_conflict as no_conflict, pair as pair, pair_conflict as pair_conflict,
+    no_conflict as no_conflict, pair as pair, pair_conflict as pair_conflict,
     refusal as refusal, tri_hash_map as tri_hash_map,
 };
 pub use iddqd_ord_map::{

@@ -24,14 +24,13 @@ use iddqd::internal::{ValidateCompact, ValidateRefusal, ValidationError};
 use iddqd::item_index::ItemIndex;
 use iddqd::item_set::ItemSet;
 use iddqd_by_order::ordered;
-use iddqd_by_order::ordered_next::{first_between, next_between};
+use iddqd_by_order::ordered_next::{first_between, next_between, take_between};
 use iddqd_keys::key_of::{KeyOf, KeyQuery, key_at};
 use iddqd_keys::order_query::OrdQuery;
 use iddqd_map::key_index::{
     Checks, FindsSame, Here, Inserts, KeyIndex, Moves, OrderedAt, Removes, Sizes, TakesQuery,
 };
-use iddqd_map::next_at::NextAt;
-use iddqd_order::btree_table::{Asking, Blocks, Gap, Iter, MapBTreeTable, Range};
+use iddqd_order::btree_table::{Asking, Blocks, Gap, Iter, MapBTreeTable, Range, Spot};
 use std::alloc::{AllocError, Global};
 use std::cmp::Ordering;
 use std::marker::PhantomData;
@@ -456,9 +455,15 @@ where
     E: KeyOf<T>,
     E::Key: Ord,
 {
+    ghost use Rattle.iddqd_order.specs.Spot.{StandsAt};
+
     type Key = E::Key;
 
+    type Spot = Spot;
+
     ghost key_at = { E.key_of };
+
+    ghost stands = { λ x spot ix. StandsAt x.table spot ix };
 
     fn first_between<Q: OrdQuery<E::Key>>(
         &self,
@@ -466,23 +471,29 @@ where
         state: &S,
         lower: Bound<Q>,
         upper: Bound<Q>,
-    ) -> Option<ItemIndex> {
+    ) -> Option<(ItemIndex, Spot)> {
         first_between::<T, E, Q>(&self.table, items, lower, upper)
     }
-}
 
-impl<T, S, E> NextAt<Here, T, S> for ByOrder<E>
-where
-    E: KeyOf<T>,
-    E::Key: Ord,
-{
     fn next_between<Q: OrdQuery<E::Key>>(
         &self,
         items: &ItemSet<T>,
         state: &S,
-        after: ItemIndex,
+        spot: &mut Spot,
+        ix: ItemIndex,
         upper: Bound<Q>,
     ) -> Option<ItemIndex> {
-        next_between::<T, E, Q>(&self.table, items, after, upper)
+        next_between::<T, E, Q>(&self.table, items, spot, upper)
+    }
+
+    fn take_between<Q: OrdQuery<E::Key>>(
+        &mut self,
+        items: &ItemSet<T>,
+        state: &S,
+        spot: &mut Spot,
+        ix: ItemIndex,
+        upper: Bound<Q>,
+    ) -> Option<ItemIndex> {
+        take_between::<T, E, Q>(&mut self.table, items, spot, upper)
     }
 }

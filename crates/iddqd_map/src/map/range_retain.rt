@@ -1,20 +1,21 @@
 //! Calls that ask a closure about each item within bounds of a key, and remove those that it rejects.
 //!
-//! The closure sees each item in place, by key and then by index. The next index is looked up before a rejected item is
-//! removed, so no list of indexes is kept and no memory is taken.
-ghost use Rattle.std.specs.Prelude.{◌≡◌, ◌≤◌, ◌+◌, true, false, Some};
+//! The closure sees each item in place, by key and then by index. A spot in that order says how far the call has come, and
+//! stays good when a rejected item is removed. So there is one search, no list of indexes is kept, and no memory is taken.
+ghost use Rattle.std.specs.Prelude.{◌≡◌, ◌≤◌, ◌+◌, true, false, IfSome, Some};
 ghost use Rattle.std.specs.Fn.{TakesAt, CalledAt};
 ghost use Rattle.iddqd.specs.{get, live_count, removed};
-ghost use Rattle.iddqd_keys.specs.OrderedQuery.{is_equal, is_within};
+ghost use Rattle.std.specs.Range.Bound.{bound_map};
+ghost use Rattle.iddqd_keys.specs.KeyWalk.{IsNextHit};
+ghost use Rattle.iddqd_keys.specs.OrderedQuery.{is_equal, is_up_to, is_within};
 ghost use Rattle.iddqd_keys.specs.Scan.{IsLive, passes_by};
 ghost use Rattle.iddqd_map.specs.KeyIndex.{IsIndexed};
 ghost use Rattle.iddqd_map.specs.Map.{room};
 ghost use Rattle.iddqd_map.specs.RangeRetain.{AsksWithin, KeepsMisses, MayAskWithin, RetainsWithin};
 
 use super::Map;
-use super::steps::take_out;
-use crate::key_index::{KeyIndex, Removes};
-use crate::next_at::NextAt;
+use super::steps::take_out_between;
+use crate::key_index::{KeyIndex, OrderedAt};
 use iddqd::item_index::ItemIndex;
 use iddqd::item_set::ItemSet;
 use iddqd_keys::order_query::OrdQuery;
@@ -25,8 +26,8 @@ impl<T, X: KeyIndex<T, S>, S> Map<T, X, S> {
     /// returns how many it removed.
     ///
     /// The closure is called once at each of them, by key and then by index. Those at which it answers false are
-    /// removed; all other items stay under their indexes. No memory is taken. It costs, for each item that is asked
-    /// about, a search by that key, and for each removed one a removal from each table.
+    /// removed; all other items stay under their indexes. No memory is taken. It costs one search by that key, for each
+    /// item a comparison with the upper bound, and for each removed one a removal from each other table.
     pub fn retain_range_by<P, Q, F: FnMut(&T) -> bool>(
         &mut self,
         lower: Bound<Q>,
@@ -35,7 +36,7 @@ impl<T, X: KeyIndex<T, S>, S> Map<T, X, S> {
     ) -> usize
     where
         T: Drop,
-        X: NextAt<P, T, S> + Removes<T, S>,
+        X: OrderedAt<P, T, S>,
         Q: OrdQuery<X::Key>,
         requires { MayAskWithin X.key_at X.Key.cmp (is_within Q.compare lower upper) (TakesAt F.FnMut)
             (CalledAt F.FnMut) f self.old.store }
@@ -65,7 +66,7 @@ impl<T, X: KeyIndex<T, S>, S> Map<T, X, S> {
     pub fn retain_group_by<P, Q, F: FnMut(&T) -> bool>(&mut self, query: Q, f: F) -> usize
     where
         T: Drop,
-        X: NextAt<P, T, S> + Removes<T, S>,
+        X: OrderedAt<P, T, S>,
         Q: OrdQuery<X::Key>,
         requires { MayAskWithin X.key_at X.Key.cmp (is_equal (Q.compare query)) (TakesAt F.FnMut) (CalledAt F.FnMut) f
             self.old.store }
@@ -92,7 +93,7 @@ fn retain_within<P, T: Drop, S, X, Q, F: FnMut(&T) -> bool>(
     f: &mut F,
 )
 where
-    X: NextAt<P, T, S> + Removes<T, S>,
+    X: OrderedAt<P, T, S>,
     Q: OrdQuery<X::Key>,
     requires indexed { IsIndexed (X.indexes indexes.old) state.now items.old.store }
     requires can_ask { let within = is_within Q.compare lower upper in
@@ -108,28 +109,43 @@ where
     ensures capacity { X.capacity indexes.new ≡ X.capacity indexes.old }
     ensures cells { X.cells indexes.new ≡ X.cells indexes.old }
 {
-    let mut next = indexes.first_between(items, state, lower, upper);
+    let Some((first, mut spot)) = indexes.first_between(items, state, lower, upper) else {
+        return;
+    };
+    let mut next = Some(first);
     while let Some(ix) = next {
-        next = indexes.next_between(items, state, ix, upper);
-        retain_at(items, indexes, state, ix, f);
+        let (_, then) = retain_at::<P, T, S, X, Q, F>(
+            items, indexes, state, &mut spot, ix, upper, f,
+        );
+        next = then;
     }
 }
 
-// Calls the closure at the item at a live index, removes the item if the closure answers false, and returns the answer.
-fn retain_at<T: Drop, S, X: Removes<T, S>, F: FnMut(&T) -> bool>(
+// Calls the closure at the item at a live index, and removes the item if the closure answers false. Returns the answer,
+// and the next index behind it whose item's key is within the bound, to which the spot is moved.
+fn retain_at<P, T: Drop, S, X, Q, F: FnMut(&T) -> bool>(
     items: &mut ItemSet<T>,
     indexes: &mut X,
     state: &S,
+    spot: &mut X::Spot,
     ix: ItemIndex,
+    upper: Bound<Q>,
     f: &mut F,
-) -> bool
+) -> (bool, Option<ItemIndex>)
+where
+    X: OrderedAt<P, T, S>,
+    Q: OrdQuery<X::Key>,
     requires live { IsLive items.old.store ix }
     requires indexed { IsIndexed (X.indexes indexes.old) state.now items.old.store }
+    requires stands { X.stands indexes.old spot.old ix }
     requires takes { (item : T) → get items.old.store ix ≡ Some item → TakesAt F.FnMut f.old item }
-    ensures asked { (item : T) → get items.old.store ix ≡ Some item → CalledAt F.FnMut f.old item result f.new }
+    ensures asked { (item : T) → get items.old.store ix ≡ Some item → CalledAt F.FnMut f.old item result.0 f.new }
+    ensures next { IsNextHit X.key_at X.Key.cmp items.old.store
+        (passes_by X.key_at (is_up_to (bound_map Q.compare upper))) ix result.1 }
+    ensures stands { IfSome result.1 (X.stands indexes.new spot.new) }
     ensures indexed { IsIndexed (X.indexes indexes.new) state.now items.new.store }
-    ensures kept { result ≡ true → items.new ≡ items.old }
-    ensures removed { result ≡ false → items.new ≡ record items.old { store = removed items.old.store ix } }
+    ensures kept { result.0 ≡ true → items.new ≡ items.old }
+    ensures removed { result.0 ≡ false → items.new ≡ record items.old { store = removed items.old.store ix } }
     ensures slots { items.new.capacity ≡ items.old.capacity }
     ensures capacity { X.capacity indexes.new ≡ X.capacity indexes.old }
     ensures cells { X.cells indexes.new ≡ X.cells indexes.old }
@@ -138,8 +154,10 @@ fn retain_at<T: Drop, S, X: Removes<T, S>, F: FnMut(&T) -> bool>(
         Some(item) => f(item),
         None => unreachable!(),
     };
-    if !is_kept {
-        drop(take_out(items, indexes, state, ix));
+    if is_kept {
+        return (is_kept, indexes.next_between(items, state, spot, ix, upper));
     }
-    is_kept
+    let (taken, next) = take_out_between::<P, T, X, S, Q>(items, indexes, state, spot, ix, upper);
+    drop(taken);
+    (is_kept, next)
 }

@@ -1,6 +1,7 @@
 //! Calls that remove the items whose keys are within bounds of an ordered key.
 //!
-//! Each item is found by one search of that order, and removed once from each table. No memory is taken.
+//! One search of that order finds the first item. Then each item is removed from that order where it stands, and from
+//! each other table once. No memory is taken.
 ghost use Rattle.std.specs.Prelude.{◌≡◌, ◌≤◌, ◌+◌, Bool};
 ghost use Rattle.iddqd.specs.{live_count};
 ghost use Rattle.iddqd.specs.LiveItems.{live_items};
@@ -12,8 +13,8 @@ ghost use Rattle.iddqd_map.specs.Map.{capacity, room};
 ghost use Rattle.iddqd_map.specs.Ranges.{LeavesOthers, TakesItem, GivesItem, MayGive, RemovesAlong};
 
 use super::Map;
-use super::steps::take_out;
-use crate::key_index::{KeyIndex, OrderedAt, Removes};
+use super::steps::take_out_between;
+use crate::key_index::{KeyIndex, OrderedAt};
 use iddqd::item_set::ItemSet;
 use iddqd_keys::order_query::OrdQuery;
 use std::ops::Bound;
@@ -21,8 +22,8 @@ use std::ops::Bound;
 impl<T, X: KeyIndex<T, S>, S> Map<T, X, S> {
     /// Removes the items whose keys at the place are within the bounds, and returns how many there were.
     ///
-    /// The closure receives each of them, by key and then by index. No memory is taken. It costs, for each item, a
-    /// search by that key, and a removal from each table.
+    /// The closure receives each of them, by key and then by index. No memory is taken. It costs one search by that key,
+    /// and for each item a comparison with the upper bound and a removal from each other table.
     pub fn remove_range_by<P, Q, F: FnMut(T)>(
         &mut self,
         lower: Bound<Q>,
@@ -30,7 +31,7 @@ impl<T, X: KeyIndex<T, S>, S> Map<T, X, S> {
         mut f: F,
     ) -> usize
     where
-        X: OrderedAt<P, T, S> + Removes<T, S>,
+        X: OrderedAt<P, T, S>,
         Q: OrdQuery<X::Key>,
         requires { MayGive F.FnMut f (live_items self.old.store) }
         ensures left { LeavesOthers self.old.store (passes_by X.key_at (is_within Q.compare lower upper))
@@ -58,7 +59,7 @@ impl<T, X: KeyIndex<T, S>, S> Map<T, X, S> {
     /// receives each of them, by index. Otherwise it behaves as `remove_range_by`.
     pub fn remove_group_by<P, Q, F: FnMut(T)>(&mut self, query: Q, f: F) -> usize
     where
-        X: OrderedAt<P, T, S> + Removes<T, S>,
+        X: OrderedAt<P, T, S>,
         Q: OrdQuery<X::Key>,
         requires { MayGive F.FnMut f (live_items self.old.store) }
         ensures left { LeavesOthers self.old.store (passes_by X.key_at (is_equal (Q.compare query))) self.new.store }
@@ -85,7 +86,7 @@ fn remove_within<P, T, S, X, Q, F: FnMut(T)>(
     f: &mut F,
 )
 where
-    X: OrderedAt<P, T, S> + Removes<T, S>,
+    X: OrderedAt<P, T, S>,
     Q: OrdQuery<X::Key>,
     requires indexed { IsIndexed (X.indexes indexes.old) state.now items.old.store }
     requires can_give { CanAsk (TakesItem F.FnMut) (λ p x (b : Bool) q. GivesItem F.FnMut p x q) f.old
@@ -101,10 +102,18 @@ where
     ensures capacity { X.capacity indexes.new ≡ X.capacity indexes.old }
     ensures cells { X.cells indexes.new ≡ X.cells indexes.old }
 {
-    while let Some(ix) = indexes.first_between(items, state, lower, upper) {
-        match take_out(items, indexes, state, ix) {
+    let Some((first, mut spot)) = indexes.first_between(items, state, lower, upper) else {
+        return;
+    };
+    let mut next = Some(first);
+    while let Some(ix) = next {
+        let (taken, then) = take_out_between::<P, T, X, S, Q>(
+            items, indexes, state, &mut spot, ix, upper,
+        );
+        match taken {
             Some(item) => f(item),
             None => unreachable!(),
         }
+        next = then;
     }
 }

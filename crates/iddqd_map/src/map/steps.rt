@@ -1,13 +1,18 @@
 //! What a map's store and its key index do together in one step.
-ghost use Rattle.std.specs.Prelude.{◌≡◌, ◌≢◌, ◌+◌, ◌<◌, ◌≤◌, length, Some, None, slice_get, slice_set};
+ghost use Rattle.std.specs.Prelude.{◌≡◌, ◌≢◌, ◌+◌, ◌<◌, ◌≤◌, length, IfSome, Some, None, slice_get, slice_set};
+ghost use Rattle.std.specs.Range.Bound.{bound_map};
 ghost use Rattle.iddqd.specs.{get, next_index, inserted, removed, room, sentinel};
-ghost use Rattle.iddqd_keys.specs.Scan.{IsLive};
+ghost use Rattle.iddqd_keys.specs.KeyWalk.{IsNextHit};
+ghost use Rattle.iddqd_keys.specs.OrderedQuery.{is_up_to};
+ghost use Rattle.iddqd_keys.specs.Scan.{IsLive, passes_by};
 ghost use Rattle.iddqd_map.specs.KeyIndex.{IsIndexed};
 
-use crate::key_index::Removes;
+use crate::key_index::{OrderedAt, Removes};
 use iddqd::item_index::ItemIndex;
 use iddqd::item_set::ItemSet;
+use iddqd_keys::order_query::OrdQuery;
 use std::mem;
+use std::ops::Bound;
 
 /// Removes the item at a live index from the store, and its index from the key index. It takes no memory.
 pub(super) fn take_out<T, X: Removes<T, S>, S>(
@@ -27,6 +32,32 @@ pub(super) fn take_out<T, X: Removes<T, S>, S>(
 {
     indexes.remove(items, state, ix);
     items.remove(ix)
+}
+
+/// Removes the item at a live index as `take_out` does, and moves its spot to the next index behind it whose item's key is
+/// within the bound. Returns the item and that index.
+pub(super) fn take_out_between<P, T, X: OrderedAt<P, T, S>, S, Q: OrdQuery<X::Key>>(
+    items: &mut ItemSet<T>,
+    indexes: &mut X,
+    state: &S,
+    spot: &mut X::Spot,
+    ix: ItemIndex,
+    upper: Bound<Q>,
+) -> (Option<T>, Option<ItemIndex>)
+    requires live { IsLive items.old.store ix }
+    requires map { IsIndexed (X.indexes indexes.old) state.now items.old.store }
+    requires stands { X.stands indexes.old spot.old ix }
+    ensures value { result.0 ≡ get items.old.store ix }
+    ensures next { IsNextHit X.key_at X.Key.cmp items.old.store
+        (passes_by X.key_at (is_up_to (bound_map Q.compare upper))) ix result.1 }
+    ensures stands { IfSome result.1 (X.stands indexes.new spot.new) }
+    ensures map { IsIndexed (X.indexes indexes.new) state.now items.new.store }
+    ensures removed { items.new ≡ record items.old { store = removed items.old.store ix } }
+    ensures capacity { X.capacity indexes.new ≡ X.capacity indexes.old }
+    ensures cells { X.cells indexes.new ≡ X.cells indexes.old }
+{
+    let next = indexes.take_between(items, state, spot, ix, upper);
+    (items.remove(ix), next)
 }
 
 /// The index that the next item gets. There is room for one.

@@ -1,8 +1,9 @@
-use Rattle.std.proofs.Common.{◌≡◌, ◌≢◌, ◌∙◌, true, false, refl, sym, ap, subst, arith}
+use Rattle.std.proofs.Common.{ℕ, None, Some, ◌≡◌, ◌≢◌, ◌∙◌, true, false, refl, sym, ap, subst, arith}
 use Rattle.std.specs.Fn.{TakesAt, CalledAt}
 use Rattle.std.specs.Range.Bound.{bound_map}
 use Rattle.iddqd.specs.ItemSet.{SizedStore}
 use Rattle.iddqd.specs.Store.{get, removed}
+use Rattle.iddqd_keys.specs.KeyWalk.{IsFirstHit}
 use Rattle.iddqd_keys.specs.OrderedQuery.{is_between}
 use Rattle.iddqd_keys.specs.Scan.{IsHit, passes_by}
 use Rattle.iddqd_keys.proofs.NextLemmas.{IsNextHit-between}
@@ -15,13 +16,15 @@ loop-next-init g c =
     let key_at = g.X.OrderedAt.key_at in
     let compare = g.X.Key.Ord.cmp in
     let within = is_between (bound_map g.Q.OrdQuery.compare c.args.lower) (bound_map g.Q.OrdQuery.compare c.args.upper) in
-    let first = c.first_between-next.ensures in
+    let ix : ℕ = c.in-Some.first-1-given.0.0.0 in
+    let first : IsFirstHit key_at compare s (passes_by key_at within) (Some ix) = c.in-Some.ensures.first in
     record {
       kept = c.requires.indexed;
-      can = λ n. c.requires.can_ask.at n c.first_between-next.result first;
+      stands = c.in-Some.ensures.stands;
+      can = λ n. c.requires.can_ask.at n (Some ix) first;
       among = λ j x there. there;
-      passing = first_passes key_at compare s (passes_by key_at within) c.first_between-next.result first;
-      retains = λ new last. RetainsWithin-from key_at compare g.met.X.Key.Ord.total within (CalledAt g.F.FnMut) c.args.f.now s new last c.first_between-next.result first;
+      passing = first_passes key_at compare s (passes_by key_at within) (Some ix) first;
+      retains = λ new last. RetainsWithin-from key_at compare g.met.X.Key.Ord.total within (CalledAt g.F.FnMut) c.args.f.now s new last (Some ix) first;
       others = λ j other. refl;
       fewer = omega arith;
       limit = refl;
@@ -35,25 +38,25 @@ retain_at-requires-clause-takes g c = λ item live.
     let key_at = g.X.OrderedAt.key_at in
     let compare = g.X.Key.Ord.cmp in
     let within = is_between (bound_map g.Q.OrdQuery.compare c.args.lower) (bound_map g.Q.OrdQuery.compare c.args.upper) in
-    takes-at key_at compare within (TakesAt g.F.FnMut) (CalledAt g.F.FnMut) c.loop-next.items.store c.loop-next.f c.loop-next.next c.in-Some.ix item c.loop-next.invariant.can c.in-Some.is live
+    takes-at key_at compare within (TakesAt g.F.FnMut) (CalledAt g.F.FnMut) c.loop-next.items.store c.loop-next.f c.loop-next.next c.in-Some-next.ix item c.loop-next.invariant.can c.in-Some-next.is live
 
 pub loop-next-smaller : goal.loop-next-smaller
 loop-next-smaller g c =
     let i = c.loop-next.invariant in
     let s = c.loop-next.items.store in
     let now = c.retain_at.new.items.store in
-    let ix = c.in-Some.ix in
+    let ix = c.in-Some-next.ix in
     let did = c.retain_at.ensures in
     let key_at = g.X.OrderedAt.key_at in
     let compare = g.X.Key.Ord.cmp in
     let cmp = g.Q.OrdQuery.compare in
     let within = is_between (bound_map cmp c.args.lower) (bound_map cmp c.args.upper) in
-    let next = c.next_between-next.result in
-    let hit : IsHit s (passes_by key_at within) ix = i.passing ix c.in-Some.is in
-    let is = IsNextHit-between key_at compare cmp g.met.Q.OrdQuery.lawful s ix c.args.lower c.args.upper next hit c.next_between-next.ensures in
-    let smaller = to_ask-asked key_at compare g.met.X.Key.Ord.total within (CalledAt g.F.FnMut) c.loop-next.f c.retain_at.new.f c.retain_at.new.f s now ix hit.0 next hit.1 hit.2 is now c.retain_at.result
+    let next = c.retain_at.result.1 in
+    let hit : IsHit s (passes_by key_at within) ix = i.passing ix c.in-Some-next.is in
+    let is = IsNextHit-between key_at compare cmp g.met.Q.OrdQuery.lawful s ix c.args.lower c.args.upper next hit did.next in
+    let smaller = to_ask-asked key_at compare g.met.X.Key.Ord.total within (CalledAt g.F.FnMut) c.loop-next.f c.retain_at.new.f c.retain_at.new.f s now ix hit.0 next hit.1 hit.2 is now c.retain_at.result.0
     (λ yes. ap (λ (z : SizedStore _). z.store) (did.kept yes)) (λ other. ap (λ (z : SizedStore _). z.store) (did.removed other)) (did.asked hit.0 hit.1) in
-    rw (← c.in-Some.is) at smaller
+    rw (← c.in-Some-next.is) at smaller
 
 pub loop-next-preserved : goal.loop-next-preserved
 loop-next-preserved g c =
@@ -63,31 +66,32 @@ loop-next-preserved g c =
     let now = c.retain_at.new.items.store in
     let f = c.loop-next.f in
     let after = c.retain_at.new.f in
-    let ix = c.in-Some.ix in
+    let ix = c.in-Some-next.ix in
     let did = c.retain_at.ensures in
-    let b = c.retain_at.result in
+    let b = c.retain_at.result.0 in
     let key_at = g.X.OrderedAt.key_at in
     let compare = g.X.Key.Ord.cmp in
     let total = g.met.X.Key.Ord.total in
     let cmp = g.Q.OrdQuery.compare in
     let ask = CalledAt g.F.FnMut in
     let within = is_between (bound_map cmp c.args.lower) (bound_map cmp c.args.upper) in
-    let next = c.next_between-next.result in
-    let hit : IsHit s (passes_by key_at within) ix = i.passing ix c.in-Some.is in
+    let next = c.retain_at.result.1 in
+    let hit : IsHit s (passes_by key_at within) ix = i.passing ix c.in-Some-next.is in
     let (item, live, passes) = hit in
-    let is = IsNextHit-between key_at compare cmp g.met.Q.OrdQuery.lawful s ix c.args.lower c.args.upper next hit c.next_between-next.ensures in
+    let is = IsNextHit-between key_at compare cmp g.met.Q.OrdQuery.lawful s ix c.args.lower c.args.upper next hit did.next in
     let kept : b ≡ true → now ≡ s = λ yes. ap (λ (z : SizedStore _). z.store) (did.kept yes) in
     let gone : b ≡ false → now ≡ removed s ix = λ other. ap (λ (z : SizedStore _). z.store) (did.removed other) in
     let asked = did.asked item live in
     let was = i.among ix item live in
     record {
       kept = did.indexed;
-      can = AsksFrom-asked key_at compare within (TakesAt g.F.FnMut) ask total s ix item live f after c.loop-next.next next now b i.can c.in-Some.is asked is kept gone;
+      stands = did.stands;
+      can = AsksFrom-asked key_at compare within (TakesAt g.F.FnMut) ask total s ix item live f after c.loop-next.next next now b i.can c.in-Some-next.is asked is kept gone;
       among = λ j x there. i.among j x (live_then key_at compare total within ask f after after s now ix item next live passes is now b kept gone asked j x there);
       passing = next_passes key_at compare total within ask f after after s now ix item next live passes is now b kept gone asked;
       retains = λ new last from.
           let then = RetainsFrom-asked key_at compare total within ask f after last s new ix item next live passes is now b kept gone asked from in
-          i.retains new last (subst (λ n. RetainsFrom key_at compare total within ask f s n new last) (sym c.in-Some.is) then);
+          i.retains new last (subst (λ n. RetainsFrom key_at compare total within ask f s n new last) (sym c.in-Some-next.is) then);
       others = λ j other.
           let apart : j ≢ ix = λ same. other (item, ap (get old) same ∙ was, passes) in
           others_stay key_at compare total within ask f after after s now ix item next live passes is now b kept gone asked j apart ∙ i.others j other;
@@ -105,4 +109,14 @@ returns-clause-asked g c =
     let compare = g.X.Key.Ord.cmp in
     let within = is_between (bound_map g.Q.OrdQuery.compare c.args.lower) (bound_map g.Q.OrdQuery.compare c.args.upper) in
     let none = RetainsFrom-none key_at compare g.met.X.Key.Ord.total within (CalledAt g.F.FnMut) c.loop-next.f c.loop-next.items.store in
-    i.retains c.loop-next.items.store c.loop-next.f (subst (λ n. RetainsFrom key_at compare g.met.X.Key.Ord.total within (CalledAt g.F.FnMut) c.loop-next.f c.loop-next.items.store n c.loop-next.items.store c.loop-next.f) (sym c.in_default.is) none)
+    i.retains c.loop-next.items.store c.loop-next.f (subst (λ n. RetainsFrom key_at compare g.met.X.Key.Ord.total within (CalledAt g.F.FnMut) c.loop-next.f c.loop-next.items.store n c.loop-next.items.store c.loop-next.f) (sym c.in_default-next.is) none)
+
+pub returns-in_default-clause-asked : goal.returns-in_default-clause-asked
+returns-in_default-clause-asked g c =
+    let s = c.args.items.now.store in
+    let key_at = g.X.OrderedAt.key_at in
+    let compare = g.X.Key.Ord.cmp in
+    let total = g.met.X.Key.Ord.total in
+    let within = is_between (bound_map g.Q.OrdQuery.compare c.args.lower) (bound_map g.Q.OrdQuery.compare c.args.upper) in
+    let ask = CalledAt g.F.FnMut in
+    RetainsWithin-from key_at compare total within ask c.args.f.now s s c.args.f.now None c.in_default.ensures.first (RetainsFrom-none key_at compare total within ask c.args.f.now s)

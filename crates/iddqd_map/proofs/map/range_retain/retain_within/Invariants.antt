@@ -1,4 +1,4 @@
-use Rattle.std.proofs.Common.{◌≡◌, ◌≤◌, ℕ, Some}
+use Rattle.std.proofs.Common.{◌≡◌, ◌≤◌, ℕ, IfSome, Some}
 use Rattle.std.specs.Fn.{TakesAt, CalledAt}
 use Rattle.std.specs.Range.Bound.{bound_map}
 use Rattle.iddqd.specs.Store.{Store, get, live_count}
@@ -17,6 +17,7 @@ invariant-loop-next g l =
     let within = is_between (bound_map g.Q.OrdQuery.compare l.fn.lower) (bound_map g.Q.OrdQuery.compare l.fn.upper) in
     record {
       kept : IsIndexed (g.X.KeyIndex.indexes l.indexes) l.fn.state l.items.store;
+      stands : IfSome l.next (g.X.OrderedAt.stands l.indexes l.spot);
       can : (n : ℕ)
           → AsksFrom key_at compare within (TakesAt g.F.FnMut) (CalledAt g.F.FnMut) l.items.store n l.f l.next;
       among : (j : ℕ) (x : _) → get l.items.store j ≡ Some x → get l.fn.items.store j ≡ Some x;

@@ -1,50 +1,71 @@
-use Rattle.std.proofs.Common.{◌≡◌, ◌∙◌, Bool, true, Some, sym, ap, arith}
+use Rattle.std.proofs.Common.{IfSome, None, Option, ℕ, refl, subst, ◌≡◌, ◌∙◌, Bool, true, Some, sym, ap, arith}
 use Rattle.std.specs.Range.Bound.{bound_map}
 use Rattle.iddqd.specs.Store.{get}
 use Rattle.iddqd.specs.ItemSet.{SizedStore}
 use Rattle.iddqd.specs.LiveItems.{live_items}
 use Rattle.iddqd_hash.proofs.AskLemmas.{CanAsk-takes, CanAsk-asked}
+use Rattle.iddqd_keys.specs.KeyWalk.{IsFirstHit}
 use Rattle.iddqd_keys.specs.OrderedQuery.{is_between}
 use Rattle.iddqd_keys.specs.Scan.{passes_by}
+use Rattle.iddqd_keys.proofs.NextLemmas.{IsNextHit-between}
 use Rattle.iddqd_keys.proofs.ScanLemmas.{live_before}
 use Rattle.iddqd_map.specs.Ranges.{TakesItem, GivesItem}
 use Rattle.iddqd_map.proofs.GroupLemmas.{LeavesOthers-none, LeavesOthers-hit}
-use Rattle.iddqd_map.proofs.RangeLemmas.{live_count-removed, RemovesAlong-none, RemovesAlong-first}
+use Rattle.iddqd_map.proofs.RangeLemmas.{IsFirstHit-removed, live_count-removed, RemovesAlong-none, RemovesAlong-first}
 use Rattle.iddqd_map.proofs.RetainLemmas.{Contains-live}
 use Rattle.iddqd_map.proofs.map.ranges.remove_within.Goals as goal
 
+-- none is within
+pub returns-in_default-clause-left : goal.returns-in_default-clause-left
+returns-in_default-clause-left g c =
+    let within = is_between (bound_map g.Q.OrdQuery.compare c.args.lower) (bound_map g.Q.OrdQuery.compare c.args.upper) in
+    LeavesOthers-none (passes_by g.X.OrderedAt.key_at within) c.args.items.now.store c.in_default.ensures.first
+
+pub returns-in_default-clause-handed : goal.returns-in_default-clause-handed
+returns-in_default-clause-handed g c =
+    let within = is_between (bound_map g.Q.OrdQuery.compare c.args.lower) (bound_map g.Q.OrdQuery.compare c.args.upper) in
+    RemovesAlong-none g.X.OrderedAt.key_at g.X.Key.Ord.cmp g.met.X.Key.Ord.total within (GivesItem g.F.FnMut) c.args.f.now c.args.items.now.store c.in_default.ensures.first
+
 pub f-requires : goal.f-requires
 f-requires g c =
-    let i = c.loop-ix.invariant in
+    let i = c.loop-next.invariant in
     let old = c.args.items.now.store in
-    let item = c.in-Some-take_out.item in
-    let live : get c.loop-ix.items.store c.in-Some.ix ≡ Some item = sym c.in-Some-take_out.ensures.value in
-    CanAsk-takes (TakesItem g.F.FnMut) (λ p x (b : Bool) q. GivesItem g.F.FnMut p x q) c.loop-ix.f (live_items old) item i.can
-    (Contains-live old c.in-Some.ix item (i.among c.in-Some.ix item live))
+    let ix = c.in-Some-next.ix in
+    let item = c.in-Some-taken.item in
+    let live : get c.loop-next.items.store ix ≡ Some item = sym c.take_out_between-taken.ensures.value ∙ c.in-Some-taken.is in
+    CanAsk-takes (TakesItem g.F.FnMut) (λ p x (b : Bool) q. GivesItem g.F.FnMut p x q) c.loop-next.f (live_items old) item i.can
+    (Contains-live old ix item (i.among ix item live))
 
-pub loop-ix-preserved : goal.loop-ix-preserved
-loop-ix-preserved g c =
-    let i = c.loop-ix.invariant in
+pub loop-next-preserved : goal.loop-next-preserved
+loop-next-preserved g c =
+    let i = c.loop-next.invariant in
     let old = c.args.items.now.store in
-    let now = c.loop-ix.items.store in
-    let ix = c.in-Some.ix in
-    let item = c.in-Some-take_out.item in
-    let did = c.in-Some-take_out.ensures in
-    let live : get now ix ≡ Some item = sym did.value in
+    let now = c.loop-next.items.store in
+    let ix = c.in-Some-next.ix in
+    let item = c.in-Some-taken.item in
+    let did = c.take_out_between-taken.ensures in
+    let live : get now ix ≡ Some item = sym did.value ∙ c.in-Some-taken.is in
     let gone = ap (λ (s : SizedStore _). s.store) did.removed in
     let key_at = g.X.OrderedAt.key_at in
     let compare = g.X.Key.Ord.cmp in
     let total = g.met.X.Key.Ord.total in
-    let within = is_between (bound_map g.Q.OrdQuery.compare c.args.lower) (bound_map g.Q.OrdQuery.compare c.args.upper) in
+    let cmp = g.Q.OrdQuery.compare in
+    let within = is_between (bound_map cmp c.args.lower) (bound_map cmp c.args.upper) in
+    let hits = passes_by key_at within in
+    let then = c.take_out_between-taken.result.1 in
+    let first : IsFirstHit key_at compare now hits (Some ix) = subst (IsFirstHit key_at compare now hits) c.in-Some-next.is i.first in
+    let next = IsNextHit-between key_at compare cmp g.met.Q.OrdQuery.lawful now ix c.args.lower c.args.upper then first.0 did.next in
     record {
       kept = did.map;
-      can = CanAsk-asked (TakesItem g.F.FnMut) (λ p x (b : Bool) q. GivesItem g.F.FnMut p x q) c.loop-ix.f (live_items old) item true c.f.new.self i.can
+      first = rw gone (IsFirstHit-removed key_at compare total now hits ix item live first then next);
+      stands = did.stands;
+      can = CanAsk-asked (TakesItem g.F.FnMut) (λ p x (b : Bool) q. GivesItem g.F.FnMut p x q) c.loop-next.f (live_items old) item true c.f.new.self i.can
           (Contains-live old ix item (i.among ix item live)) c.f.ensures;
       among = λ j x there. i.among j x (live_before now ix j item x live (rw gone at there)).1;
-      leaves = λ new left. i.leaves new (LeavesOthers-hit (passes_by key_at within) now ix c.in-Some.ensures.0 _ new gone left);
+      leaves = λ new left. i.leaves new (LeavesOthers-hit hits now ix first.0 _ new gone left);
       removes = λ new last along.
           i.removes new last
-          (RemovesAlong-first key_at compare total within (GivesItem g.F.FnMut) c.loop-ix.f c.f.new.self last now _ new ix item c.in-Some.ensures live gone c.f.ensures along);
+          (RemovesAlong-first key_at compare total within (GivesItem g.F.FnMut) c.loop-next.f c.f.new.self last now _ new ix item first live gone c.f.ensures along);
       fewer = omega (arith, i.fewer, live_count-removed now _ ix gone i.kept.valid did.map.valid);
       limit = ap (λ (s : SizedStore _). s.store.limit) did.removed ∙ i.limit;
       slots = ap (λ (s : SizedStore _). s.capacity) did.removed ∙ i.slots;
@@ -54,11 +75,17 @@ loop-ix-preserved g c =
 
 pub returns-clause-left : goal.returns-clause-left
 returns-clause-left g c =
-    let within = is_between (bound_map g.Q.OrdQuery.compare c.args.lower) (bound_map g.Q.OrdQuery.compare c.args.upper) in
-    c.loop-ix.invariant.leaves c.loop-ix.items.store (LeavesOthers-none (passes_by g.X.OrderedAt.key_at within) c.loop-ix.items.store c.in_default.ensures)
+    let i = c.loop-next.invariant in
+    let hits = passes_by g.X.OrderedAt.key_at (is_between (bound_map g.Q.OrdQuery.compare c.args.lower) (bound_map g.Q.OrdQuery.compare c.args.upper)) in
+    let s = c.loop-next.items.store in
+    let none = subst (IsFirstHit g.X.OrderedAt.key_at g.X.Key.Ord.cmp s hits) c.in_default-next.is i.first in
+    i.leaves s (LeavesOthers-none hits s none)
 
 pub returns-clause-handed : goal.returns-clause-handed
 returns-clause-handed g c =
+    let i = c.loop-next.invariant in
     let within = is_between (bound_map g.Q.OrdQuery.compare c.args.lower) (bound_map g.Q.OrdQuery.compare c.args.upper) in
-    c.loop-ix.invariant.removes c.loop-ix.items.store c.loop-ix.f
-    (RemovesAlong-none g.X.OrderedAt.key_at g.X.Key.Ord.cmp g.met.X.Key.Ord.total within (GivesItem g.F.FnMut) c.loop-ix.f c.loop-ix.items.store c.in_default.ensures)
+    let s = c.loop-next.items.store in
+    let none = subst (IsFirstHit g.X.OrderedAt.key_at g.X.Key.Ord.cmp s (passes_by g.X.OrderedAt.key_at within)) c.in_default-next.is i.first in
+    i.removes s c.loop-next.f
+    (RemovesAlong-none g.X.OrderedAt.key_at g.X.Key.Ord.cmp g.met.X.Key.Ord.total within (GivesItem g.F.FnMut) c.loop-next.f s none)

@@ -1,8 +1,9 @@
-use Rattle.std.proofs.Common.{◌≡◌, ◌≤◌, ℕ, Bool, Some}
+use Rattle.std.proofs.Common.{◌≡◌, ◌≤◌, ℕ, Bool, IfSome, Some}
 use Rattle.std.specs.Range.Bound.{bound_map}
 use Rattle.iddqd.specs.LiveItems.{live_items}
 use Rattle.iddqd.specs.Store.{Store, get, live_count}
 use Rattle.iddqd_hash.specs.Asks.{CanAsk}
+use Rattle.iddqd_keys.specs.KeyWalk.{IsFirstHit}
 use Rattle.iddqd_keys.specs.OrderedQuery.{is_between}
 use Rattle.iddqd_keys.specs.Scan.{passes_by}
 use Rattle.iddqd_map.specs.KeyIndex.{IsIndexed}
@@ -10,13 +11,15 @@ use Rattle.iddqd_map.specs.Ranges.{LeavesOthers, RemovesAlong, TakesItem, GivesI
 use Rattle.iddqd_map.proofs.map.ranges.remove_within.Given as goal
 
 -- what the calls that are still to come leave is what all of them leave
-abbrev pub invariant-loop-ix : goal.invariant-loop-ix
-invariant-loop-ix g l =
+abbrev pub invariant-loop-next : goal.invariant-loop-next
+invariant-loop-next g l =
     let key_at = g.X.OrderedAt.key_at in
     let compare = g.X.Key.Ord.cmp in
     let within = is_between (bound_map g.Q.OrdQuery.compare l.fn.lower) (bound_map g.Q.OrdQuery.compare l.fn.upper) in
     record {
       kept : IsIndexed (g.X.KeyIndex.indexes l.indexes) l.fn.state l.items.store;
+      first : IsFirstHit key_at compare l.items.store (passes_by key_at within) l.next;
+      stands : IfSome l.next (g.X.OrderedAt.stands l.indexes l.spot);
       can : CanAsk (TakesItem g.F.FnMut) (λ p x (b : Bool) q. GivesItem g.F.FnMut p x q) l.f
           (live_items l.fn.items.store);
       among : (j : ℕ) (x : _) → get l.items.store j ≡ Some x → get l.fn.items.store j ≡ Some x;
@@ -32,5 +35,5 @@ invariant-loop-ix g l =
       cells : g.X.KeyIndex.cells l.indexes ≡ g.X.KeyIndex.cells l.fn.indexes;
     }
 
-abbrev pub decreases-loop-ix : goal.decreases-loop-ix
-decreases-loop-ix g l = live_count l.items.store
+abbrev pub decreases-loop-next : goal.decreases-loop-next
+decreases-loop-next g l = live_count l.items.store
