@@ -4,18 +4,17 @@
 //! It is for a caller that goes along the table and changes or removes items as it goes. An iterator would borrow the
 //! table and the store all the while; here nothing is borrowed between two steps. A spot of the table says how far the
 //! caller has come, so that only the first step searches.
-ghost use Rattle.std.specs.Prelude.{◌≡◌, ℕ, IfSome};
-ghost use Rattle.std.specs.Option.{option_map};
+ghost use Rattle.std.specs.Prelude.{◌≡◌, IfSome};
 ghost use Rattle.std.specs.Range.Bound.{bound_map};
 ghost use Rattle.std.specs.declared.ops.Bound.{Bound};
 ghost use Rattle.iddqd_order.specs.{capacity, order_of, without};
 ghost use Rattle.iddqd_order.specs.MapBTreeTable.{IsSpot};
 ghost use Rattle.iddqd_order.specs.Spot.{StandsAt, spot_index};
-ghost use Rattle.iddqd_order.specs.declared.btree_table.spot.Spot.{Spot as SpotOf};
-ghost use Rattle.iddqd_keys.specs.KeyWalk.{IsFirstHit, IsNextHit};
+ghost use Rattle.iddqd_keys.specs.KeyWalk.{IsNextHit};
 ghost use Rattle.iddqd_keys.specs.OrderedQuery.{is_up_to, is_within};
 ghost use Rattle.iddqd_keys.specs.Scan.{IsKeyAt, IsLive, passes_by};
 ghost use Rattle.iddqd_by_order.specs.Ordered.{IsSortedScan};
+ghost use Rattle.iddqd_by_order.specs.OrderedWalk.{FindsFirst};
 
 use crate::ordered::by_borrowed_key;
 use iddqd::item_index::ItemIndex;
@@ -42,8 +41,7 @@ where
     Q: OrdQuery<E::Key>,
     requires { IsSortedScan E.key_of E.Key.cmp items.now.store (order_of table.now) }
     ensures first { let within = is_within Q.compare lower upper in
-        IsFirstHit E.key_of E.Key.cmp items.now.store (passes_by E.key_of within)
-        (option_map (λ (r : ℕ × SpotOf). r.0) result) }
+        FindsFirst E.key_of E.Key.cmp within items.now.store result }
     ensures spot { IfSome result (λ r. StandsAt table.now r.1 r.0) }
 {
     let (first, spot) = first_from::<T, E, Q>(table, items, lower)?;
@@ -66,8 +64,7 @@ where
     Q: OrdQuery<E::Key>,
     requires { IsSortedScan E.key_of E.Key.cmp items.now.store (order_of table.now) }
     ensures first { let from = is_within Q.compare lower Bound.Unbounded in
-        IsFirstHit E.key_of E.Key.cmp items.now.store (passes_by E.key_of from)
-        (option_map (λ (r : ℕ × SpotOf). r.0) result) }
+        FindsFirst E.key_of E.Key.cmp from items.now.store result }
     ensures spot { IfSome result (λ r. StandsAt table.now r.1 r.0) }
 {
     let mut asking = Asking::new(
@@ -108,8 +105,8 @@ where
     }
 }
 
-/// Removes the index at the spot from the table, and moves the spot as `next_between` does. The store still has the item
-/// at the index.
+/// Removes the index at the spot from the table, and moves the spot as `next_between` does. The store still has the
+/// item at the index.
 ///
 /// It is one comparison by the upper bound, and takes no memory.
 pub fn take_between<T, E, Q>(

@@ -89,7 +89,8 @@ module _ (h : ℕ) (ne : h ≢ 0) where
       → All (λ k. IsFormed h k) ks
       → q ≤ length (row (get_or ks i d))
       → j ≡ gaps_before i ks + q
-      → length (before i xs (lists h ks)) + length (before q (row (get_or ks i d)) (lists (h - 1) (children (get_or ks i d))))
+      → length (before i xs (lists h ks))
+      + length (before q (row (get_or ks i d)) (lists (h - 1) (children (get_or ks i d))))
       ≡ length (before j (joined_rows xs ks) (lists (h - 1) (all_children ks)))
   inner-gap i q j xs [] d one lt f le at = absurd (omega arith)
   inner-gap zero q j [] (k ∷ []) d one lt f le at =
@@ -201,7 +202,8 @@ module _
     (leads : LeadsBelow h ks p)
     (here : slice_index q h < length ls)
     (within : (d : Node) → slice_index q (h - 1) ≤ length (row (get_or ls (slice_index q h) d)))
-    (number : gaps_before (slice_index q h) ls + slice_index q (h - 1) ≡ gaps_before (slice_index p h) ks + slice_index p (h - 1))
+    (number : gaps_before (slice_index q h) ls + slice_index q (h - 1)
+    ≡ gaps_before (slice_index p h) ks + slice_index p (h - 1))
     (lower : (m : ℕ) → m < h - 1 → slice_index q m ≡ slice_index p m)
   where
     in-leaves : h - 1 ≡ 0 → LeadsAlike h xs ys ks ls p q

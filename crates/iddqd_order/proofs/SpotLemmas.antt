@@ -83,7 +83,8 @@ pub spot-read :
     (r : Option Node) (h l : ℕ) (p : List ℕ)
     → IsTree r h
     → ReachesIndexIn l r h p
-    → slice_get (in_order r h) (place_at_level_in l r h p) ≡ Some (slice_index (in_order r h) (place_at_level_in l r h p))
+    → slice_get (in_order r h) (place_at_level_in l r h p)
+    ≡ Some (slice_index (in_order r h) (place_at_level_in l r h p))
 spot-read r h l p t w =
     slice_get-get_or (in_order r h) (place_at_level_in l r h p) 0 (place_at_level_in-within AtIndex l r h p t w)
 

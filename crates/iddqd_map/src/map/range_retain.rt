@@ -1,7 +1,7 @@
 //! Calls that ask a closure about each item within bounds of a key, and remove those that it rejects.
 //!
-//! The closure sees each item in place, by key and then by index. A spot in that order says how far the call has come, and
-//! stays good when a rejected item is removed. So there is one search, no list of indexes is kept, and no memory is taken.
+//! The closure sees each item in place, by key and then by index. A spot in that order says how far the call has come,
+//! also where a rejected item was removed. So there is one search, no list of indexes is kept, and no memory is taken.
 ghost use Rattle.std.specs.Prelude.{◌≡◌, ◌≤◌, ◌+◌, true, false, IfSome, Some};
 ghost use Rattle.std.specs.Fn.{TakesAt, CalledAt};
 ghost use Rattle.iddqd.specs.{get, live_count, removed};

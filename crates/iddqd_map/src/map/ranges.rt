@@ -22,8 +22,8 @@ use std::ops::Bound;
 impl<T, X: KeyIndex<T, S>, S> Map<T, X, S> {
     /// Removes the items whose keys at the place are within the bounds, and returns how many there were.
     ///
-    /// The closure receives each of them, by key and then by index. No memory is taken. It costs one search by that key,
-    /// and for each item a comparison with the upper bound and a removal from each other table.
+    /// The closure receives each of them, by key and then by index. No memory is taken. It costs one search by that
+    /// key, and for each item a comparison with the upper bound and a removal from each other table.
     pub fn remove_range_by<P, Q, F: FnMut(T)>(
         &mut self,
         lower: Bound<Q>,

@@ -34,8 +34,8 @@ pub(super) fn take_out<T, X: Removes<T, S>, S>(
     items.remove(ix)
 }
 
-/// Removes the item at a live index as `take_out` does, and moves its spot to the next index behind it whose item's key is
-/// within the bound. Returns the item and that index.
+/// Removes the item at a live index as `take_out` does, and moves its spot to the next index behind it whose item's key
+/// is within the bound. Returns the item and that index.
 pub(super) fn take_out_between<P, T, X: OrderedAt<P, T, S>, S, Q: OrdQuery<X::Key>>(
     items: &mut ItemSet<T>,
     indexes: &mut X,

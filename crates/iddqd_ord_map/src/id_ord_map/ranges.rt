@@ -17,8 +17,8 @@ use std::ops::Bound;
 impl<T: IdOrdItem> IdOrdMap<T> {
     /// Removes the items whose keys are within the bounds, and returns how many there were.
     ///
-    /// The closure receives each of them, by key. It takes no memory. It costs, for each item, a search and a removal
-    /// from the table, and a search at the end.
+    /// The closure receives each of them, by key. It takes no memory. It costs one search, and for each item a
+    /// comparison with the upper bound.
     pub fn remove_range<Q: OrdQuery<T::Key>, F: FnMut(T)>(
         &mut self,
         lower: Bound<Q>,
@@ -42,8 +42,8 @@ impl<T: IdOrdItem> IdOrdMap<T> {
     /// many it removed.
     ///
     /// The closure is called once at each of them, by key. Those at which it answers false are removed; all other items
-    /// stay under their indexes. It takes no memory. It costs, for each item that is asked about, a search, and for
-    /// each removed one a removal from the table.
+    /// stay under their indexes. It takes no memory. It costs one search, and for each item a comparison with the upper
+    /// bound.
     pub fn retain_range<Q: OrdQuery<T::Key>, F: FnMut(&T) -> bool>(
         &mut self,
         lower: Bound<Q>,

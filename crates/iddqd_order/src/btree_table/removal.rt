@@ -22,8 +22,8 @@ use crate::btree_table::reserve::Reserve;
 use crate::btree_table::row::{LEAST, Row};
 use iddqd::item_index::ItemIndex;
 
-// Removes the index to which the path goes at the level, and sends the path to the gap where it stood. Returns the index
-// and the new height. It takes no memory.
+// Removes the index to which the path goes at the level, and sends the path to the gap where it stood. Returns the
+// index and the new height. It takes no memory.
 pub(super) fn remove_in(
     root: &mut Option<Node>,
     height: usize,
