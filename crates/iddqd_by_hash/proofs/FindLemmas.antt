@@ -10,8 +10,7 @@ use Rattle.iddqd.specs.Store.{Store, get}
 use Rattle.iddqd_hash.specs.MapHashTable.{FindsWhere}
 use Rattle.iddqd_keys.specs.Scan.{IsHit, AnswersScan, passes_by}
 use Rattle.iddqd_keys.proofs.ScanLemmas.{AnswersScan-hit}
-use Rattle.iddqd_by_hash.specs.Hashed.{Hashing, hashing_of, IsLawful, StandsForOne, AsksAt, Finds, IsInSync, LooksUp}
-use Rattle.iddqd_by_hash.specs.HashedGroup.{passes}
+use Rattle.iddqd_by_hash.specs.Hashed.{Hashing, hashing_of, IsLawful, StandsForOne, AsksAt, Finds, IsInSync, LooksUp, passes}
 
 -- keys whose bounds keep their laws
 pub IsLawful-from_bounds :

@@ -1,6 +1,6 @@
 -- How a table of indexes under hashes relates to one key of a store's items. `hashes` is `filed` of the table: it maps
 -- each of its indexes to the hash under which it is stored.
-use Rattle.std.specs.Prelude.{◌≡◌, ℕ, Bool, true, List, Option, Some, None, IsSome}
+use Rattle.std.specs.Prelude.{◌≡◌, ℕ, Bool, true, false, List, Option, Some, None, IsSome}
 use Rattle.std.specs.Cmp.{IsPartialEquivalence}
 use Rattle.std.specs.Ordering.{nat_cmp}
 use Rattle.std.specs.FinMap as finite
@@ -51,6 +51,10 @@ Takes old (Some ix) new = new ≡ finite.remove old ix
 Takes old None new = new ≡ old
 
 module _ {T : Type 0} where
+  -- whether the index is live and its item passes the test
+  abbrev pub passes : Store T → (T → Bool) → ℕ → Bool
+  passes s test ix = elim (get s ix) [ None ↦ false | Some item ↦ test item ]
+
   -- each index of the table is live
   abbrev pub AreLive : Store T → FinMap nat_cmp ℕ → Type 0
   AreLive s hashes = (ix : ℕ) → IsSome (finite.get hashes ix) → IsLive s ix

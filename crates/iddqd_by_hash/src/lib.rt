@@ -1,5 +1,5 @@
-//! Look-ups and removals by one key of a store's items, in a hash table of the store's indexes; how an entry changes
-//! when an item is replaced; groups of items with one key, and the table for them, [`linked_table::LinkedTable`].
+//! Look-ups and removals by one key of a store's items, in a hash table of the store's indexes, and how an entry
+//! changes when an item is replaced.
 //!
 //! Each call that reads or changes a table is handed the table, and the store if it reads keys. So a map can have both
 //! as plain fields. A type parameter `E: KeyOf<T>` names the key.
@@ -7,6 +7,4 @@
 
 mod borrowed_key_query;
 pub mod hashed;
-pub mod hashed_group;
 pub mod hashed_move;
-pub mod linked_table;

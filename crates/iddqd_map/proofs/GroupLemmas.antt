@@ -1,5 +1,5 @@
 -- For maps: what calls leave that remove the items that pass a test, one after the other, in any order.
-use Rattle.std.proofs.Common.{◌≡◌, ◌≢◌, ◌∙◌, ◌↔◌, inl, inr, ℕ, Bool, false, nat_eq, List, [], ◌∷◌, Option, Some, None, is_some, MatchOption, refl, sym, subst}
+use Rattle.std.proofs.Common.{◌≡◌, ◌≢◌, ◌∙◌, ◌↔◌, inl, inr, ℕ, Bool, false, nat_eq, List, [], ◌∷◌, Option, Some, None, is_some, refl, sym}
 use Rattle.std.specs.List.{AllByRecursion, Contains, IsDistinct}
 use Rattle.std.proofs.lemmas.Bool.{cases_eq, ne_eqb}
 use Rattle.std.proofs.lemmas.Map.Keys.{IsDistinct-cons}
@@ -29,17 +29,6 @@ module _ {T : Type 0} (test : T → Bool) where
   pub FindsSome-misses : (s : Store T) (r : Option ℕ) → FindsSome s test r → (is_some r ≡ false) ↔ HasNoHit s test
   FindsSome-misses s None none = (λ _. none, λ _. refl)
   FindsSome-misses s (Some ix) hit = (λ is. absurd (cc), λ none. absurd (none ix hit))
-
-  -- the first of the hits is one of them, and there is none where no item passes
-  pub FindsSome-first :
-      (s : Store T) (indexes : List ℕ) (r : Option ℕ) (behind : List ℕ)
-      → AreHits s test indexes
-      → MatchOption r ((indexes ≡ []) × (behind ≡ [])) (λ ix. indexes ≡ ix ∷ behind)
-      → FindsSome s test r
-  FindsSome-first s indexes None behind hits none = λ ix hit.
-      contains_none ix (subst (λ l. Contains l ix) none.0 ((hits.each ix).1 hit))
-  FindsSome-first s indexes (Some ix) behind hits first =
-      (hits.each ix).0 (subst (λ l. Contains l ix) (sym first) (contains_head ix behind))
 
   -- where no item passes nothing is removed
   pub LeavesOthers-none : (s : Store T) → HasNoHit s test → LeavesOthers s test s

@@ -1,5 +1,6 @@
 -- Each step of a store and of a hash table that indexes it keeps it so; and what queries stand for.
-use Rattle.std.proofs.Common.{◌≡◌, ◌∙◌, inl, inr, ℕ, Bool, true, not, IsTrue, List, Some, sym, ap, subst}
+use Rattle.std.proofs.Common.{◌≡◌, ◌≢◌, ◌∙◌, ◌⊎◌, ◌↔◌, inl, inr, ℕ, Bool, true, not, IsSome, IsTrue, List, Some, refl, sym, ap, subst}
+use Rattle.std.proofs.lemmas.Bool.{cases_eq}
 use Rattle.std.specs.Ordering.{nat_cmp}
 use Rattle.std.specs.FinMap as finite
 use Rattle.std.specs.FinMap.{FinMap}
@@ -8,17 +9,19 @@ use Rattle.std.specs.declared.hash.BuildHasher as builder
 use Rattle.iddqd.specs.MapHash.{hash_one}
 use Rattle.iddqd.specs.Store.{Store, IsValid, empty_within, cleared, get, next_index, inserted, removed, rebound}
 use Rattle.iddqd.specs.Compaction.{compacted, rank}
+use Rattle.iddqd.proofs.LiveLemmas.{live_at}
 use Rattle.iddqd_hash.specs.MapHashTable.{Renames}
-use Rattle.iddqd_keys.specs.Scan.{IsHit, HasNoHit, AreApart}
-use Rattle.iddqd_by_hash.specs.Hashed.{Hashing, hashing_of, IsLawful, StandsForOne}
+use Rattle.iddqd_hash.proofs.MemberLemmas.{get-insert_at, get-insert_other, get-remove_other}
+use Rattle.iddqd_keys.specs.Scan.{IsLive, IsHit, HasNoHit, AreApart}
+use Rattle.iddqd_by_hash.specs.Hashed.{Hashing, hashing_of, IsInPlace, IsLawful, StandsForOne}
 use Rattle.iddqd_by_hash.specs.HashedMove.{moved}
+use Rattle.iddqd_map.specs.Files.{Files}
 use Rattle.iddqd_map.specs.Indexing.{Indexes, shares_key, Plans}
 use Rattle.iddqd_by_hash.specs.declared.hashed_move.Move.{Move}
 use Rattle.iddqd_by_hash.specs.declared.hashed_move.Move.TheVariants.{Stays, To}
 use Rattle.iddqd_by_hash.proofs.HoldsLemmas.{Holds-empty, Holds-cleared, Holds-removed, Holds-inserted, Holds-compacted, Holds-rebound}
 use Rattle.iddqd_by_hash.proofs.PlaceLemmas.{IsInSync-empty, IsInSync-inserted, Keeps-cleared, Keeps-removed, Keeps-compacted, Keeps-rebound}
-use Rattle.iddqd_keys.proofs.ScanLemmas.{rebound_cases}
-use Rattle.iddqd_map.proofs.FilesLemmas.{Files-moved}
+use Rattle.iddqd_keys.proofs.ScanLemmas.{rebound_cases, live_rebound}
 
 -- a query that keeps the laws stands for one key, under its hash
 pub StandsForOne-query :
@@ -33,6 +36,34 @@ StandsForOne-query equal hash_input b h state input test same_hash same_key = re
 }
 
 module _ {T K : Type 0} (key_of : T → K) (hashing : Hashing K) where
+  module _ (s : Store T) (m : FinMap nat_cmp ℕ) (o : Files key_of hashing s m) where
+    module _ (ix : ℕ) (item was : T) (live : get s ix ≡ Some was) where
+      -- a live index that is filed under the hash of another item's key
+      module _ (hash : ℕ) (is : hash ≡ hashing.hash_of (key_of item)) where
+        abbrev there : FinMap nat_cmp ℕ
+        there = moved m ix (To hash)
+
+        filed_there : (j : ℕ) → j ≢ ix → finite.get there j ≡ finite.get m j
+        filed_there j other = get-insert_other (finite.remove m ix) ix hash j other ∙ get-remove_other m ix j other
+
+        holds_at : (j : ℕ) → (j ≡ ix) ⊎ (j ≡ ix → ⊥) → IsSome (finite.get there j) ↔ IsLive (rebound s ix item) j
+        holds_at j (inl same) =
+            let here : finite.get there j ≡ Some hash = rw same (get-insert_at (finite.remove m ix) ix hash) in
+            let stays : IsLive (rebound s ix item) j =
+            rw (live_rebound s ix item was live j) (live_at s j was (rw same live)) in
+            (λ _. stays, λ _. rw here refl)
+        holds_at j (inr other) = rw (filed_there j other, live_rebound s ix item was live j) (o.held j)
+
+        placed_at : IsInPlace key_of hashing (rebound s ix item) there
+        placed_at j y at =
+            elim (rebound_cases s ix item was live j y at) [
+              | inl a ↦ rw (a.0, ← a.1) (get-insert_at (finite.remove m ix) ix hash ∙ ap Some is)
+              | inr b ↦ filed_there j b.0 ∙ o.placed j y b.1
+            ]
+
+        pub Files-moved : Files key_of hashing (rebound s ix item) there
+        Files-moved = record { held = λ j. holds_at j (cases_eq j ix); placed = placed_at }
+
   pub Indexes-empty : (limit : ℕ) → Indexes key_of hashing (empty_within limit) finite.empty
   Indexes-empty limit = record { held = Holds-empty T limit; in_sync = IsInSync-empty key_of hashing limit }
 
@@ -94,7 +125,7 @@ module _ {T K : Type 0} (key_of : T → K) (hashing : Hashing K) where
 
         went : Indexes key_of hashing (rebound s ix item) (moved m ix (To hash))
         went =
-            let files = Files-moved key_of hashing s m (record { held = o.held; placed = o.in_sync.placed }) ix item was live hash plan.1 in
+            let files = Files-moved s m (record { held = o.held; placed = o.in_sync.placed }) ix item was live hash plan.1 in
             record { held = files.held; in_sync = record { placed = files.placed; apart = apart_at } }
 
       pub Indexes-rebound :

@@ -5,7 +5,6 @@ pub mod ConflictLemmas
 pub mod CountLemmas
 pub mod DropLemmas
 pub mod EqualityLemmas
-pub mod FilesLemmas
 pub mod FoundLemmas
 pub mod GroupLemmas
 pub mod HashLemmas

@@ -7,12 +7,13 @@ use Rattle.std.specs.declared.hash.BuildHasher as builder
 use Rattle.std.specs.Ordering.{nat_cmp}
 use Rattle.std.specs.FinMap.{FinMap}
 use Rattle.iddqd.specs.Store.{Store, get, rebound}
+use Rattle.iddqd.proofs.LiveLemmas.{item_at, live_at}
 use Rattle.iddqd_keys.specs.Scan.{IsHit}
 use Rattle.iddqd_by_hash.specs.Hashed.{Hashing, hashing_of, IsLawful}
 use Rattle.iddqd_by_hash.proofs.FindLemmas.{IsLawful-from_bounds}
 use Rattle.iddqd_by_hash.proofs.HoldsLemmas.{Holds-rebound}
 use Rattle.iddqd_by_hash.proofs.PlaceLemmas.{Keeps-rebound}
-use Rattle.iddqd_map.specs.ByHashMultiLaws.{Files-same}
+use Rattle.iddqd_map.specs.Files.{Files}
 use Rattle.iddqd_map.specs.Indexing.{Indexes}
 use Rattle.iddqd_map.specs.KeyIndex.{HaveSameKeys}
 use Rattle.iddqd_map.specs.Map.{shares}
@@ -29,6 +30,25 @@ shares_laws key_of equal laws = record {
 }
 
 module _ {T K : Type 0} (key_of : T → K) (hashing : Hashing K) (s : Store T) (m : FinMap nat_cmp ℕ) where
+  module _ (lawful : IsLawful hashing) (o : Files key_of hashing s m) where
+    -- items at the same indexes that share their keys
+    pub Files-same : (t : Store T) → HaveSameKeys (shares key_of hashing.equal) s t → Files key_of hashing t m
+    Files-same t have = record {
+      held = λ ix. (
+        λ filed.
+            let (x, live) = item_at s ix ((o.held ix).0 filed) in
+            let (y, there, alike) = have.items_of_s ix x live in
+            live_at t ix y there,
+        λ live.
+            let (y, there) = item_at t ix live in
+            let (x, was, alike) = have.items_of_t ix y there in
+            (o.held ix).1 (live_at s ix x was),
+      );
+      placed = λ ix y there.
+          let (x, was, alike) = have.items_of_t ix y there in
+          o.placed ix x was ∙ ap Some (lawful.equal_hash (key_of x) (key_of y) alike);
+    }
+
   -- an item that keeps its key
   pub Indexes-modified :
       IsLawful hashing
@@ -57,7 +77,7 @@ module _ {T K : Type 0} (key_of : T → K) (hashing : Hashing K) (s : Store T) (
       → Indexes key_of hashing t m
   Indexes-same lawful o t have =
       let e = lawful.equivalence in
-      let files = Files-same key_of hashing s m lawful (record { held = o.held; placed = o.in_sync.placed }) t have in
+      let files = Files-same lawful (record { held = o.held; placed = o.in_sync.placed }) t have in
       record {
         held = files.held;
         in_sync = record {

@@ -1,10 +1,9 @@
-pub mod ByHashMulti
-pub mod ByHashMultiLaws
 pub mod Calls
 pub mod Clones
 pub mod Drops
 pub mod Equality
 pub mod EqualityLaws
+pub mod Files
 pub mod Groups
 pub mod HashLaws
 pub mod Hashed

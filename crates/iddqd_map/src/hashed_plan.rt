@@ -3,7 +3,7 @@
 ghost use Rattle.iddqd_hash.specs.{filed};
 ghost use Rattle.iddqd_keys.specs.Scan.{IsLive};
 ghost use Rattle.iddqd_by_hash.specs.Hashed.{hashing_of};
-ghost use Rattle.iddqd_map.specs.ByHashMulti.{IsMoveFor};
+ghost use Rattle.iddqd_map.specs.Files.{IsMoveFor};
 ghost use Rattle.iddqd_map.specs.Indexing.{Indexes, PlansOrConflicts};
 
 use iddqd::item_index::ItemIndex;

@@ -1,15 +1,13 @@
 //! Look-ups in a table of hashes that indexes a store, by any query.
 //!
 //! If each live index is filed under the hash of its item's key as it is now, and no two items share a key, a look-up
-//! returns what a scan would. If several items share a key, it finds one of them.
+//! returns what a scan would.
 ghost use Rattle.std.specs.Prelude.{◌≡◌};
 ghost use Rattle.iddqd.specs.{hash_one};
 ghost use Rattle.iddqd_hash.specs.{filed};
 ghost use Rattle.iddqd_hash.specs.HashTable.{KeepsMemory};
 ghost use Rattle.iddqd_keys.specs.Scan.{AnswersScan, passes_by};
 ghost use Rattle.iddqd_by_hash.specs.Hashed.{hashing_of, Takes};
-ghost use Rattle.iddqd_map.specs.ByHashMulti.{Files};
-ghost use Rattle.iddqd_map.specs.Groups.{AreHits, CountsHits, FindsSome};
 ghost use Rattle.iddqd_map.specs.Indexing.{Indexes};
 ghost use Rattle.iddqd_map.specs.Map.{shares};
 
@@ -17,8 +15,6 @@ use iddqd::item_index::ItemIndex;
 use iddqd::item_set::ItemSet;
 use iddqd::map_hash::MapHash;
 use iddqd_by_hash::hashed::{self, query_hash};
-use iddqd_by_hash::hashed_group::{Group, group_of};
-use iddqd_by_hash::linked_table::LinkedTable;
 use iddqd_hash::hash_table::MapHashTable;
 use iddqd_keys::hash_query::{AsEquivalent, HashQuery};
 use iddqd_keys::key_of::KeyOf;
@@ -90,65 +86,4 @@ where
     ensures { AnswersScan items.now.store (shares E.key_of E.Key.eq item.now) result }
 {
     find_under::<T, E, S, &E::Key>(table, items, state, hash, E::key(item))
-}
-
-/// The index of some item that has the key for which the query stands. Several items may have it.
-pub fn find_any<T, E, S, Q>(
-    table: &LinkedTable,
-    items: &ItemSet<T>,
-    state: &S,
-    query: Q,
-) -> Option<ItemIndex>
-where
-    E: KeyOf<T>,
-    E::Key: Eq + Hash,
-    S: BuildHasher,
-    Q: HashQuery<E::Key>,
-    requires { Files E.key_of (hashing_of E.Key.eq E.Key.hash_input S.BuildHasher S.Hasher.Hasher state.now)
-        items.now.store table.now.filed }
-    ensures { FindsSome items.now.store (passes_by E.key_of (Q.stands_for query)) result }
-{
-    let mut group = group_by::<T, E, S, Q>(table, items, state, query);
-    group.next()
-}
-
-/// The indexes whose items have the key for which the query stands, each once, in no order that a caller can rely on.
-///
-/// It compares the query only with keys of the same hash, with none twice, and takes no memory.
-pub fn group_by<'t, T, E, S, Q>(
-    table: &'t LinkedTable,
-    items: &'t ItemSet<T>,
-    state: &S,
-    query: Q,
-) -> Group<'t, T, E, AsEquivalent<Q>>
-where
-    E: KeyOf<T>,
-    E::Key: Eq + Hash,
-    S: BuildHasher,
-    Q: HashQuery<E::Key>,
-    requires { Files E.key_of (hashing_of E.Key.eq E.Key.hash_input S.BuildHasher S.Hasher.Hasher state.now)
-        items.now.store table.now.filed }
-    ensures { AreHits items.now.store (passes_by E.key_of (Q.stands_for query)) result }
-{
-    let hash = query_hash(state, query);
-    group_of::<T, E, AsEquivalent<Q>>(table, items, hash, AsEquivalent(query))
-}
-
-/// How many items have the key for which the query stands. It goes over all of them.
-pub fn count_by<T, E, S, Q>(table: &LinkedTable, items: &ItemSet<T>, state: &S, query: Q) -> usize
-where
-    E: KeyOf<T>,
-    E::Key: Eq + Hash,
-    S: BuildHasher,
-    Q: HashQuery<E::Key>,
-    requires { Files E.key_of (hashing_of E.Key.eq E.Key.hash_input S.BuildHasher S.Hasher.Hasher state.now)
-        items.now.store table.now.filed }
-    ensures { CountsHits items.now.store (passes_by E.key_of (Q.stands_for query)) result }
-{
-    let group = group_by::<T, E, S, Q>(table, items, state, query);
-    // The bound has 64 bits, so the count fits.
-    match group.size_hint().1 {
-        Some(_most) => group.count(),
-        None => unreachable!(),
-    }
 }

@@ -2,7 +2,7 @@ use Rattle.std.proofs.Common.{rules, ap}
 use Rattle.iddqd_hash.specs.MapHashTable.{filed}
 use Rattle.iddqd_hash.proofs.FiledLemmas.{under_all_filed, FindsWhere-by_key}
 use Rattle.iddqd_keys.specs.Scan.{IsLive, IsKeyAt, passes_by}
-use Rattle.iddqd_by_hash.specs.HashedGroup.{passes}
+use Rattle.iddqd_by_hash.specs.Hashed.{passes}
 use Rattle.iddqd_by_hash.proofs.FindLemmas.{Finds-from_where, LooksUp-found}
 use Rattle.iddqd_by_hash.proofs.hashed.find.Goals as goal
 

@@ -6,7 +6,7 @@ use Rattle.iddqd_hash.proofs.AskLemmas.{CanAsk-by}
 use Rattle.iddqd_hash.proofs.FiledLemmas.{entry_index-value, under_all_filed, FindsWhere-looked_up}
 use Rattle.iddqd_keys.specs.Scan.{IsLive, passes_by}
 use Rattle.iddqd_by_hash.specs.Hashed.{AsksAt, Finds}
-use Rattle.iddqd_by_hash.specs.HashedGroup.{passes}
+use Rattle.iddqd_by_hash.specs.Hashed.{passes}
 use Rattle.iddqd_by_hash.proofs.FindLemmas.{passes-asked, Finds-from_where, LooksUp-found}
 use Rattle.iddqd_by_hash.proofs.hashed.take.Goals as goal
 

@@ -1,4 +1,4 @@
-use Rattle.std.proofs.Common.{◌+◌, ◌<◌, ◌≤◌, min, max, OnErr, arith, sym, subst}
+use Rattle.std.proofs.Common.{min, max, arith}
 use Rattle.iddqd.specs.Store.{slot_count, live_count}
 use Rattle.iddqd_map.proofs.SizeLemmas.{either-refused, needed-within, needed-less}
 use Rattle.iddqd_map.proofs.pair.PairSizes.shrink_to.Goals as goal

@@ -1,9 +1,0 @@
-use Rattle.iddqd_by_hash.proofs.GroupLemmas.{IsGroupOf-under, live_under}
-use Rattle.iddqd_by_hash.proofs.hashed_group.group_of.Goals as goal
-
-pub invariant_of-result : goal.invariant_of-result
-invariant_of-result g c =
-    live_under c.args.items.now.store c.args.table.now.filed _ _ c.indexes_under.ensures c.requires
-
-pub returns : goal.returns
-returns g c = IsGroupOf-under _ _ _ _ _ _ c.indexes_under.ensures

@@ -1,9 +1,0 @@
-use Rattle.std.proofs.Common.{length}
-use Rattle.iddqd_by_hash.specs.Links.{next_of}
-use Rattle.iddqd_by_hash.proofs.ChainLemmas.{length-chain}
-use Rattle.iddqd_by_hash.proofs.linked_table.indexes.LinkedIndexesIterator.size_hint.Goals as goal
-
-pub returns-clause-upper : goal.returns-clause-upper
-returns-clause-upper c =
-    let links = c.self.inside.links.now in
-    rw (← c.self.view_is) (tt, length-chain (next_of links) (length links) c.self.inside.at)

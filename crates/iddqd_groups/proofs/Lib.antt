@@ -1,0 +1,14 @@
+mod ChainLemmas
+mod FilesLemmas
+mod GroupLemmas
+mod InsertLinkLemmas
+mod LinkLemmas
+mod LinkListLemmas
+mod LinkedSizeLemmas
+mod LinksLemmas
+mod RemoveLinkLemmas
+mod RenameLinkLemmas
+mod RenamedLenLemmas
+mod RenamedTableLemmas
+mod RenamingLemmas
+mod UnlinkLemmas

@@ -1,0 +1,5 @@
+pub mod ByHashMulti
+pub mod ByHashMultiLaws
+pub mod HashedGroup
+pub mod LinkedTable
+pub mod Links

@@ -1,0 +1,408 @@
+//! A key index by a key that several items may have: each index is filed under the hash of its item's key.
+//!
+//! It refuses no item for its key, so an insert compares no keys. A removal computes no hash, since the table keeps
+//! that of each index.
+//!
+//! Invariants, of a table that indexes a store under the state of a hasher:
+//!
+//! 1. it has exactly the live indexes;
+//! 2. each of them is filed under the hash that its item's key has under this state;
+//! 3. it has a link for each slot of the store, and no other. So the index of a vacant slot is inserted without memory
+//!    for a link, and what a shrink leaves is bounded by the store's slots.
+//!
+//! So a look-up, which hashes once, finds an item with the key if and only if there is one. Keys are not copied: the
+//! table has hashes and indexes alone.
+//!
+//! One index of each hash stands in a hash table, and the others under that hash are linked behind it. So an insert and
+//! a removal cost the same however many items have the key, and the links take 16 bytes for each slot.
+ghost use Rattle.std.specs.Prelude.{◌≡◌, ◌↔◌, false};
+ghost use Rattle.iddqd_by_hash.specs.Hashed.{hashing_of};
+ghost use Rattle.iddqd_map.specs.Groups.{AreHits, CountsHits};
+ghost use Rattle.iddqd_keys.specs.Scan.{HasNoHit, passes_by};
+
+use crate::group_query::{count_by, find_any, group_by};
+pub use crate::hashed_group::Group;
+use crate::linked_steps;
+use crate::linked_table::LinkedTable;
+use iddqd::index_remap::IndexRemap;
+use iddqd::internal::{ValidateCompact, ValidateRefusal, ValidationError};
+use iddqd::item_index::ItemIndex;
+use iddqd::item_set::ItemSet;
+use iddqd::map_hash::MapHash;
+use iddqd_by_hash::hashed::hash_of;
+use iddqd_by_hash::hashed_move::Move;
+use iddqd_keys::hash_query::{AsEquivalent, HashQuery};
+use iddqd_keys::key_of::KeyOf;
+use iddqd_map::grouped_at::GroupedAt;
+use iddqd_map::hashed_plan::move_of;
+use iddqd_map::key_index::{Checks, Here, Inserts, KeyIndex, Moves, Removes, Sizes};
+pub use iddqd_map::no_conflict::NoConflict;
+use std::alloc::{AllocError, Global};
+use std::hash::{BuildHasher, Hash};
+use std::marker::PhantomData;
+
+/// A table of hashes by the key that `E` names, which several items may have.
+///
+/// A look-up hashes the query once, and compares it with keys of the same hash alone. Only `with_capacity`, `reserve`,
+/// `make_room`, `shrink_to`, `copied` and `validate`, which sorts a copy of the indexes, take memory, and only they can
+/// run out of it. An insert and a removal cost the same however many indexes stand under the same hash.
+#[derive(Drop)]
+pub struct ByHashMulti<E, K> {
+    // Each live index, under the hash of its item's key. The slots that have a link are those of the store.
+    table: LinkedTable,
+    of: PhantomData<E>,
+    by: PhantomData<K>,
+}
+
+impl<E, K> ByHashMulti<E, K> {
+    /// The indexes whose items have the key for which the query stands, each once, in no order that a caller can rely
+    /// on.
+    ///
+    /// It hashes the query once, and compares it with keys of the same hash alone, with none twice. It takes no memory.
+    pub fn group<'a, T, S, Q>(
+        &'a self,
+        items: &'a ItemSet<T>,
+        state: &S,
+        query: Q,
+    ) -> Group<'a, T, E, AsEquivalent<Q>>
+    where
+        E: KeyOf<T, Key = K>,
+        K: Eq + Hash + Drop,
+        S: BuildHasher,
+        Q: HashQuery<K>,
+        requires { ⟦<ByHashMulti<E, K> as KeyIndex<T, S>>⟧.indexes self.now state.now items.now.store }
+        ensures { AreHits items.now.store (passes_by E.key_of (Q.stands_for query)) result }
+    {
+        group_by::<T, E, S, Q>(&self.table, items, state, query)
+    }
+
+    /// How many items have the key for which the query stands.
+    ///
+    /// It costs a step for each item of the group: no count is stored.
+    pub fn count_of<T, S, Q>(&self, items: &ItemSet<T>, state: &S, query: Q) -> usize
+    where
+        E: KeyOf<T, Key = K>,
+        K: Eq + Hash + Drop,
+        S: BuildHasher,
+        Q: HashQuery<K>,
+        requires { ⟦<ByHashMulti<E, K> as KeyIndex<T, S>>⟧.indexes self.now state.now items.now.store }
+        ensures { CountsHits items.now.store (passes_by E.key_of (Q.stands_for query)) result }
+    {
+        count_by::<T, E, S, Q>(&self.table, items, state, query)
+    }
+
+    /// Whether an item has the key for which the query stands, by one look-up.
+    pub fn contains_key<T, S, Q>(&self, items: &ItemSet<T>, state: &S, query: Q) -> bool
+    where
+        E: KeyOf<T, Key = K>,
+        K: Eq + Hash + Drop,
+        S: BuildHasher,
+        Q: HashQuery<K>,
+        requires { ⟦<ByHashMulti<E, K> as KeyIndex<T, S>>⟧.indexes self.now state.now items.now.store }
+        ensures { (result ≡ false) ↔ HasNoHit items.now.store (passes_by E.key_of (Q.stands_for query)) }
+    {
+        let found = find_any::<T, E, S, Q>(&self.table, items, state, query);
+        found.is_some()
+    }
+}
+
+impl<T, S, E, K> KeyIndex<T, S> for ByHashMulti<E, K>
+where
+    E: KeyOf<T, Key = K>,
+    K: Eq + Hash + Drop,
+    S: BuildHasher,
+{
+    ghost use Rattle.std.proofs.Common.{refl};
+    ghost use Rattle.iddqd_hash.proofs.LeastCellsLemmas.{least_cells-grows};
+    ghost use Rattle.iddqd_groups.specs.LinkedTable.{most_linked, kept_linked, needed_linked};
+    ghost use Rattle.iddqd_map.specs.PairLaws.{sum_grows};
+    ghost use Rattle.iddqd_groups.specs.ByHashMulti.{FilesWithin, HasSameIndexes};
+    ghost use Rattle.iddqd_groups.specs.ByHashMultiLaws.{FilesWithin-kept, FilesWithin-key_kept, FilesWithin-keys_shared};
+    ghost use Rattle.iddqd_map.specs.HashLaws.{shares_laws};
+    ghost use Rattle.iddqd_map.specs.Map.{shares};
+    ghost use Rattle.iddqd_map.specs.NoConflict.{never_alike, never_apart, none_named};
+
+    type Conflict = NoConflict;
+
+    type KnownHashes = ();
+
+    ghost Keys = { K };
+
+    ghost keys = { E.key_of };
+
+    ghost alike = { never_alike };
+
+    ghost same_keys = { shares E.key_of K.eq };
+
+    ghost indexes = { λ x state s. FilesWithin E.key_of (hashing_of K.eq K.hash_input S.BuildHasher
+        S.Hasher.Hasher state) s x.table };
+
+    ghost capacity = { λ x. x.table.capacity };
+
+    ghost cells = { λ x. x.table.memory };
+
+    ghost most = { most_linked };
+
+    ghost kept = { kept_linked };
+
+    ghost needed = { needed_linked };
+
+    ghost needed_grows = { λ slots more_slots count more wider up.
+        sum_grows (least_cells-grows count more up) wider };
+
+    ghost may_need_memory = { false };
+
+    ghost same = { λ x y. HasSameIndexes x.table y.table };
+
+    ghost unique_keys = { 0 };
+
+    ghost conflicts = { λ s item at. ⊥ };
+
+    ghost taken = { λ s ix item at. ⊥ };
+
+    ghost reports = { λ at ix. ⊥ };
+
+    ghost kept_none = { refl };
+
+    ghost same_as_itself = { λ x. record { filed = refl; slots = refl } };
+
+    ghost same_indexes = { λ x y state s same is. FilesWithin-kept E.key_of (hashing_of K.eq K.hash_input S.BuildHasher
+        S.Hasher.Hasher state) s x.table y.table same is };
+
+    ghost apart = { λ x state s is. never_apart s };
+
+    ghost modified = { λ x state s ix was item is. FilesWithin-key_kept E.key_of K.eq K.hash_input
+        S.BuildHasher S.Hasher.Hasher K.Eq.laws K.respects_eq state s x.table is ix was item };
+
+    ghost same_items = { λ x state s t have is. FilesWithin-keys_shared E.key_of K.eq K.hash_input
+        S.BuildHasher S.Hasher.Hasher K.Eq.laws K.respects_eq state s x.table is t have };
+
+    ghost equivalence = { shares_laws E.key_of K.eq K.Eq.laws };
+
+    ghost reported = { λ s item at conflicts ix. absurd conflicts };
+
+    ghost reported_some = { λ s item at conflicts. absurd conflicts };
+
+    ghost few_reported = { λ at. none_named };
+
+    fn no_hashes() {}
+}
+
+impl<T, S, E, K> Sizes<T, S> for ByHashMulti<E, K>
+where
+    E: KeyOf<T, Key = K>,
+    K: Eq + Hash + Drop,
+    S: BuildHasher,
+{
+    fn capacity(&self) -> usize {
+        self.table.capacity()
+    }
+
+    fn new(alloc: Global) -> ByHashMulti<E, K> {
+        ByHashMulti {
+            table: LinkedTable::new(alloc),
+            of: PhantomData,
+            by: PhantomData,
+        }
+    }
+
+    fn with_capacity(alloc: Global, wanted: usize) -> Result<ByHashMulti<E, K>, AllocError> {
+        Ok(ByHashMulti {
+            table: LinkedTable::with_capacity(alloc, wanted)?,
+            of: PhantomData,
+            by: PhantomData,
+        })
+    }
+
+    fn reserve(
+        &mut self,
+        items: &ItemSet<T>,
+        state: &S,
+        additional: usize,
+    ) -> Result<(), AllocError> {
+        linked_steps::reserve(&mut self.table, items, additional)
+    }
+
+    fn shrink_to(&mut self, items: &ItemSet<T>, state: &S, least: usize) -> Result<(), AllocError> {
+        linked_steps::shrink_to(&mut self.table, items, least)
+    }
+}
+
+impl<T, S, E, K> Inserts<T, S> for ByHashMulti<E, K>
+where
+    E: KeyOf<T, Key = K>,
+    K: Eq + Hash + Drop,
+    S: BuildHasher,
+{
+    ghost use Rattle.std.specs.Prelude.{◌<◌};
+    ghost use Rattle.std.specs.FinMap as finite;
+
+    type Known = MapHash;
+
+    type Spot = ();
+
+    type Plan = ();
+
+    ghost is_known = { λ state item hash. hash ≡ (hashing_of K.eq K.hash_input S.BuildHasher
+        S.Hasher.Hasher state).hash_of (E.key_of item) };
+
+    ghost is_spot = { λ x state s item spot. Unit {0} };
+
+    ghost is_planned = { λ x state s item plan. Unit {0} };
+
+    ghost has_room_for = { λ x plan. finite.len x.table.filed < x.table.capacity };
+
+    ghost is_ready_after = { λ x. Unit {0} };
+
+    ghost same_plans = { λ x y state s item plan same is. is };
+
+    fn known(state: &S, item: &T) -> MapHash {
+        hash_of::<T, E, S>(state, item)
+    }
+
+    fn look_up(
+        &self,
+        items: &ItemSet<T>,
+        state: &S,
+        known: MapHash,
+        item: &T,
+    ) -> Result<(), NoConflict> {
+        Ok(())
+    }
+
+    fn plan(&self, items: &ItemSet<T>, state: &S, spot: (), ix: ItemIndex, item: &T) {}
+
+    fn make_room(&mut self, items: &ItemSet<T>, state: &S, plan: &()) -> Result<(), AllocError> {
+        linked_steps::reserve(&mut self.table, items, 1)
+    }
+
+    fn insert(&mut self, known: MapHash, plan: &(), ix: ItemIndex) {
+        self.table.insert(known, ix);
+    }
+
+    fn next_reported(conflict: &NoConflict, before: Option<ItemIndex>) -> Option<ItemIndex> {
+        None
+    }
+
+    fn spot(&self, items: &ItemSet<T>, state: &S, known: MapHash, item: &T) {}
+
+    fn ready_after(&mut self, items: &ItemSet<T>, state: &S) -> Result<(), AllocError> {
+        Ok(())
+    }
+
+    fn give_way(&mut self, items: &ItemSet<T>, state: &S, ix: ItemIndex) {
+        self.table.remove(ix);
+    }
+}
+
+impl<T, S, E, K> Removes<T, S> for ByHashMulti<E, K>
+where
+    E: KeyOf<T, Key = K>,
+    K: Eq + Hash + Drop,
+    S: BuildHasher,
+{
+    fn remove(&mut self, items: &ItemSet<T>, state: &S, ix: ItemIndex) {
+        self.table.remove(ix);
+    }
+
+    fn clear(&mut self) {
+        self.table.clear();
+    }
+
+    fn remap(&mut self, remap: &IndexRemap) {
+        linked_steps::remap::<T>(&mut self.table, remap);
+    }
+}
+
+impl<T, S, E, K> Moves<T, S> for ByHashMulti<E, K>
+where
+    E: KeyOf<T, Key = K>,
+    K: Eq + Hash + Drop,
+    S: BuildHasher,
+{
+    ghost use Rattle.iddqd_map.specs.Files.{IsMoveFor};
+    ghost use Rattle.iddqd_map.specs.Hashed.{moves};
+
+    type Move = Move;
+
+    ghost is_move = { λ state s ix item plan. IsMoveFor E.key_of (hashing_of K.eq K.hash_input S.BuildHasher
+        S.Hasher.Hasher state) s ix item plan };
+
+    ghost moves = { moves };
+
+    ghost is_ready = { λ x plan. Unit {0} };
+
+    fn plan_move(
+        &self,
+        items: &ItemSet<T>,
+        state: &S,
+        ix: ItemIndex,
+        item: &T,
+    ) -> Result<Move, NoConflict> {
+        Ok(move_of::<T, E, S>(items, state, ix, item))
+    }
+
+    fn ready_move(&mut self, items: &ItemSet<T>, state: &S, plan: &Move) -> Result<(), AllocError> {
+        Ok(())
+    }
+
+    fn commit_move(
+        &mut self,
+        items: &ItemSet<T>,
+        state: &S,
+        asked: (),
+        plan: &Move,
+        ix: ItemIndex,
+        item: &T,
+    ) {
+        linked_steps::commit_move(&mut self.table, items, plan, ix);
+    }
+}
+
+impl<T, S, E, K> Checks<T, S> for ByHashMulti<E, K>
+where
+    E: KeyOf<T, Key = K>,
+    K: Eq + Hash + Drop,
+    S: BuildHasher,
+{
+    fn copied(&self) -> Result<ByHashMulti<E, K>, AllocError> {
+        Ok(ByHashMulti {
+            table: self.table.clone()?,
+            of: PhantomData,
+            by: PhantomData,
+        })
+    }
+
+    fn is_same(item: &T, other: &T) -> bool {
+        *E::key(item) == *E::key(other)
+    }
+
+    fn validate(
+        &self,
+        items: &ItemSet<T>,
+        state: &S,
+        compactness: ValidateCompact,
+    ) -> Result<(), ValidateRefusal<ValidationError>> {
+        linked_steps::validate(&self.table, items, compactness)
+    }
+}
+
+impl<T, S, E, K> GroupedAt<Here, T, S> for ByHashMulti<E, K>
+where
+    E: KeyOf<T, Key = K>,
+    K: Eq + Hash + Drop,
+    S: BuildHasher,
+{
+    type Key = K;
+
+    ghost key_at = { E.key_of };
+
+    fn find_any_at<Q: HashQuery<K>>(
+        &self,
+        items: &ItemSet<T>,
+        state: &S,
+        query: Q,
+    ) -> Option<ItemIndex> {
+        find_any::<T, E, S, Q>(&self.table, items, state, query)
+    }
+}

@@ -1,0 +1,75 @@
+//! Look-ups by any query in a linked table that indexes a store: several items may have the key.
+ghost use Rattle.iddqd_keys.specs.Scan.{passes_by};
+ghost use Rattle.iddqd_by_hash.specs.Hashed.{hashing_of};
+ghost use Rattle.iddqd_map.specs.Files.{Files};
+ghost use Rattle.iddqd_map.specs.Groups.{AreHits, CountsHits, FindsSome};
+
+use crate::hashed_group::{Group, group_of};
+use crate::linked_table::LinkedTable;
+use iddqd::item_index::ItemIndex;
+use iddqd::item_set::ItemSet;
+use iddqd_by_hash::hashed::query_hash;
+use iddqd_keys::hash_query::{AsEquivalent, HashQuery};
+use iddqd_keys::key_of::KeyOf;
+use std::hash::{BuildHasher, Hash};
+
+/// The index of some item that has the key for which the query stands. Several items may have it.
+pub fn find_any<T, E, S, Q>(
+    table: &LinkedTable,
+    items: &ItemSet<T>,
+    state: &S,
+    query: Q,
+) -> Option<ItemIndex>
+where
+    E: KeyOf<T>,
+    E::Key: Eq + Hash,
+    S: BuildHasher,
+    Q: HashQuery<E::Key>,
+    requires { Files E.key_of (hashing_of E.Key.eq E.Key.hash_input S.BuildHasher S.Hasher.Hasher state.now)
+        items.now.store table.now.filed }
+    ensures { FindsSome items.now.store (passes_by E.key_of (Q.stands_for query)) result }
+{
+    let mut group = group_by::<T, E, S, Q>(table, items, state, query);
+    group.next()
+}
+
+/// The indexes whose items have the key for which the query stands, each once, in no order that a caller can rely on.
+///
+/// It compares the query only with keys of the same hash, with none twice, and takes no memory.
+pub fn group_by<'t, T, E, S, Q>(
+    table: &'t LinkedTable,
+    items: &'t ItemSet<T>,
+    state: &S,
+    query: Q,
+) -> Group<'t, T, E, AsEquivalent<Q>>
+where
+    E: KeyOf<T>,
+    E::Key: Eq + Hash,
+    S: BuildHasher,
+    Q: HashQuery<E::Key>,
+    requires { Files E.key_of (hashing_of E.Key.eq E.Key.hash_input S.BuildHasher S.Hasher.Hasher state.now)
+        items.now.store table.now.filed }
+    ensures { AreHits items.now.store (passes_by E.key_of (Q.stands_for query)) result }
+{
+    let hash = query_hash(state, query);
+    group_of::<T, E, AsEquivalent<Q>>(table, items, hash, AsEquivalent(query))
+}
+
+/// How many items have the key for which the query stands. It goes over all of them.
+pub fn count_by<T, E, S, Q>(table: &LinkedTable, items: &ItemSet<T>, state: &S, query: Q) -> usize
+where
+    E: KeyOf<T>,
+    E::Key: Eq + Hash,
+    S: BuildHasher,
+    Q: HashQuery<E::Key>,
+    requires { Files E.key_of (hashing_of E.Key.eq E.Key.hash_input S.BuildHasher S.Hasher.Hasher state.now)
+        items.now.store table.now.filed }
+    ensures { CountsHits items.now.store (passes_by E.key_of (Q.stands_for query)) result }
+{
+    let group = group_by::<T, E, S, Q>(table, items, state, query);
+    // The bound has 64 bits, so the count fits.
+    match group.size_hint().1 {
+        Some(_most) => group.count(),
+        None => unreachable!(),
+    }
+}

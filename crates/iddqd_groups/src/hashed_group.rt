@@ -1,0 +1,120 @@
+//! Iterates over the indexes of the items whose keys match a query, where several items may have one key.
+//!
+//! A linked table has the indexes under each hash as one chain. So the iterator reads no index under another hash.
+ghost use Rattle.std.specs.Prelude.{◌≡◌, ◌≤◌, ℕ, Contains, IfSome, IsSome, length};
+ghost use Rattle.std.specs.Iterator.{YieldsFirst, item_count, at_most, UpTo};
+ghost use Rattle.std.specs.Iterator.SizeHint.{IsWithinCount};
+ghost use Rattle.iddqd.specs.Store.{sentinel};
+ghost use Rattle.iddqd_keys.specs.Scan.{IsLive, passes_by};
+ghost use Rattle.iddqd_by_hash.specs.Hashed.{AreLive};
+ghost use Rattle.iddqd_groups.specs.HashedGroup.{FindsFirst, IsGroupOf};
+
+use crate::linked_table::{LinkedIndexes, LinkedTable};
+use iddqd::item_index::ItemIndex;
+use iddqd::item_set::ItemSet;
+use iddqd::map_hash::{Equivalent, MapHash};
+use iddqd_keys::key_of::{KeyOf, key_at};
+use std::fmt;
+use std::iter::FusedIterator;
+use std::marker::{Model, PhantomData};
+
+/// An iterator over the indexes that are filed under a hash and whose items' keys match a query: each once, in no order
+/// that a caller can rely on. It is fused.
+///
+/// It takes no memory, and reads only keys of indexes under that hash, each once.
+#[derive(Drop)]
+pub struct Group<'a, T, E: KeyOf<T>, Q: Equivalent<E::Key>> {
+    indexes: LinkedIndexes<'a>,
+    items: &'a ItemSet<T>,
+    query: Q,
+    key: PhantomData<E>,
+}
+
+impl<'a, T, E: KeyOf<T>, Q: Equivalent<E::Key>> Model for Group<'a, T, E, Q> {
+    ghost use Rattle.std.specs.Prelude.{ℕ, List, Contains};
+    ghost use Rattle.iddqd_keys.specs.Scan.{IsLive, passes_by};
+    ghost use Rattle.iddqd_groups.specs.HashedGroup.{hits_among};
+
+    ghost Value = { List ℕ };
+
+    ghost view = { λ it. hits_among it.items.now.store (passes_by E.key_of (Q.equivalent it.query)) it.indexes };
+
+    ghost invariant = { λ it. (ix : ℕ) → Contains it.indexes ix → IsLive it.items.now.store ix };
+}
+
+/// The indexes that are filed under `hash` and whose items' keys match the query, each once.
+///
+/// It reads no key. The iterator reads only keys of indexes under that hash, each once.
+pub fn group_of<'a, T, E, Q>(
+    table: &'a LinkedTable,
+    items: &'a ItemSet<T>,
+    hash: MapHash,
+    query: Q,
+) -> Group<'a, T, E, Q>
+where
+    E: KeyOf<T>,
+    Q: Equivalent<E::Key>,
+    requires { AreLive items.now.store table.now.filed }
+    ensures { IsGroupOf E.key_of items.now.store table.now.filed hash (Q.equivalent query) result }
+{
+    Group {
+        indexes: table.indexes_under(hash),
+        items,
+        query,
+        key: PhantomData,
+    }
+}
+
+impl<'a, T, E: KeyOf<T>, Q: Equivalent<E::Key> + Drop> Iterator for Group<'a, T, E, Q> {
+    type Item = ItemIndex;
+
+    ghost next_gives = { YieldsFirst (λ rest. rest) };
+
+    ghost remaining = { item_count (λ rest. rest) };
+
+    fn next(&mut self) -> Option<ItemIndex> {
+        next_hit::<T, E, Q>(&mut self.indexes, self.items, &self.query)
+    }
+
+    fn size_hint(&self) -> (usize, Option<usize>)
+        ensures lower { IsWithinCount result.0 (at_most (length self.now)) }
+        ensures upper { IfSome result.1 (UpTo (at_most (length self.now))) }
+        ensures least { result.0 ≡ 0 }
+        ensures bounded { IsSome result.1 }
+
+        // There are no more indexes than that.
+        ensures few { IfSome result.1 (λ most. most ≤ sentinel) }
+    {
+        self.indexes.size_hint()
+    }
+}
+
+impl<'a, T, E: KeyOf<T>, Q: Equivalent<E::Key> + Drop> FusedIterator for Group<'a, T, E, Q> {}
+
+impl<'a, T, E: KeyOf<T>, Q: Equivalent<E::Key>> fmt::Debug for Group<'a, T, E, Q> {
+    fn fmt<W: fmt::Write>(&self, f: &mut fmt::Formatter<W>) -> fmt::Result {
+        write!(f, "Group")
+    }
+}
+
+// Advances `indexes` past the first one whose item has a key that the query is equivalent to, and returns that index.
+fn next_hit<T, E, Q>(
+    indexes: &mut LinkedIndexes<'_>,
+    items: &ItemSet<T>,
+    query: &Q,
+) -> Option<ItemIndex>
+where
+    E: KeyOf<T>,
+    Q: Equivalent<E::Key>,
+    requires { (ix : ℕ) → Contains indexes.old ix → IsLive items.now.store ix }
+    ensures live { (ix : ℕ) → Contains indexes.new ix → IsLive items.now.store ix }
+    ensures first { FindsFirst items.now.store (passes_by E.key_of (Q.equivalent query.now))
+        indexes.old result indexes.new }
+{
+    'passing: while let Some(ix) = indexes.next() {
+        if query.equivalent(key_at::<T, E>(items, ix)) {
+            return Some(ix);
+        }
+    }
+    None
+}
