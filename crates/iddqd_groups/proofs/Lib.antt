@@ -6,6 +6,7 @@ mod LinkLemmas
 mod LinkListLemmas
 mod LinkedSizeLemmas
 mod LinksLemmas
+mod NeighbourLemmas
 mod RemoveLinkLemmas
 mod RenameLinkLemmas
 mod RenamedLenLemmas

@@ -20,7 +20,7 @@ ghost use Rattle.iddqd_by_hash.specs.Hashed.{hashing_of};
 ghost use Rattle.iddqd_map.specs.Groups.{AreHits, CountsHits};
 ghost use Rattle.iddqd_keys.specs.Scan.{HasNoHit, passes_by};
 
-use crate::group_query::{count_by, find_any, group_by};
+use crate::group_query::{count_by, find_any, find_other, group_by};
 pub use crate::hashed_group::Group;
 use crate::linked_steps;
 use crate::linked_table::LinkedTable;
@@ -404,5 +404,15 @@ where
         query: Q,
     ) -> Option<ItemIndex> {
         find_any::<T, E, S, Q>(&self.table, items, state, query)
+    }
+
+    fn find_other_at<Q: HashQuery<K>>(
+        &self,
+        items: &ItemSet<T>,
+        state: &S,
+        query: Q,
+        ix: ItemIndex,
+    ) -> Option<ItemIndex> {
+        find_other::<T, E, S, Q>(&self.table, items, state, query, ix)
     }
 }

@@ -1,8 +1,8 @@
 //! Look-ups by any query in a linked table that indexes a store: several items may have the key.
-ghost use Rattle.iddqd_keys.specs.Scan.{passes_by};
+ghost use Rattle.iddqd_keys.specs.Scan.{IsHit, passes_by};
 ghost use Rattle.iddqd_by_hash.specs.Hashed.{hashing_of};
 ghost use Rattle.iddqd_map.specs.Files.{Files};
-ghost use Rattle.iddqd_map.specs.Groups.{AreHits, CountsHits, FindsSome};
+ghost use Rattle.iddqd_map.specs.Groups.{AreHits, CountsHits, FindsOther, FindsSome};
 
 use crate::hashed_group::{Group, group_of};
 use crate::linked_table::LinkedTable;
@@ -10,7 +10,7 @@ use iddqd::item_index::ItemIndex;
 use iddqd::item_set::ItemSet;
 use iddqd_by_hash::hashed::query_hash;
 use iddqd_keys::hash_query::{AsEquivalent, HashQuery};
-use iddqd_keys::key_of::KeyOf;
+use iddqd_keys::key_of::{KeyOf, key_at};
 use std::hash::{BuildHasher, Hash};
 
 /// The index of some item that has the key for which the query stands. Several items may have it.
@@ -31,6 +31,45 @@ where
 {
     let mut group = group_by::<T, E, S, Q>(table, items, state, query);
     group.next()
+}
+
+/// The index of another item that has the key for which the query stands, which the item at `ix` has; `None` if and
+/// only if no other item has it.
+///
+/// It compares the query with the key at a neighbour of `ix`, and searches the hash table only if that is another key.
+pub fn find_other<T, E, S, Q>(
+    table: &LinkedTable,
+    items: &ItemSet<T>,
+    state: &S,
+    query: Q,
+    ix: ItemIndex,
+) -> Option<ItemIndex>
+where
+    E: KeyOf<T>,
+    E::Key: Eq + Hash,
+    S: BuildHasher,
+    Q: HashQuery<E::Key>,
+    requires files { Files E.key_of (hashing_of E.Key.eq E.Key.hash_input S.BuildHasher S.Hasher.Hasher state.now)
+        items.now.store table.now.filed }
+    requires hit { IsHit items.now.store (passes_by E.key_of (Q.stands_for query)) ix }
+    ensures { FindsOther items.now.store (passes_by E.key_of (Q.stands_for query)) ix result }
+{
+    let near = match table.neighbour_of(ix) {
+        Some(near) => near,
+        None => return None,
+    };
+    if query.stands_for(key_at::<T, E>(items, near)) {
+        return Some(near);
+    }
+    let mut group = group_by::<T, E, S, Q>(table, items, state, query);
+    match group.next() {
+        Some(first) => if first == ix {
+            group.next()
+        } else {
+            Some(first)
+        },
+        None => None,
+    }
 }
 
 /// The indexes whose items have the key for which the query stands, each once, in no order that a caller can rely on.

@@ -25,6 +25,7 @@ ghost use Rattle.iddqd_groups.specs.Links.{filed_by, next_of, prev_of, next_behi
 mod copies;
 mod indexes;
 mod links;
+mod neighbours;
 mod removals;
 mod renames;
 mod sizes;

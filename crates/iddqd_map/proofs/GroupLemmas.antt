@@ -1,5 +1,5 @@
 -- For maps: what calls leave that remove the items that pass a test, one after the other, in any order.
-use Rattle.std.proofs.Common.{◌≡◌, ◌≢◌, ◌∙◌, ◌↔◌, inl, inr, ℕ, Bool, false, nat_eq, List, [], ◌∷◌, Option, Some, None, is_some, refl, sym}
+use Rattle.std.proofs.Common.{◌≡◌, ◌≢◌, ◌∙◌, ◌↔◌, inl, inr, ℕ, Bool, false, nat_eq, List, [], ◌∷◌, Option, Some, None, is_some, refl, sym, subst}
 use Rattle.std.specs.List.{AllByRecursion, Contains, IsDistinct}
 use Rattle.std.proofs.lemmas.Bool.{cases_eq, ne_eqb}
 use Rattle.std.proofs.lemmas.Map.Keys.{IsDistinct-cons}
@@ -12,6 +12,7 @@ use Rattle.iddqd_keys.proofs.KeyWalkLemmas.{pairs_at-alike, pairs_at-first}
 use Rattle.iddqd_keys.proofs.ScanLemmas.{live_before}
 use Rattle.iddqd_map.specs.Groups.{FindsSome, AreHits, RemovesEach}
 use Rattle.iddqd_map.specs.Ranges.{LeavesOthers}
+use Rattle.iddqd_map.specs.Several.{HasNoOther}
 
 -- an index that no member of a list is differs from each of them
 differs_from :
@@ -51,6 +52,16 @@ module _ {T : Type 0} (test : T → Bool) where
 
     still : (j : ℕ) → j ≢ ix → IsHit s test j → IsHit (removed s ix) test j
     still j apart (y, there, passed) = (y, get-removed_other s ix j apart ∙ there, passed)
+
+    -- where it is the only item that passes, none is left
+    pub HasNoHit-last : (now : Store T) → now ≡ removed s ix → HasNoOther s test ix → HasNoHit now test
+    HasNoHit-last now gone only = λ j hit.
+        let (apart, was) = before j (subst (λ t. IsHit t test j) gone hit) in
+        apart (only j was)
+
+    -- another item that passes still does
+    pub IsHit-other : (now : Store T) (j : ℕ) → now ≡ removed s ix → j ≢ ix → IsHit s test j → IsHit now test j
+    IsHit-other now j gone apart hit = subst (λ t. IsHit t test j) (sym gone) (still j apart hit)
 
     pub LeavesOthers-hit :
         (now new : Store T)

@@ -1,6 +1,6 @@
 //! A key by its hash that several items may have, at a place of a key index: the items that have one key are a group.
-ghost use Rattle.iddqd_keys.specs.Scan.{passes_by};
-ghost use Rattle.iddqd_map.specs.Groups.{FindsSome};
+ghost use Rattle.iddqd_keys.specs.Scan.{IsHit, passes_by};
+ghost use Rattle.iddqd_map.specs.Groups.{FindsOther, FindsSome};
 
 use crate::key_index::{KeyIndex, Left, Right};
 use crate::pair::Pair;
@@ -26,6 +26,21 @@ pub trait GroupedAt<P, T, S>: KeyIndex<T, S> {
     ) -> Option<ItemIndex>
         requires indexed { Self.KeyIndex.indexes self.now state.now items.now.store }
         ensures { FindsSome items.now.store (passes_by key_at (Q.stands_for query)) result };
+
+    /// The index of another item that has the key for which the query stands, which the item at `ix` has; `None` if
+    /// and only if no other item has it.
+    ///
+    /// It takes no look-up, unless keys that differ have the same hash.
+    fn find_other_at<Q: HashQuery<Self::Key>>(
+        &self,
+        items: &ItemSet<T>,
+        state: &S,
+        query: Q,
+        ix: ItemIndex,
+    ) -> Option<ItemIndex>
+        requires indexed { Self.KeyIndex.indexes self.now state.now items.now.store }
+        requires hit { IsHit items.now.store (passes_by key_at (Q.stands_for query)) ix }
+        ensures { FindsOther items.now.store (passes_by key_at (Q.stands_for query)) ix result };
 }
 
 impl<P, T, S, A, B, C> GroupedAt<Left<P>, T, S> for Pair<A, B, C>
@@ -46,6 +61,16 @@ where
     ) -> Option<ItemIndex> {
         self.first.find_any_at(items, state, query)
     }
+
+    fn find_other_at<Q: HashQuery<A::Key>>(
+        &self,
+        items: &ItemSet<T>,
+        state: &S,
+        query: Q,
+        ix: ItemIndex,
+    ) -> Option<ItemIndex> {
+        self.first.find_other_at(items, state, query, ix)
+    }
 }
 
 impl<P, T, S, A, B, C> GroupedAt<Right<P>, T, S> for Pair<A, B, C>
@@ -65,5 +90,15 @@ where
         query: Q,
     ) -> Option<ItemIndex> {
         self.second.find_any_at(items, state, query)
+    }
+
+    fn find_other_at<Q: HashQuery<B::Key>>(
+        &self,
+        items: &ItemSet<T>,
+        state: &S,
+        query: Q,
+        ix: ItemIndex,
+    ) -> Option<ItemIndex> {
+        self.second.find_other_at(items, state, query, ix)
     }
 }

@@ -1,13 +1,13 @@
 //! Calls on a group: the items with one hashed key that several items may have.
 //!
-//! A call that removes them finds each item by a look-up of that key, and removes it once from each table. No memory
-//! is taken.
-ghost use Rattle.std.specs.Prelude.{◌≡◌, ◌≤◌, ◌+◌, ◌↔◌, Bool, false};
-ghost use Rattle.iddqd.specs.{live_count};
+//! A call that removes them looks that key up once, goes on from item to item, and removes each once from each table.
+//! No memory is taken.
+ghost use Rattle.std.specs.Prelude.{◌≡◌, ◌≤◌, ◌+◌, ◌↔◌, Bool, Some, false};
+ghost use Rattle.iddqd.specs.{get, live_count, removed};
 ghost use Rattle.iddqd.specs.LiveItems.{live_items};
 ghost use Rattle.iddqd_hash.specs.Asks.{CanAsk};
-ghost use Rattle.iddqd_keys.specs.Scan.{HasNoHit, passes_by};
-ghost use Rattle.iddqd_map.specs.Groups.{FindsSome, RemovesEach};
+ghost use Rattle.iddqd_keys.specs.Scan.{HasNoHit, IsLive, passes_by};
+ghost use Rattle.iddqd_map.specs.Groups.{FindsSome, GivesAt, RemovesEach};
 ghost use Rattle.iddqd_map.specs.KeyIndex.{IsIndexed};
 ghost use Rattle.iddqd_map.specs.Map.{capacity, room};
 ghost use Rattle.iddqd_map.specs.Ranges.{LeavesOthers, TakesItem, GivesItem, MayGive};
@@ -46,8 +46,9 @@ impl<T, X: KeyIndex<T, S>, S> Map<T, X, S> {
 
     /// Removes the items that have the key for which the query stands, and returns how many there were.
     ///
-    /// The closure receives each of them once, in no particular order. No memory is taken. It costs, for each item, a
-    /// look-up of that key, and a removal from each table.
+    /// The closure receives each of them once, in no particular order. No memory is taken. It costs one look-up of that
+    /// key, and for each item a removal from each table. Where keys that differ have the same hash, it may cost another
+    /// look-up for each item.
     pub fn remove_hashed_group_by<P, Q, F: FnMut(T)>(&mut self, query: Q, mut f: F) -> usize
     where
         X: GroupedAt<P, T, S> + Removes<T, S>,
@@ -98,10 +99,35 @@ where
     ensures capacity { X.capacity indexes.new ≡ X.capacity indexes.old }
     ensures cells { X.cells indexes.new ≡ X.cells indexes.old }
 {
-    while let Some(ix) = indexes.find_any_at(items, state, query) {
-        match take_out(items, indexes, state, ix) {
-            Some(item) => f(item),
-            None => unreachable!(),
-        }
+    let first = match indexes.find_any_at(items, state, query) {
+        Some(ix) => ix,
+        None => return,
+    };
+    while let Some(ix) = indexes.find_other_at(items, state, query, first) {
+        give(items, indexes, state, ix, f);
+    }
+    give(items, indexes, state, first, f);
+}
+
+// Removes the item at a live index, and passes it to the closure.
+fn give<T, S, X: Removes<T, S>, F: FnMut(T)>(
+    items: &mut ItemSet<T>,
+    indexes: &mut X,
+    state: &S,
+    ix: ItemIndex,
+    f: &mut F,
+)
+    requires live { IsLive items.old.store ix }
+    requires indexed { IsIndexed (X.indexes indexes.old) state.now items.old.store }
+    requires can_give { (item : T) → get items.old.store ix ≡ Some item → TakesItem F.FnMut f.old item }
+    ensures indexed { IsIndexed (X.indexes indexes.new) state.now items.new.store }
+    ensures given { GivesAt (GivesItem F.FnMut) f.old items.old.store ix f.new }
+    ensures removed { items.new ≡ record items.old { store = removed items.old.store ix } }
+    ensures capacity { X.capacity indexes.new ≡ X.capacity indexes.old }
+    ensures cells { X.cells indexes.new ≡ X.cells indexes.old }
+{
+    match take_out(items, indexes, state, ix) {
+        Some(item) => f(item),
+        None => unreachable!(),
     }
 }

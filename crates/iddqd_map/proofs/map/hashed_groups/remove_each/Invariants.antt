@@ -2,7 +2,7 @@ use Rattle.std.proofs.Common.{◌≡◌, ◌≤◌, ℕ, Bool, Some}
 use Rattle.iddqd.specs.LiveItems.{live_items}
 use Rattle.iddqd.specs.Store.{Store, get, live_count}
 use Rattle.iddqd_hash.specs.Asks.{CanAsk}
-use Rattle.iddqd_keys.specs.Scan.{passes_by}
+use Rattle.iddqd_keys.specs.Scan.{IsHit, passes_by}
 use Rattle.iddqd_map.specs.Groups.{RemovesEach}
 use Rattle.iddqd_map.specs.KeyIndex.{IsIndexed}
 use Rattle.iddqd_map.specs.Ranges.{LeavesOthers, TakesItem, GivesItem}
@@ -14,6 +14,7 @@ invariant-loop-ix g l =
     let test = passes_by g.X.GroupedAt.key_at (g.Q.HashQuery.stands_for l.fn.query) in
     record {
       kept : IsIndexed (g.X.KeyIndex.indexes l.indexes) l.fn.state l.items.store;
+      held : IsHit l.items.store test l.first;
       can : CanAsk (TakesItem g.F.FnMut) (λ p x (b : Bool) q. GivesItem g.F.FnMut p x q) l.f
           (live_items l.fn.items.store);
       among : (j : ℕ) (x : _) → get l.items.store j ≡ Some x → get l.fn.items.store j ≡ Some x;
