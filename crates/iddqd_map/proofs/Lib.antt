@@ -19,3 +19,4 @@ pub mod RetainedLemmas
 pub mod RoomLemmas
 pub mod SizeLemmas
 pub mod TakeLemmas
+pub mod TwoKeysLemmas

@@ -1,6 +1,7 @@
 -- What a map whose items have two keys reports of other items, and what its insert that overwrites may return.
-use Rattle.std.specs.Prelude.{◌+◌, ℕ, Bool, false, List, Option, Result}
+use Rattle.std.specs.Prelude.{◌+◌, ℕ, Bool, false, List, Option, Some, None, Result, Ok, Err}
 use Rattle.iddqd.specs.Store.{Store}
+use Rattle.iddqd_by_hash.specs.declared.hashed_move.Move.{Move}
 use Rattle.iddqd_hash.specs.Sizes.{most_cells}
 use Rattle.iddqd_map.specs.Calls.{Overwrites}
 use Rattle.iddqd_map.specs.Map.{MapState}
@@ -9,6 +10,19 @@ use Rattle.iddqd_map.specs.PairConflict.{ReportBoth, ReportBothOther}
 use Rattle.iddqd_map.specs.Several.{either_key}
 use Rattle.iddqd_map.specs.declared.bi_hash_map.clash.BiClash.{BiClash}
 use Rattle.iddqd_map.specs.declared.refusal.OverwriteRefusal.{OverwriteRefusal}
+
+-- the answers of two look-ups, one by each key: `Ok` if neither found an item
+abbrev pub two_clashes : Option ℕ → Option ℕ → Result (Unit {0}) BiClash
+two_clashes None None = Ok tt
+two_clashes None (Some other) = Err record { key1 = None; key2 = Some other }
+two_clashes (Some one) other = Err record { key1 = Some one; key2 = other }
+
+-- the plans of two tables, one by each key: how the index moves in both, or the other items that have a key
+abbrev pub two_moves : Result Move ℕ → Result Move ℕ → Result (Move × Move) BiClash
+two_moves (Ok first) (Ok second) = Ok (first, second)
+two_moves (Ok first) (Err other) = Err record { key1 = None; key2 = Some other }
+two_moves (Err one) (Ok second) = Err record { key1 = Some one; key2 = None }
+two_moves (Err one) (Err other) = Err record { key1 = Some one; key2 = Some other }
 
 -- `first x y` says that the items share their first key, `second x y` that they share their second
 module _ {T : Type 0} (first second : T → T → Bool) where

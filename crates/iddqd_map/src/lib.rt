@@ -19,5 +19,6 @@ pub mod no_conflict;
 pub mod pair;
 pub mod pair_conflict;
 pub mod refusal;
+mod reported;
 pub mod tri_hash_map;
 mod word;

@@ -7,13 +7,14 @@
 //! Invariant: both key indexes index the same store, under the same state of the hasher.
 ghost use Rattle.std.specs.Prelude.{◌≡◌, Some};
 ghost use Rattle.iddqd_map.specs.KeyIndex.{IsNextReported};
-ghost use Rattle.iddqd_map.specs.PairConflict.{IsReportedBy, first_of, second_of, lesser_of};
+ghost use Rattle.iddqd_map.specs.PairConflict.{IsReportedBy, first_of, second_of};
 
 use crate::key_index::{
     Checks, FindsSame, FindsWithHashAt, HashedAt, Inserts, KeyIndex, Left, Moves, OrderedAt,
     Removes, Right, Sizes, TakesAt,
 };
 use crate::pair_conflict::{PairConflict, ReportsPair};
+use crate::reported::lesser;
 use iddqd::index_remap::IndexRemap;
 use iddqd::internal::{ValidateCompact, ValidateRefusal, ValidationError};
 use iddqd::item_index::ItemIndex;
@@ -439,19 +440,6 @@ fn next_of<T, S, X: Inserts<T, S>>(
 {
     let reported = conflict?;
     X::next_reported(&reported, *before)
-}
-
-// The lesser of two indexes, or the one that there is.
-fn lesser(one: Option<ItemIndex>, other: Option<ItemIndex>) -> Option<ItemIndex>
-    ensures { result ≡ lesser_of one other }
-{
-    match other {
-        Some(at) => match one {
-            Some(ix) => Some(ix.min(at)),
-            None => Some(at),
-        },
-        None => one,
-    }
 }
 
 impl<P, T, S, A, B, C> HashedAt<Left<P>, T, S> for Pair<A, B, C>

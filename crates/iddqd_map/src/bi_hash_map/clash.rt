@@ -1,9 +1,9 @@
 //! Which items have keys of a refused one.
 ghost use Rattle.std.specs.Prelude.{◌≡◌, ◌⊎◌, ◌↔◌, IsTrue, IsSome};
-ghost use Rattle.iddqd_map.specs.PairConflict.{first_of, second_of};
+ghost use Rattle.iddqd_map.specs.TwoKeys.{two_clashes, two_moves};
 
-use crate::pair_conflict::{PairConflict, ReportsPair};
 use iddqd::item_index::{ItemIndex, OrDash};
+use iddqd_by_hash::hashed_move::Move;
 use std::fmt;
 
 /// For each key of an item, the index of the other item that has it, if one has.
@@ -26,37 +26,27 @@ impl BiClash {
     }
 }
 
-impl ReportsPair<ItemIndex, ItemIndex> for BiClash {
-    ghost first = { λ clash. clash.key1 };
+// Puts the look-ups of both keys of an item together: `Ok` if neither found an item.
+pub(super) fn clash_of(key1: Option<ItemIndex>, key2: Option<ItemIndex>) -> Result<(), BiClash>
+    ensures { result ≡ two_clashes key1 key2 }
+{
+    let clash = BiClash { key1, key2 };
+    if clash.is_some() { Err(clash) } else { Ok(()) }
+}
 
-    ghost second = { λ clash. clash.key2 };
-
-    fn reported(conflict: PairConflict<ItemIndex, ItemIndex>) -> BiClash
-        ensures first { result.key1 ≡ first_of conflict }
-        ensures second { result.key2 ≡ second_of conflict }
-    {
-        match conflict {
-            PairConflict::First(one) => BiClash {
-                key1: Some(one),
-                key2: None,
-            },
-            PairConflict::Second(other) => BiClash {
-                key1: None,
-                key2: Some(other),
-            },
-            PairConflict::Both(one, other) => BiClash {
-                key1: Some(one),
-                key2: Some(other),
-            },
-        }
-    }
-
-    fn first(&self) -> Option<ItemIndex> {
-        self.key1
-    }
-
-    fn second(&self) -> Option<ItemIndex> {
-        self.key2
+// Puts the plans of both tables together: both moves, or the items that have one of the keys.
+pub(super) fn both_moves(
+    first: Result<Move, ItemIndex>,
+    second: Result<Move, ItemIndex>,
+) -> Result<(Move, Move), BiClash>
+    ensures { result ≡ two_moves first second }
+{
+    match (first, second) {
+        (Ok(first), Ok(second)) => Ok((first, second)),
+        (first, second) => Err(BiClash {
+            key1: first.err(),
+            key2: second.err(),
+        }),
     }
 }
 

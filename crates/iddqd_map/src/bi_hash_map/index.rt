@@ -1,16 +1,15 @@
 //! The key index of a map whose items have two keys: a table by each of them.
 //!
-//! A look-up by one key goes to the table by that key. The calls that may run out of memory, put the tables' answers
-//! together or make the tables go to a pair, and all others to each table. A caller's proof sees two keys, and neither
-//! the pair nor the tables: each of these would cost proof time in every function that calls the map.
-use super::clash::BiClash;
+//! A look-up by one key goes to the table by that key, and every other call to both tables. A caller's proof sees two
+//! keys and not the tables, each of which would cost proof time in every function that calls the map.
+use super::clash::{BiClash, both_moves, clash_of};
 use super::item::{BiHashItem, Key1, Key2};
 use crate::by_hash::ByHash;
 use crate::key_index::{
     Checks, FindsSame, FindsWithHashAt, First, HashedAt, Inserts, KeyIndex, Moves, Removes, Second,
     Sizes, TakesAt,
 };
-use crate::pair::Pair;
+use crate::reported::{lesser, past};
 use iddqd::index_remap::IndexRemap;
 use iddqd::internal::{ValidateCompact, ValidateRefusal, ValidationError};
 use iddqd::item_index::ItemIndex;
@@ -25,23 +24,24 @@ type FirstTable<T> = ByHash<Key1, <T as BiHashItem>::Key1>;
 
 type SecondTable<T> = ByHash<Key2, <T as BiHashItem>::Key2>;
 
-type Tables<T> = Pair<FirstTable<T>, SecondTable<T>, BiClash>;
-
 /// A table by each of the two keys.
 #[derive(Drop)]
 pub struct BiIndex<T: BiHashItem> {
-    tables: Tables<T>,
+    first: FirstTable<T>,
+    second: SecondTable<T>,
 }
 
 impl<T: BiHashItem, S: BuildHasher> KeyIndex<T, S> for BiIndex<T> {
     ghost use Rattle.std.proofs.Common.{ap, refl};
     ghost use Rattle.std.proofs.lemmas.Cmp.{and_equiv};
-    ghost use Rattle.std.specs.Prelude.{◌+◌, false};
+    ghost use Rattle.std.specs.Prelude.{◌≡◌, ◌+◌, min, false};
+    ghost use Rattle.iddqd_hash.specs.HashTable.{capacity, memory};
     ghost use Rattle.iddqd_hash.specs.MapHashTable.{filed};
     ghost use Rattle.iddqd_hash.specs.OpenTableSizes.{least_cells};
     ghost use Rattle.iddqd_hash.specs.Sizes.{most_cells};
     ghost use Rattle.iddqd_hash.proofs.LeastCellsLemmas.{least_cells-grows};
     ghost use Rattle.iddqd_by_hash.specs.Hashed.{hashing_of};
+    ghost use Rattle.iddqd_map.specs.Indexing.{Indexes};
     ghost use Rattle.iddqd_map.specs.HashLaws.{shares_laws, Indexes-kept, Indexes-key_kept, Indexes-keys_shared};
     ghost use Rattle.iddqd_map.specs.KeyLaws.{IsOfTwo, reported_two, some_two, few_two};
     ghost use Rattle.iddqd_map.specs.PairLaws.{AreApart-either, HaveSameKeys-first, HaveSameKeys-second, sum_grows};
@@ -62,11 +62,15 @@ impl<T: BiHashItem, S: BuildHasher> KeyIndex<T, S> for BiIndex<T> {
 
     ghost same_keys = { both_keys (shares T.first_key T.Key1.eq) (shares T.second_key T.Key2.eq) };
 
-    ghost indexes = { λ x. ⟦<Tables<T> as KeyIndex<T, S>>⟧.indexes x.tables };
+    ghost indexes = { λ x state s.
+        Indexes T.first_key (hashing_of T.Key1.eq T.Key1.hash_input S.BuildHasher S.Hasher.Hasher state) s
+        (filed x.first.table)
+        × Indexes T.second_key (hashing_of T.Key2.eq T.Key2.hash_input S.BuildHasher S.Hasher.Hasher state) s
+        (filed x.second.table) };
 
-    ghost capacity = { λ x. ⟦<Tables<T> as KeyIndex<T, S>>⟧.capacity x.tables };
+    ghost capacity = { λ x. min (capacity x.first.table) (capacity x.second.table) };
 
-    ghost cells = { λ x. ⟦<Tables<T> as KeyIndex<T, S>>⟧.cells x.tables };
+    ghost cells = { λ x. memory x.first.table + memory x.second.table };
 
     ghost most = { λ n. most_cells n + most_cells n };
 
@@ -79,7 +83,7 @@ impl<T: BiHashItem, S: BuildHasher> KeyIndex<T, S> for BiIndex<T> {
 
     ghost may_need_memory = { false };
 
-    ghost same = { λ x y. ⟦<Tables<T> as KeyIndex<T, S>>⟧.same x.tables y.tables };
+    ghost same = { λ x y. (filed y.first.table ≡ filed x.first.table) × (filed y.second.table ≡ filed x.second.table) };
 
     ghost unique_keys = { 2 };
 
@@ -99,9 +103,9 @@ impl<T: BiHashItem, S: BuildHasher> KeyIndex<T, S> for BiIndex<T> {
 
     ghost same_indexes = { λ x y state s same is. (
       Indexes-kept T.first_key (hashing_of T.Key1.eq T.Key1.hash_input S.BuildHasher S.Hasher.Hasher state) s
-          (filed x.tables.first.table) (filed y.tables.first.table) same.0 is.0,
+          (filed x.first.table) (filed y.first.table) same.0 is.0,
       Indexes-kept T.second_key (hashing_of T.Key2.eq T.Key2.hash_input S.BuildHasher S.Hasher.Hasher state) s
-          (filed x.tables.second.table) (filed y.tables.second.table) same.1 is.1,
+          (filed x.second.table) (filed y.second.table) same.1 is.1,
     ) };
 
     ghost apart = { λ x state s is. AreApart-either (shares T.first_key T.Key1.eq) (shares T.second_key T.Key2.eq) s
@@ -109,17 +113,17 @@ impl<T: BiHashItem, S: BuildHasher> KeyIndex<T, S> for BiIndex<T> {
 
     ghost modified = { λ x state s ix was item is live same. (
       Indexes-key_kept T.first_key T.Key1.eq T.Key1.hash_input S.BuildHasher S.Hasher.Hasher T.Key1.Eq.laws
-          T.Key1.respects_eq state s (filed x.tables.first.table) is.0 ix was item live (ap (λ keys. keys.0) same),
+          T.Key1.respects_eq state s (filed x.first.table) is.0 ix was item live (ap (λ keys. keys.0) same),
       Indexes-key_kept T.second_key T.Key2.eq T.Key2.hash_input S.BuildHasher S.Hasher.Hasher T.Key2.Eq.laws
-          T.Key2.respects_eq state s (filed x.tables.second.table) is.1 ix was item live (ap (λ keys. keys.1) same),
+          T.Key2.respects_eq state s (filed x.second.table) is.1 ix was item live (ap (λ keys. keys.1) same),
     ) };
 
     ghost same_items = { λ x state s t same is. let first = shares T.first_key T.Key1.eq in
         let second = shares T.second_key T.Key2.eq in (
           Indexes-keys_shared T.first_key T.Key1.eq T.Key1.hash_input S.BuildHasher S.Hasher.Hasher T.Key1.Eq.laws
-              T.Key1.respects_eq state s (filed x.tables.first.table) is.0 t (HaveSameKeys-first first second s t same),
+              T.Key1.respects_eq state s (filed x.first.table) is.0 t (HaveSameKeys-first first second s t same),
           Indexes-keys_shared T.second_key T.Key2.eq T.Key2.hash_input S.BuildHasher S.Hasher.Hasher T.Key2.Eq.laws
-              T.Key2.respects_eq state s (filed x.tables.second.table) is.1 t
+              T.Key2.respects_eq state s (filed x.second.table) is.1 t
               (HaveSameKeys-second first second s t same),
         ) };
 
@@ -137,21 +141,22 @@ impl<T: BiHashItem, S: BuildHasher> KeyIndex<T, S> for BiIndex<T> {
 
 impl<T: BiHashItem, S: BuildHasher> Sizes<T, S> for BiIndex<T> {
     fn capacity(&self) -> usize {
-        let first = <FirstTable<T> as Sizes<T, S>>::capacity(&self.tables.first);
-        let second = <SecondTable<T> as Sizes<T, S>>::capacity(&self.tables.second);
+        let first = <FirstTable<T> as Sizes<T, S>>::capacity(&self.first);
+        let second = <SecondTable<T> as Sizes<T, S>>::capacity(&self.second);
         first.min(second)
     }
 
     fn new(alloc: Global) -> BiIndex<T> {
         BiIndex {
-            tables: <Tables<T> as Sizes<T, S>>::new(alloc),
+            first: <FirstTable<T> as Sizes<T, S>>::new(alloc),
+            second: <SecondTable<T> as Sizes<T, S>>::new(alloc),
         }
     }
 
     fn with_capacity(alloc: Global, wanted: usize) -> Result<BiIndex<T>, AllocError> {
-        Ok(BiIndex {
-            tables: <Tables<T> as Sizes<T, S>>::with_capacity(alloc, wanted)?,
-        })
+        let first = <FirstTable<T> as Sizes<T, S>>::with_capacity(alloc, wanted)?;
+        let second = <SecondTable<T> as Sizes<T, S>>::with_capacity(alloc, wanted)?;
+        Ok(BiIndex { first, second })
     }
 
     fn reserve(
@@ -160,30 +165,41 @@ impl<T: BiHashItem, S: BuildHasher> Sizes<T, S> for BiIndex<T> {
         state: &S,
         additional: usize,
     ) -> Result<(), AllocError> {
-        self.tables.reserve(items, state, additional)
+        self.first.reserve(items, state, additional)?;
+        self.second.reserve(items, state, additional)
     }
 
     fn shrink_to(&mut self, items: &ItemSet<T>, state: &S, least: usize) -> Result<(), AllocError> {
-        self.tables.shrink_to(items, state, least)
+        let first = self.first.shrink_to(items, state, least);
+        let second = self.second.shrink_to(items, state, least);
+        first.and(second)
     }
 }
 
 impl<T: BiHashItem, S: BuildHasher> Inserts<T, S> for BiIndex<T> {
+    ghost use Rattle.std.specs.Prelude.{◌≡◌, ◌≤◌};
+    ghost use Rattle.iddqd_hash.specs.HashTable.{room};
+    ghost use Rattle.iddqd_by_hash.specs.Hashed.{hashing_of};
+
     type Known = (MapHash, MapHash);
 
-    type Spot = ((), ());
+    type Spot = ();
 
-    type Plan = ((), ());
+    type Plan = ();
 
-    ghost is_known = { ⟦<Tables<T> as Inserts<T, S>>⟧.is_known };
+    ghost is_known = { λ state item known.
+        (known.0 ≡ (hashing_of T.Key1.eq T.Key1.hash_input S.BuildHasher S.Hasher.Hasher state).hash_of
+        (T.first_key item))
+        × (known.1 ≡ (hashing_of T.Key2.eq T.Key2.hash_input S.BuildHasher S.Hasher.Hasher state).hash_of
+        (T.second_key item)) };
 
-    ghost is_spot = { λ x. ⟦<Tables<T> as Inserts<T, S>>⟧.is_spot x.tables };
+    ghost is_spot = { λ x state s item spot. Unit {0} };
 
-    ghost is_planned = { λ x. ⟦<Tables<T> as Inserts<T, S>>⟧.is_planned x.tables };
+    ghost is_planned = { λ x state s item plan. Unit {0} };
 
-    ghost has_room_for = { λ x. ⟦<Tables<T> as Inserts<T, S>>⟧.has_room_for x.tables };
+    ghost has_room_for = { λ x plan. (1 ≤ room x.first.table) × (1 ≤ room x.second.table) };
 
-    ghost is_ready_after = { λ x. ⟦<Tables<T> as Inserts<T, S>>⟧.is_ready_after x.tables };
+    ghost is_ready_after = { λ x. Unit {0} };
 
     fn known(state: &S, item: &T) -> (MapHash, MapHash) {
         let first = <FirstTable<T> as Inserts<T, S>>::known(state, item);
@@ -197,55 +213,37 @@ impl<T: BiHashItem, S: BuildHasher> Inserts<T, S> for BiIndex<T> {
         state: &S,
         known: (MapHash, MapHash),
         item: &T,
-    ) -> Result<((), ()), BiClash> {
-        self.tables.look_up(items, state, known, item)
+    ) -> Result<(), BiClash> {
+        let first = self.first.look_up(items, state, known.0, item);
+        let second = self.second.look_up(items, state, known.1, item);
+        clash_of(first.err(), second.err())
     }
 
-    fn plan(
-        &self,
-        items: &ItemSet<T>,
-        state: &S,
-        spot: ((), ()),
-        ix: ItemIndex,
-        item: &T,
-    ) -> ((), ()) {
-        let (first, second) = spot;
-        let first = self.tables.first.plan(items, state, first, ix, item);
-        let second = self.tables.second.plan(items, state, second, ix, item);
-        (first, second)
+    fn plan(&self, items: &ItemSet<T>, state: &S, spot: (), ix: ItemIndex, item: &T) {}
+
+    fn make_room(&mut self, items: &ItemSet<T>, state: &S, plan: &()) -> Result<(), AllocError> {
+        self.first.make_room(items, state, plan)?;
+        self.second.make_room(items, state, plan)
     }
 
-    fn make_room(
-        &mut self,
-        items: &ItemSet<T>,
-        state: &S,
-        plan: &((), ()),
-    ) -> Result<(), AllocError> {
-        self.tables.make_room(items, state, plan)
-    }
-
-    fn insert(&mut self, known: (MapHash, MapHash), plan: &((), ()), ix: ItemIndex) {
-        <FirstTable<T> as Inserts<T, S>>::insert(&mut self.tables.first, known.0, &plan.0, ix);
-        <SecondTable<T> as Inserts<T, S>>::insert(&mut self.tables.second, known.1, &plan.1, ix);
+    fn insert(&mut self, known: (MapHash, MapHash), plan: &(), ix: ItemIndex) {
+        <FirstTable<T> as Inserts<T, S>>::insert(&mut self.first, known.0, plan, ix);
+        <SecondTable<T> as Inserts<T, S>>::insert(&mut self.second, known.1, plan, ix);
     }
 
     fn next_reported(conflict: &BiClash, before: Option<ItemIndex>) -> Option<ItemIndex> {
-        <Tables<T> as Inserts<T, S>>::next_reported(conflict, before)
+        lesser(past(&conflict.key1, &before), past(&conflict.key2, &before))
     }
 
-    fn spot(&self, items: &ItemSet<T>, state: &S, known: (MapHash, MapHash), item: &T) -> ((), ()) {
-        let first = self.tables.first.spot(items, state, known.0, item);
-        let second = self.tables.second.spot(items, state, known.1, item);
-        (first, second)
-    }
+    fn spot(&self, items: &ItemSet<T>, state: &S, known: (MapHash, MapHash), item: &T) {}
 
     fn ready_after(&mut self, items: &ItemSet<T>, state: &S) -> Result<(), AllocError> {
-        self.tables.ready_after(items, state)
+        Ok(())
     }
 
     fn give_way(&mut self, items: &ItemSet<T>, state: &S, ix: ItemIndex) {
-        self.tables.first.give_way(items, state, ix);
-        self.tables.second.give_way(items, state, ix);
+        self.first.give_way(items, state, ix);
+        self.second.give_way(items, state, ix);
     }
 
     ghost same_plans = { λ x y state s item plan same is. is };
@@ -253,29 +251,37 @@ impl<T: BiHashItem, S: BuildHasher> Inserts<T, S> for BiIndex<T> {
 
 impl<T: BiHashItem, S: BuildHasher> Removes<T, S> for BiIndex<T> {
     fn remove(&mut self, items: &ItemSet<T>, state: &S, ix: ItemIndex) {
-        self.tables.first.remove(items, state, ix);
-        self.tables.second.remove(items, state, ix);
+        self.first.remove(items, state, ix);
+        self.second.remove(items, state, ix);
     }
 
     fn clear(&mut self) {
-        <FirstTable<T> as Removes<T, S>>::clear(&mut self.tables.first);
-        <SecondTable<T> as Removes<T, S>>::clear(&mut self.tables.second);
+        <FirstTable<T> as Removes<T, S>>::clear(&mut self.first);
+        <SecondTable<T> as Removes<T, S>>::clear(&mut self.second);
     }
 
     fn remap(&mut self, remap: &IndexRemap) {
-        <FirstTable<T> as Removes<T, S>>::remap(&mut self.tables.first, remap);
-        <SecondTable<T> as Removes<T, S>>::remap(&mut self.tables.second, remap);
+        <FirstTable<T> as Removes<T, S>>::remap(&mut self.first, remap);
+        <SecondTable<T> as Removes<T, S>>::remap(&mut self.second, remap);
     }
 }
 
 impl<T: BiHashItem, S: BuildHasher> Moves<T, S> for BiIndex<T> {
+    ghost use Rattle.std.specs.Prelude.{◌||◌};
+    ghost use Rattle.iddqd_by_hash.specs.Hashed.{hashing_of};
+    ghost use Rattle.iddqd_map.specs.Hashed.{moves};
+    ghost use Rattle.iddqd_map.specs.Indexing.{Plans};
+
     type Move = (Move, Move);
 
-    ghost is_move = { ⟦<Tables<T> as Moves<T, S>>⟧.is_move };
+    ghost is_move = { λ state s ix item plan.
+        Plans T.first_key (hashing_of T.Key1.eq T.Key1.hash_input S.BuildHasher S.Hasher.Hasher state) s ix item plan.0
+        × Plans T.second_key (hashing_of T.Key2.eq T.Key2.hash_input S.BuildHasher S.Hasher.Hasher state) s ix item
+        plan.1 };
 
-    ghost moves = { ⟦<Tables<T> as Moves<T, S>>⟧.moves };
+    ghost moves = { λ plan. moves plan.0 || moves plan.1 };
 
-    ghost is_ready = { λ x. ⟦<Tables<T> as Moves<T, S>>⟧.is_ready x.tables };
+    ghost is_ready = { λ x plan. Unit {0} };
 
     fn plan_move(
         &self,
@@ -284,7 +290,9 @@ impl<T: BiHashItem, S: BuildHasher> Moves<T, S> for BiIndex<T> {
         ix: ItemIndex,
         item: &T,
     ) -> Result<(Move, Move), BiClash> {
-        self.tables.plan_move(items, state, ix, item)
+        let first = self.first.plan_move(items, state, ix, item);
+        let second = self.second.plan_move(items, state, ix, item);
+        both_moves(first, second)
     }
 
     fn ready_move(
@@ -293,7 +301,7 @@ impl<T: BiHashItem, S: BuildHasher> Moves<T, S> for BiIndex<T> {
         state: &S,
         plan: &(Move, Move),
     ) -> Result<(), AllocError> {
-        self.tables.ready_move(items, state, plan)
+        Ok(())
     }
 
     fn commit_move(
@@ -305,20 +313,18 @@ impl<T: BiHashItem, S: BuildHasher> Moves<T, S> for BiIndex<T> {
         ix: ItemIndex,
         item: &T,
     ) {
-        self.tables
-            .first
+        self.first
             .commit_move(items, state, asked.0, &plan.0, ix, item);
-        self.tables
-            .second
+        self.second
             .commit_move(items, state, asked.1, &plan.1, ix, item);
     }
 }
 
 impl<T: BiHashItem, S: BuildHasher> Checks<T, S> for BiIndex<T> {
     fn copied(&self) -> Result<BiIndex<T>, AllocError> {
-        Ok(BiIndex {
-            tables: <Tables<T> as Checks<T, S>>::copied(&self.tables)?,
-        })
+        let first = <FirstTable<T> as Checks<T, S>>::copied(&self.first)?;
+        let second = <SecondTable<T> as Checks<T, S>>::copied(&self.second)?;
+        Ok(BiIndex { first, second })
     }
 
     fn is_same(item: &T, other: &T) -> bool {
@@ -332,7 +338,8 @@ impl<T: BiHashItem, S: BuildHasher> Checks<T, S> for BiIndex<T> {
         state: &S,
         compactness: ValidateCompact,
     ) -> Result<(), ValidateRefusal<ValidationError>> {
-        self.tables.validate(items, state, compactness)
+        self.first.validate(items, state, compactness)?;
+        self.second.validate(items, state, compactness)
     }
 }
 
@@ -341,7 +348,12 @@ impl<T: BiHashItem, S: BuildHasher> FindsSame<T, S> for BiIndex<T> {
     ghost use Rattle.iddqd_map.specs.PairLaws.{alike_both};
 
     fn find_same(&self, items: &ItemSet<T>, state: &S, item: &T) -> Option<ItemIndex> {
-        self.tables.find_same(items, state, item)
+        let ix = self.first.find_same(items, state, item)?;
+        if <SecondTable<T> as Checks<T, S>>::is_same(item, &items[ix]) {
+            Some(ix)
+        } else {
+            None
+        }
     }
 
     ghost same_are_alike = { let first = shares T.first_key T.Key1.eq in
@@ -359,7 +371,7 @@ impl<T: BiHashItem, S: BuildHasher> HashedAt<First, T, S> for BiIndex<T> {
         state: &S,
         query: Q,
     ) -> Option<ItemIndex> {
-        self.tables.first.find(items, state, query)
+        self.first.find(items, state, query)
     }
 }
 
@@ -370,8 +382,8 @@ impl<T: BiHashItem, S: BuildHasher> TakesAt<First, T, S> for BiIndex<T> {
         state: &S,
         query: Q,
     ) -> Option<ItemIndex> {
-        let found = self.tables.first.take(items, state, query)?;
-        self.tables.second.remove(items, state, found);
+        let found = self.first.take(items, state, query)?;
+        self.second.remove(items, state, found);
         Some(found)
     }
 }
@@ -383,7 +395,7 @@ impl<T: BiHashItem, S: BuildHasher> FindsWithHashAt<First, T, S> for BiIndex<T> 
         state: &S,
         query: Q,
     ) -> (Option<ItemIndex>, (Option<MapHash>, Option<MapHash>)) {
-        let (found, asked) = self.tables.first.find_with_hash(items, state, query);
+        let (found, asked) = self.first.find_with_hash(items, state, query);
         (found, (asked, None))
     }
 }
@@ -399,7 +411,7 @@ impl<T: BiHashItem, S: BuildHasher> HashedAt<Second, T, S> for BiIndex<T> {
         state: &S,
         query: Q,
     ) -> Option<ItemIndex> {
-        self.tables.second.find(items, state, query)
+        self.second.find(items, state, query)
     }
 }
 
@@ -410,8 +422,8 @@ impl<T: BiHashItem, S: BuildHasher> TakesAt<Second, T, S> for BiIndex<T> {
         state: &S,
         query: Q,
     ) -> Option<ItemIndex> {
-        let found = self.tables.second.take(items, state, query)?;
-        self.tables.first.remove(items, state, found);
+        let found = self.second.take(items, state, query)?;
+        self.first.remove(items, state, found);
         Some(found)
     }
 }
@@ -423,7 +435,7 @@ impl<T: BiHashItem, S: BuildHasher> FindsWithHashAt<Second, T, S> for BiIndex<T>
         state: &S,
         query: Q,
     ) -> (Option<ItemIndex>, (Option<MapHash>, Option<MapHash>)) {
-        let (found, asked) = self.tables.second.find_with_hash(items, state, query);
+        let (found, asked) = self.second.find_with_hash(items, state, query);
         (found, (None, asked))
     }
 }

@@ -2,6 +2,6 @@ use Rattle.iddqd_map.proofs.bi_hash_map.index.BiIndexInserts.give_way.Goals as g
 
 pub returns-clause-roomy : goal.returns-clause-roomy
 returns-clause-roomy g c = λ plan ready. (
-  c.give_way.ensures.roomy plan.0 ready.0,
-  c.give_way-2.ensures.roomy plan.1 ready.1,
+  c.give_way.ensures.roomy plan ready,
+  c.give_way-2.ensures.roomy plan ready,
 )

@@ -6,7 +6,7 @@ pub returns-clause-indexed : goal.returns-clause-indexed
 returns-clause-indexed g c = λ state s item is valid not_full next none known plan. let first = shares g.T.BiHashItem.first_key g.T.Key1.PartialEq.eq in
     let second = shares g.T.BiHashItem.second_key g.T.Key2.PartialEq.eq in (
       c.insert.ensures.indexed state s item is.0 valid not_full next
-          (HasNoHit-first first second s item none) known.0 plan.0,
+          (HasNoHit-first first second s item none) known.0 plan,
       c.insert-2.ensures.indexed state s item is.1 valid not_full next
-          (HasNoHit-second first second s item none) known.1 plan.1,
+          (HasNoHit-second first second s item none) known.1 plan,
     )
