@@ -19,4 +19,5 @@ pub mod RetainedLemmas
 pub mod RoomLemmas
 pub mod SizeLemmas
 pub mod TakeLemmas
+pub mod ThreeKeysLemmas
 pub mod TwoKeysLemmas

@@ -35,6 +35,20 @@ either-refused (Ok x) (Ok y) one other from_one from_other = tt
 either-refused (Ok x) (Err e) one other from_one from_other = from_other other
 either-refused (Err e) second one other from_one from_other = from_one one
 
+-- and of one of three
+pub one-refused :
+    {A B C E P Q O R : Type 0} (first : Result A E) (second : Result B E) (third : Result C E)
+    → OnErr first P
+    → OnErr second Q
+    → OnErr third O
+    → (P → R)
+    → (Q → R)
+    → (O → R)
+    → OnErr (result_and first (result_and second third)) R
+one-refused first second third one two three from_one from_two from_three =
+    either-refused first (result_and second third) one
+    (either-refused second third two three from_two from_three) from_one (λ known. known)
+
 -- more slots and more indexes need no fewer cells
 module _
     (needed : ℕ → ℕ → ℕ)

@@ -1,16 +1,15 @@
 -- What tables by two or three keys report of an item that shares keys with others, as the laws of a key index say it.
-use Rattle.std.specs.Prelude.{◌≡◌, ◌≤◌, ◌↔◌, ℕ, Bool, List, Option, length}
-use Rattle.std.proofs.Common.{refl}
+use Rattle.std.specs.Prelude.{◌≡◌, ◌≤◌, ◌↔◌, ℕ, Bool, List, Option, Some, None, IsSome, length}
+use Rattle.std.proofs.Common.{inl, inr, refl}
 use Rattle.std.specs.List.{Contains}
 use Rattle.iddqd.specs.Store.{Store}
 use Rattle.iddqd_keys.specs.Scan.{IsHit}
 use Rattle.iddqd_map.specs.OneKey.{IsReported}
 use Rattle.iddqd_map.specs.OneKeyLaws.{reported_one, few_one}
-use Rattle.iddqd_map.specs.PairConflict.{ReportBoth, IsReportedBy, IsEither, first_of, second_of, both_of}
+use Rattle.iddqd_map.specs.PairConflict.{ReportBoth, IsReportedBy, IsEither}
 use Rattle.iddqd_map.specs.PairLaws.{reported_by_one, reported_both, reported_some, few_by_one, few_both}
 use Rattle.iddqd_map.specs.Several.{either_key}
-use Rattle.iddqd_map.specs.ThreeKeys.{any_key, AreReportedLast, AreReported}
-use Rattle.iddqd_map.specs.declared.pair_conflict.PairConflict.{PairConflict}
+use Rattle.iddqd_map.specs.ThreeKeys.{any_key, AreReported}
 use Rattle.iddqd_map.specs.declared.tri_hash_map.clash.TriClash.{TriClash}
 
 -- the index is this one
@@ -21,13 +20,9 @@ IsIt at ix = ix ≡ at
 abbrev pub IsOfTwo : Option ℕ → Option ℕ → ℕ → Type 0
 IsOfTwo a b = IsEither (IsReportedBy IsIt a) (IsReportedBy IsIt b)
 
--- and of the two that a pair reports
-abbrev pub IsOfPair : PairConflict ℕ ℕ → ℕ → Type 0
-IsOfPair at = IsOfTwo (first_of at) (second_of at)
-
 -- the index is one of three
 abbrev pub IsOfThree : Option ℕ → Option ℕ → Option ℕ → ℕ → Type 0
-IsOfThree a b c = IsEither (IsReportedBy IsIt a) (IsReportedBy IsOfPair (both_of b c))
+IsOfThree a b c = IsEither (IsReportedBy IsIt a) (IsOfTwo b c)
 
 -- for two keys at most two indexes are reported, for three at most three
 pub few_two :
@@ -39,9 +34,12 @@ few_two a b =
 pub few_three :
     (a b c : Option ℕ)
     → (l : List ℕ) × (length l ≤ 3) × ((ix : ℕ) → IsOfThree a b c ix → Contains l ix)
-few_three a b c =
-    few_both (IsReportedBy IsIt a) (IsReportedBy IsOfPair (both_of b c)) 1 2 (few_by_one IsIt 1 few_one a)
-    (few_by_one IsOfPair 2 (λ at. few_two (first_of at) (second_of at)) (both_of b c))
+few_three a b c = few_both (IsReportedBy IsIt a) (IsOfTwo b c) 1 2 (few_by_one IsIt 1 few_one a) (few_two b c)
+
+-- what was found is reported
+found_it : (found : Option ℕ) → IsSome found → (ix : ℕ) × IsReportedBy IsIt found ix
+found_it (Some at) is = (at, refl)
+found_it None is = absurd (cc)
 
 module _ {T : Type 0} (s : Store T) (item : T) where
   reported_key :
@@ -84,17 +82,22 @@ module _ {T : Type 0} (s : Store T) (item : T) where
         → (ix : ℕ)
         → IsOfThree at.key1 at.key2 at.key3 ix ↔ IsHit s (any_key first second third item) ix
     reported_three at reported ix =
-        let last = both_of at.key2 at.key3 in
-        reported_both first (either_key second third) s item (IsReportedBy IsIt at.key1) (IsReportedBy IsOfPair last) ix
+        reported_both first (either_key second third) s item (IsReportedBy IsIt at.key1) (IsOfTwo at.key2 at.key3) ix
         (reported_by_one IsIt first (IsReported first) s item (reported_key first) at.key1 reported.first ix)
-        (reported_by_one IsOfPair (either_key second third) (AreReportedLast first second third) s item
-        (λ two. reported_two second third (first_of two) (second_of two)) last reported.second ix)
+        (reported_both second third s item (IsReportedBy IsIt at.key2) (IsReportedBy IsIt at.key3) ix
+        (reported_by_one IsIt second (IsReported second) s item (reported_key second) at.key2 reported.second ix)
+        (reported_by_one IsIt third (IsReported third) s item (reported_key third) at.key3 reported.third ix))
 
     pub some_three :
         (at : TriClash)
         → AreReported first second third s item at
         → (ix : ℕ) × IsOfThree at.key1 at.key2 at.key3 ix
     some_three at reported =
-        reported_some IsIt IsOfPair (IsReported first) (AreReportedLast first second third) s item first
-        (either_key second third) (some_key first) (λ two. some_two second third (first_of two) (second_of two))
-        at.key1 (both_of at.key2 at.key3) reported
+        elim reported.some [
+          | inl one ↦ let (ix, is) = found_it at.key1 one in (ix, inl is)
+          | inr last ↦
+              elim last [
+                | inl two ↦ let (ix, is) = found_it at.key2 two in (ix, inr (inl is))
+                | inr three ↦ let (ix, is) = found_it at.key3 three in (ix, inr (inr is))
+              ]
+        ]

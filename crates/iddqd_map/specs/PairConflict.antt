@@ -18,13 +18,6 @@ module _ {A B : Type 0} where
   second_of (Second other) = Some other
   second_of (Both one other) = Some other
 
-  -- and both together, if one did
-  abbrev pub both_of : Option A → Option B → Option (PairConflict A B)
-  both_of (Some one) (Some other) = Some (Both one other)
-  both_of (Some one) None = Some (First one)
-  both_of None (Some other) = Some (Second other)
-  both_of None None = None
-
 -- two texts with a space between them, if both are known
 abbrev pub spaced : Option (List ℕ) → Option (List ℕ) → Option (List ℕ)
 spaced (Some one) (Some other) = Some (one ++ codes " " ++ other)

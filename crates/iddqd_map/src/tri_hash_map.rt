@@ -1,5 +1,5 @@
-//! A map of items that have three keys each, all found by their hashes: a [`Map`] whose key index is a table by the
-//! first and a pair of tables by the others.
+//! A map of items that have three keys each, all found by their hashes: a [`Map`] whose key index has a
+//! table by each key.
 //!
 //! All calls but `insert_overwrite` are `Map`'s. Those that name a key, as `find1`, are of every map with such keys.
 ghost use Rattle.std.specs.Prelude.{◌≡◌, ◌+◌, ◌≤◌, count_by, is_some, IsOk, IfOk, OnErr};

@@ -1,10 +1,9 @@
 //! Which items have keys of a refused one.
 ghost use Rattle.std.specs.Prelude.{◌≡◌, ◌↔◌, IsTrue};
-ghost use Rattle.iddqd_map.specs.PairConflict.{first_of, second_of, both_of};
-ghost use Rattle.iddqd_map.specs.ThreeKeys.{ReportsSome};
+ghost use Rattle.iddqd_map.specs.ThreeKeys.{ReportsSome, three_clashes, three_moves};
 
-use crate::pair_conflict::{PairConflict, ReportsPair};
 use iddqd::item_index::{ItemIndex, OrDash};
+use iddqd_by_hash::hashed_move::Move;
 use std::fmt;
 
 /// For each key of an item, the index of the other item that has it, if one has.
@@ -29,48 +28,34 @@ impl TriClash {
     }
 }
 
-impl ReportsPair<ItemIndex, PairConflict<ItemIndex, ItemIndex>> for TriClash {
-    ghost first = { λ clash. clash.key1 };
-
-    ghost second = { λ clash. both_of clash.key2 clash.key3 };
-
-    fn reported(conflict: PairConflict<ItemIndex, PairConflict<ItemIndex, ItemIndex>>) -> TriClash
-        ensures first { result.key1 ≡ first_of conflict }
-        ensures second { both_of result.key2 result.key3 ≡ second_of conflict }
-    {
-        match conflict {
-            PairConflict::First(one) => with_last(Some(one), None),
-            PairConflict::Second(last) => with_last(None, Some(last)),
-            PairConflict::Both(one, last) => with_last(Some(one), Some(last)),
-        }
-    }
-
-    fn first(&self) -> Option<ItemIndex> {
-        self.key1
-    }
-
-    fn second(&self) -> Option<PairConflict<ItemIndex, ItemIndex>> {
-        match (self.key2, self.key3) {
-            (Some(one), Some(other)) => Some(PairConflict::Both(one, other)),
-            (Some(one), None) => Some(PairConflict::First(one)),
-            (None, Some(other)) => Some(PairConflict::Second(other)),
-            (None, None) => None,
-        }
-    }
+// Puts the look-ups of all three keys of an item together: `Ok` if none found an item.
+pub(super) fn clash_of(
+    key1: Option<ItemIndex>,
+    key2: Option<ItemIndex>,
+    key3: Option<ItemIndex>,
+) -> Result<(), TriClash>
+    ensures { result ≡ three_clashes key1 key2 key3 }
+{
+    let clash = TriClash { key1, key2, key3 };
+    if clash.is_some() { Err(clash) } else { Ok(()) }
 }
 
-// The clash by the first key, and by the second and the third.
-fn with_last(key1: Option<ItemIndex>, last: Option<PairConflict<ItemIndex, ItemIndex>>) -> TriClash
-    ensures first { result.key1 ≡ key1 }
-    ensures last { both_of result.key2 result.key3 ≡ last }
+// Puts the plans of all three tables together: the moves, or the items that have one of the keys.
+pub(super) fn all_moves(
+    first: Result<Move, ItemIndex>,
+    second: Result<Move, ItemIndex>,
+    third: Result<Move, ItemIndex>,
+) -> Result<(Move, (Move, Move)), TriClash>
+    ensures { result ≡ three_moves first second third }
 {
-    let (key2, key3) = match last {
-        None => (None, None),
-        Some(PairConflict::First(one)) => (Some(one), None),
-        Some(PairConflict::Second(other)) => (None, Some(other)),
-        Some(PairConflict::Both(one, other)) => (Some(one), Some(other)),
-    };
-    TriClash { key1, key2, key3 }
+    match (first, second, third) {
+        (Ok(first), Ok(second), Ok(third)) => Ok((first, (second, third))),
+        (first, second, third) => Err(TriClash {
+            key1: first.err(),
+            key2: second.err(),
+            key3: third.err(),
+        }),
+    }
 }
 
 impl fmt::Display for TriClash {

@@ -1,15 +1,18 @@
 //! The key index of a map whose items have three keys: a table by each of them.
 //!
-//! A look-up by one key goes to the table by that key. The calls that may run out of memory, put the tables' answers
-//! together or make the tables go to two nested pairs, and all others to each table. A caller's proof sees three keys,
-//! and neither the pairs nor the tables: each of these would cost proof time in every function that calls the map.
-use super::clash::TriClash;
+//! A look-up by one key goes to the table by that key, and every other call to all three tables. A caller's proof sees
+//! three keys and not the tables, each of which would cost proof time in every function that calls the map.
+ghost use Rattle.std.specs.Prelude.{◌≡◌};
+ghost use Rattle.iddqd_map.specs.Map.{shares};
+ghost use Rattle.iddqd_map.specs.Several.{both_keys};
+
+use super::clash::{TriClash, all_moves, clash_of};
 use crate::by_hash::ByHash;
 use crate::key_index::{
     Checks, FindsSame, FindsWithHashAt, First, HashedAt, Inserts, KeyIndex, Moves, Removes, Second,
     Sizes, TakesAt, Third,
 };
-use crate::pair::Pair;
+use crate::reported::{lesser, past};
 use iddqd::index_remap::IndexRemap;
 use iddqd::internal::{ValidateCompact, ValidateRefusal, ValidationError};
 use iddqd::item_index::ItemIndex;
@@ -27,23 +30,25 @@ type SecondTable<T> = ByHash<Key2, <T as TriHashItem>::Key2>;
 
 type ThirdTable<T> = ByHash<Key3, <T as TriHashItem>::Key3>;
 
-type Tables<T> = Pair<FirstTable<T>, Pair<SecondTable<T>, ThirdTable<T>>, TriClash>;
-
 /// A table by each of the three keys.
 #[derive(Drop)]
 pub struct TriIndex<T: TriHashItem> {
-    tables: Tables<T>,
+    first: FirstTable<T>,
+    second: SecondTable<T>,
+    third: ThirdTable<T>,
 }
 
 impl<T: TriHashItem, S: BuildHasher> KeyIndex<T, S> for TriIndex<T> {
     ghost use Rattle.std.proofs.Common.{ap, refl};
     ghost use Rattle.std.proofs.lemmas.Cmp.{and_equiv};
-    ghost use Rattle.std.specs.Prelude.{◌+◌, false};
+    ghost use Rattle.std.specs.Prelude.{◌≡◌, ◌+◌, min, false};
+    ghost use Rattle.iddqd_hash.specs.HashTable.{capacity, memory};
     ghost use Rattle.iddqd_hash.specs.MapHashTable.{filed};
     ghost use Rattle.iddqd_hash.specs.OpenTableSizes.{least_cells};
     ghost use Rattle.iddqd_hash.specs.Sizes.{most_cells};
     ghost use Rattle.iddqd_hash.proofs.LeastCellsLemmas.{least_cells-grows};
     ghost use Rattle.iddqd_by_hash.specs.Hashed.{hashing_of};
+    ghost use Rattle.iddqd_map.specs.Indexing.{Indexes};
     ghost use Rattle.iddqd_map.specs.HashLaws.{shares_laws, Indexes-kept, Indexes-key_kept, Indexes-keys_shared};
     ghost use Rattle.iddqd_map.specs.KeyLaws.{IsOfThree, reported_three, some_three, few_three};
     ghost use Rattle.iddqd_map.specs.PairLaws.{AreApart-either, HaveSameKeys-first, HaveSameKeys-second, sum_grows};
@@ -66,11 +71,17 @@ impl<T: TriHashItem, S: BuildHasher> KeyIndex<T, S> for TriIndex<T> {
     ghost same_keys = { all_keys (shares T.first_key T.Key1.eq) (shares T.second_key T.Key2.eq)
         (shares T.third_key T.Key3.eq) };
 
-    ghost indexes = { λ x. ⟦<Tables<T> as KeyIndex<T, S>>⟧.indexes x.tables };
+    ghost indexes = { λ x state s.
+        Indexes T.first_key (hashing_of T.Key1.eq T.Key1.hash_input S.BuildHasher S.Hasher.Hasher state) s
+        (filed x.first.table)
+        × (Indexes T.second_key (hashing_of T.Key2.eq T.Key2.hash_input S.BuildHasher S.Hasher.Hasher state) s
+        (filed x.second.table)
+        × Indexes T.third_key (hashing_of T.Key3.eq T.Key3.hash_input S.BuildHasher S.Hasher.Hasher state) s
+        (filed x.third.table)) };
 
-    ghost capacity = { λ x. ⟦<Tables<T> as KeyIndex<T, S>>⟧.capacity x.tables };
+    ghost capacity = { λ x. min (capacity x.first.table) (min (capacity x.second.table) (capacity x.third.table)) };
 
-    ghost cells = { λ x. ⟦<Tables<T> as KeyIndex<T, S>>⟧.cells x.tables };
+    ghost cells = { λ x. memory x.first.table + (memory x.second.table + memory x.third.table) };
 
     ghost most = { λ n. most_cells n + (most_cells n + most_cells n) };
 
@@ -83,7 +94,8 @@ impl<T: TriHashItem, S: BuildHasher> KeyIndex<T, S> for TriIndex<T> {
 
     ghost may_need_memory = { false };
 
-    ghost same = { λ x y. ⟦<Tables<T> as KeyIndex<T, S>>⟧.same x.tables y.tables };
+    ghost same = { λ x y. (filed y.first.table ≡ filed x.first.table)
+        × ((filed y.second.table ≡ filed x.second.table) × (filed y.third.table ≡ filed x.third.table)) };
 
     ghost unique_keys = { 3 };
 
@@ -105,12 +117,12 @@ impl<T: TriHashItem, S: BuildHasher> KeyIndex<T, S> for TriIndex<T> {
 
     ghost same_indexes = { λ x y state s same is. (
       Indexes-kept T.first_key (hashing_of T.Key1.eq T.Key1.hash_input S.BuildHasher S.Hasher.Hasher state) s
-          (filed x.tables.first.table) (filed y.tables.first.table) same.0 is.0,
+          (filed x.first.table) (filed y.first.table) same.0 is.0,
       (
         Indexes-kept T.second_key (hashing_of T.Key2.eq T.Key2.hash_input S.BuildHasher S.Hasher.Hasher state) s
-            (filed x.tables.second.first.table) (filed y.tables.second.first.table) same.1.0 is.1.0,
+            (filed x.second.table) (filed y.second.table) same.1.0 is.1.0,
         Indexes-kept T.third_key (hashing_of T.Key3.eq T.Key3.hash_input S.BuildHasher S.Hasher.Hasher state) s
-            (filed x.tables.second.second.table) (filed y.tables.second.second.table) same.1.1 is.1.1,
+            (filed x.third.table) (filed y.third.table) same.1.1 is.1.1,
       ),
     ) };
 
@@ -121,13 +133,13 @@ impl<T: TriHashItem, S: BuildHasher> KeyIndex<T, S> for TriIndex<T> {
 
     ghost modified = { λ x state s ix was item is live same. (
       Indexes-key_kept T.first_key T.Key1.eq T.Key1.hash_input S.BuildHasher S.Hasher.Hasher T.Key1.Eq.laws
-          T.Key1.respects_eq state s (filed x.tables.first.table) is.0 ix was item live (ap (λ keys. keys.0) same),
+          T.Key1.respects_eq state s (filed x.first.table) is.0 ix was item live (ap (λ keys. keys.0) same),
       (
         Indexes-key_kept T.second_key T.Key2.eq T.Key2.hash_input S.BuildHasher S.Hasher.Hasher T.Key2.Eq.laws
-            T.Key2.respects_eq state s (filed x.tables.second.first.table) is.1.0 ix was item live
+            T.Key2.respects_eq state s (filed x.second.table) is.1.0 ix was item live
             (ap (λ keys. keys.1.0) same),
         Indexes-key_kept T.third_key T.Key3.eq T.Key3.hash_input S.BuildHasher S.Hasher.Hasher T.Key3.Eq.laws
-            T.Key3.respects_eq state s (filed x.tables.second.second.table) is.1.1 ix was item live
+            T.Key3.respects_eq state s (filed x.third.table) is.1.1 ix was item live
             (ap (λ keys. keys.1.1) same),
       ),
     ) };
@@ -136,14 +148,14 @@ impl<T: TriHashItem, S: BuildHasher> KeyIndex<T, S> for TriIndex<T> {
         let second = shares T.second_key T.Key2.eq in let third = shares T.third_key T.Key3.eq in
         let last = HaveSameKeys-second first (both_keys second third) s t same in (
           Indexes-keys_shared T.first_key T.Key1.eq T.Key1.hash_input S.BuildHasher S.Hasher.Hasher T.Key1.Eq.laws
-              T.Key1.respects_eq state s (filed x.tables.first.table) is.0 t
+              T.Key1.respects_eq state s (filed x.first.table) is.0 t
               (HaveSameKeys-first first (both_keys second third) s t same),
           (
             Indexes-keys_shared T.second_key T.Key2.eq T.Key2.hash_input S.BuildHasher S.Hasher.Hasher T.Key2.Eq.laws
-                T.Key2.respects_eq state s (filed x.tables.second.first.table) is.1.0 t
+                T.Key2.respects_eq state s (filed x.second.table) is.1.0 t
                 (HaveSameKeys-first second third s t last),
             Indexes-keys_shared T.third_key T.Key3.eq T.Key3.hash_input S.BuildHasher S.Hasher.Hasher T.Key3.Eq.laws
-                T.Key3.respects_eq state s (filed x.tables.second.second.table) is.1.1 t
+                T.Key3.respects_eq state s (filed x.third.table) is.1.1 t
                 (HaveSameKeys-second second third s t last),
           ),
         ) };
@@ -163,21 +175,28 @@ impl<T: TriHashItem, S: BuildHasher> KeyIndex<T, S> for TriIndex<T> {
 
 impl<T: TriHashItem, S: BuildHasher> Sizes<T, S> for TriIndex<T> {
     fn capacity(&self) -> usize {
-        let first = <FirstTable<T> as Sizes<T, S>>::capacity(&self.tables.first);
-        let second = <SecondTable<T> as Sizes<T, S>>::capacity(&self.tables.second.first);
-        let third = <ThirdTable<T> as Sizes<T, S>>::capacity(&self.tables.second.second);
+        let first = <FirstTable<T> as Sizes<T, S>>::capacity(&self.first);
+        let second = <SecondTable<T> as Sizes<T, S>>::capacity(&self.second);
+        let third = <ThirdTable<T> as Sizes<T, S>>::capacity(&self.third);
         first.min(second.min(third))
     }
 
     fn new(alloc: Global) -> TriIndex<T> {
         TriIndex {
-            tables: <Tables<T> as Sizes<T, S>>::new(alloc),
+            first: <FirstTable<T> as Sizes<T, S>>::new(alloc),
+            second: <SecondTable<T> as Sizes<T, S>>::new(alloc),
+            third: <ThirdTable<T> as Sizes<T, S>>::new(alloc),
         }
     }
 
     fn with_capacity(alloc: Global, wanted: usize) -> Result<TriIndex<T>, AllocError> {
+        let first = <FirstTable<T> as Sizes<T, S>>::with_capacity(alloc, wanted)?;
+        let second = <SecondTable<T> as Sizes<T, S>>::with_capacity(alloc, wanted)?;
+        let third = <ThirdTable<T> as Sizes<T, S>>::with_capacity(alloc, wanted)?;
         Ok(TriIndex {
-            tables: <Tables<T> as Sizes<T, S>>::with_capacity(alloc, wanted)?,
+            first,
+            second,
+            third,
         })
     }
 
@@ -187,30 +206,46 @@ impl<T: TriHashItem, S: BuildHasher> Sizes<T, S> for TriIndex<T> {
         state: &S,
         additional: usize,
     ) -> Result<(), AllocError> {
-        self.tables.reserve(items, state, additional)
+        self.first.reserve(items, state, additional)?;
+        self.second.reserve(items, state, additional)?;
+        self.third.reserve(items, state, additional)
     }
 
     fn shrink_to(&mut self, items: &ItemSet<T>, state: &S, least: usize) -> Result<(), AllocError> {
-        self.tables.shrink_to(items, state, least)
+        let first = self.first.shrink_to(items, state, least);
+        let second = self.second.shrink_to(items, state, least);
+        let third = self.third.shrink_to(items, state, least);
+        first.and(second.and(third))
     }
 }
 
 impl<T: TriHashItem, S: BuildHasher> Inserts<T, S> for TriIndex<T> {
+    ghost use Rattle.std.specs.Prelude.{◌≡◌, ◌≤◌};
+    ghost use Rattle.iddqd_hash.specs.HashTable.{room};
+    ghost use Rattle.iddqd_by_hash.specs.Hashed.{hashing_of};
+
     type Known = (MapHash, (MapHash, MapHash));
 
-    type Spot = ((), ((), ()));
+    type Spot = ();
 
-    type Plan = ((), ((), ()));
+    type Plan = ();
 
-    ghost is_known = { ⟦<Tables<T> as Inserts<T, S>>⟧.is_known };
+    ghost is_known = { λ state item known.
+        (known.0 ≡ (hashing_of T.Key1.eq T.Key1.hash_input S.BuildHasher S.Hasher.Hasher state).hash_of
+        (T.first_key item))
+        × ((known.1.0 ≡ (hashing_of T.Key2.eq T.Key2.hash_input S.BuildHasher S.Hasher.Hasher state).hash_of
+        (T.second_key item))
+        × (known.1.1 ≡ (hashing_of T.Key3.eq T.Key3.hash_input S.BuildHasher S.Hasher.Hasher state).hash_of
+        (T.third_key item))) };
 
-    ghost is_spot = { λ x. ⟦<Tables<T> as Inserts<T, S>>⟧.is_spot x.tables };
+    ghost is_spot = { λ x state s item spot. Unit {0} };
 
-    ghost is_planned = { λ x. ⟦<Tables<T> as Inserts<T, S>>⟧.is_planned x.tables };
+    ghost is_planned = { λ x state s item plan. Unit {0} };
 
-    ghost has_room_for = { λ x. ⟦<Tables<T> as Inserts<T, S>>⟧.has_room_for x.tables };
+    ghost has_room_for = { λ x plan. (1 ≤ room x.first.table)
+        × ((1 ≤ room x.second.table) × (1 ≤ room x.third.table)) };
 
-    ghost is_ready_after = { λ x. ⟦<Tables<T> as Inserts<T, S>>⟧.is_ready_after x.tables };
+    ghost is_ready_after = { λ x. Unit {0} };
 
     fn known(state: &S, item: &T) -> (MapHash, (MapHash, MapHash)) {
         let first = <FirstTable<T> as Inserts<T, S>>::known(state, item);
@@ -225,92 +260,42 @@ impl<T: TriHashItem, S: BuildHasher> Inserts<T, S> for TriIndex<T> {
         state: &S,
         known: (MapHash, (MapHash, MapHash)),
         item: &T,
-    ) -> Result<((), ((), ())), TriClash> {
-        self.tables.look_up(items, state, known, item)
+    ) -> Result<(), TriClash> {
+        let first = self.first.look_up(items, state, known.0, item);
+        let second = self.second.look_up(items, state, known.1.0, item);
+        let third = self.third.look_up(items, state, known.1.1, item);
+        clash_of(first.err(), second.err(), third.err())
     }
 
-    fn plan(
-        &self,
-        items: &ItemSet<T>,
-        state: &S,
-        spot: ((), ((), ())),
-        ix: ItemIndex,
-        item: &T,
-    ) -> ((), ((), ())) {
-        let (first, (second, third)) = spot;
-        let first = self.tables.first.plan(items, state, first, ix, item);
-        let second = self
-            .tables
-            .second
-            .first
-            .plan(items, state, second, ix, item);
-        let third = self
-            .tables
-            .second
-            .second
-            .plan(items, state, third, ix, item);
-        (first, (second, third))
+    fn plan(&self, items: &ItemSet<T>, state: &S, spot: (), ix: ItemIndex, item: &T) {}
+
+    fn make_room(&mut self, items: &ItemSet<T>, state: &S, plan: &()) -> Result<(), AllocError> {
+        self.first.make_room(items, state, plan)?;
+        self.second.make_room(items, state, plan)?;
+        self.third.make_room(items, state, plan)
     }
 
-    fn make_room(
-        &mut self,
-        items: &ItemSet<T>,
-        state: &S,
-        plan: &((), ((), ())),
-    ) -> Result<(), AllocError> {
-        self.tables.make_room(items, state, plan)
-    }
-
-    fn insert(
-        &mut self,
-        known: (MapHash, (MapHash, MapHash)),
-        plan: &((), ((), ())),
-        ix: ItemIndex,
-    ) {
-        <FirstTable<T> as Inserts<T, S>>::insert(&mut self.tables.first, known.0, &plan.0, ix);
-        <SecondTable<T> as Inserts<T, S>>::insert(
-            &mut self.tables.second.first,
-            known.1.0,
-            &plan.1.0,
-            ix,
-        );
-        <ThirdTable<T> as Inserts<T, S>>::insert(
-            &mut self.tables.second.second,
-            known.1.1,
-            &plan.1.1,
-            ix,
-        );
+    fn insert(&mut self, known: (MapHash, (MapHash, MapHash)), plan: &(), ix: ItemIndex) {
+        <FirstTable<T> as Inserts<T, S>>::insert(&mut self.first, known.0, plan, ix);
+        <SecondTable<T> as Inserts<T, S>>::insert(&mut self.second, known.1.0, plan, ix);
+        <ThirdTable<T> as Inserts<T, S>>::insert(&mut self.third, known.1.1, plan, ix);
     }
 
     fn next_reported(conflict: &TriClash, before: Option<ItemIndex>) -> Option<ItemIndex> {
-        <Tables<T> as Inserts<T, S>>::next_reported(conflict, before)
+        let last = lesser(past(&conflict.key2, &before), past(&conflict.key3, &before));
+        lesser(past(&conflict.key1, &before), last)
     }
 
-    fn spot(
-        &self,
-        items: &ItemSet<T>,
-        state: &S,
-        known: (MapHash, (MapHash, MapHash)),
-        item: &T,
-    ) -> ((), ((), ())) {
-        let first = self.tables.first.spot(items, state, known.0, item);
-        let second = self.tables.second.first.spot(items, state, known.1.0, item);
-        let third = self
-            .tables
-            .second
-            .second
-            .spot(items, state, known.1.1, item);
-        (first, (second, third))
-    }
+    fn spot(&self, items: &ItemSet<T>, state: &S, known: (MapHash, (MapHash, MapHash)), item: &T) {}
 
     fn ready_after(&mut self, items: &ItemSet<T>, state: &S) -> Result<(), AllocError> {
-        self.tables.ready_after(items, state)
+        Ok(())
     }
 
     fn give_way(&mut self, items: &ItemSet<T>, state: &S, ix: ItemIndex) {
-        self.tables.first.give_way(items, state, ix);
-        self.tables.second.first.give_way(items, state, ix);
-        self.tables.second.second.give_way(items, state, ix);
+        self.first.give_way(items, state, ix);
+        self.second.give_way(items, state, ix);
+        self.third.give_way(items, state, ix);
     }
 
     ghost same_plans = { λ x y state s item plan same is. is };
@@ -318,32 +303,42 @@ impl<T: TriHashItem, S: BuildHasher> Inserts<T, S> for TriIndex<T> {
 
 impl<T: TriHashItem, S: BuildHasher> Removes<T, S> for TriIndex<T> {
     fn remove(&mut self, items: &ItemSet<T>, state: &S, ix: ItemIndex) {
-        self.tables.first.remove(items, state, ix);
-        self.tables.second.first.remove(items, state, ix);
-        self.tables.second.second.remove(items, state, ix);
+        self.first.remove(items, state, ix);
+        self.second.remove(items, state, ix);
+        self.third.remove(items, state, ix);
     }
 
     fn clear(&mut self) {
-        <FirstTable<T> as Removes<T, S>>::clear(&mut self.tables.first);
-        <SecondTable<T> as Removes<T, S>>::clear(&mut self.tables.second.first);
-        <ThirdTable<T> as Removes<T, S>>::clear(&mut self.tables.second.second);
+        <FirstTable<T> as Removes<T, S>>::clear(&mut self.first);
+        <SecondTable<T> as Removes<T, S>>::clear(&mut self.second);
+        <ThirdTable<T> as Removes<T, S>>::clear(&mut self.third);
     }
 
     fn remap(&mut self, remap: &IndexRemap) {
-        <FirstTable<T> as Removes<T, S>>::remap(&mut self.tables.first, remap);
-        <SecondTable<T> as Removes<T, S>>::remap(&mut self.tables.second.first, remap);
-        <ThirdTable<T> as Removes<T, S>>::remap(&mut self.tables.second.second, remap);
+        <FirstTable<T> as Removes<T, S>>::remap(&mut self.first, remap);
+        <SecondTable<T> as Removes<T, S>>::remap(&mut self.second, remap);
+        <ThirdTable<T> as Removes<T, S>>::remap(&mut self.third, remap);
     }
 }
 
 impl<T: TriHashItem, S: BuildHasher> Moves<T, S> for TriIndex<T> {
+    ghost use Rattle.std.specs.Prelude.{◌||◌};
+    ghost use Rattle.iddqd_by_hash.specs.Hashed.{hashing_of};
+    ghost use Rattle.iddqd_map.specs.Hashed.{moves};
+    ghost use Rattle.iddqd_map.specs.Indexing.{Plans};
+
     type Move = (Move, (Move, Move));
 
-    ghost is_move = { ⟦<Tables<T> as Moves<T, S>>⟧.is_move };
+    ghost is_move = { λ state s ix item plan.
+        Plans T.first_key (hashing_of T.Key1.eq T.Key1.hash_input S.BuildHasher S.Hasher.Hasher state) s ix item plan.0
+        × (Plans T.second_key (hashing_of T.Key2.eq T.Key2.hash_input S.BuildHasher S.Hasher.Hasher state) s ix item
+        plan.1.0
+        × Plans T.third_key (hashing_of T.Key3.eq T.Key3.hash_input S.BuildHasher S.Hasher.Hasher state) s ix item
+        plan.1.1) };
 
-    ghost moves = { ⟦<Tables<T> as Moves<T, S>>⟧.moves };
+    ghost moves = { λ plan. moves plan.0 || (moves plan.1.0 || moves plan.1.1) };
 
-    ghost is_ready = { λ x. ⟦<Tables<T> as Moves<T, S>>⟧.is_ready x.tables };
+    ghost is_ready = { λ x plan. Unit {0} };
 
     fn plan_move(
         &self,
@@ -352,7 +347,10 @@ impl<T: TriHashItem, S: BuildHasher> Moves<T, S> for TriIndex<T> {
         ix: ItemIndex,
         item: &T,
     ) -> Result<(Move, (Move, Move)), TriClash> {
-        self.tables.plan_move(items, state, ix, item)
+        let first = self.first.plan_move(items, state, ix, item);
+        let second = self.second.plan_move(items, state, ix, item);
+        let third = self.third.plan_move(items, state, ix, item);
+        all_moves(first, second, third)
     }
 
     fn ready_move(
@@ -361,7 +359,7 @@ impl<T: TriHashItem, S: BuildHasher> Moves<T, S> for TriIndex<T> {
         state: &S,
         plan: &(Move, (Move, Move)),
     ) -> Result<(), AllocError> {
-        self.tables.ready_move(items, state, plan)
+        Ok(())
     }
 
     fn commit_move(
@@ -373,24 +371,24 @@ impl<T: TriHashItem, S: BuildHasher> Moves<T, S> for TriIndex<T> {
         ix: ItemIndex,
         item: &T,
     ) {
-        self.tables
-            .first
+        self.first
             .commit_move(items, state, asked.0, &plan.0, ix, item);
-        self.tables
-            .second
-            .first
+        self.second
             .commit_move(items, state, asked.1.0, &plan.1.0, ix, item);
-        self.tables
-            .second
-            .second
+        self.third
             .commit_move(items, state, asked.1.1, &plan.1.1, ix, item);
     }
 }
 
 impl<T: TriHashItem, S: BuildHasher> Checks<T, S> for TriIndex<T> {
     fn copied(&self) -> Result<TriIndex<T>, AllocError> {
+        let first = <FirstTable<T> as Checks<T, S>>::copied(&self.first)?;
+        let second = <SecondTable<T> as Checks<T, S>>::copied(&self.second)?;
+        let third = <ThirdTable<T> as Checks<T, S>>::copied(&self.third)?;
         Ok(TriIndex {
-            tables: <Tables<T> as Checks<T, S>>::copied(&self.tables)?,
+            first,
+            second,
+            third,
         })
     }
 
@@ -406,7 +404,9 @@ impl<T: TriHashItem, S: BuildHasher> Checks<T, S> for TriIndex<T> {
         state: &S,
         compactness: ValidateCompact,
     ) -> Result<(), ValidateRefusal<ValidationError>> {
-        self.tables.validate(items, state, compactness)
+        self.first.validate(items, state, compactness)?;
+        self.second.validate(items, state, compactness)?;
+        self.third.validate(items, state, compactness)
     }
 }
 
@@ -416,12 +416,24 @@ impl<T: TriHashItem, S: BuildHasher> FindsSame<T, S> for TriIndex<T> {
     ghost use Rattle.iddqd_map.specs.Several.{either_key, both_keys};
 
     fn find_same(&self, items: &ItemSet<T>, state: &S, item: &T) -> Option<ItemIndex> {
-        self.tables.find_same(items, state, item)
+        let ix = self.first.find_same(items, state, item)?;
+        if shares_later_keys(item, &items[ix]) {
+            Some(ix)
+        } else {
+            None
+        }
     }
 
     ghost same_are_alike = { let first = shares T.first_key T.Key1.eq in
         let second = shares T.second_key T.Key2.eq in let third = shares T.third_key T.Key3.eq in
         alike_both first (both_keys second third) first (λ x y same. same) (either_key second third) };
+}
+
+// Whether the items share their second and their third key.
+fn shares_later_keys<T: TriHashItem>(item: &T, other: &T) -> bool
+    ensures { result ≡ both_keys (shares T.second_key T.Key2.eq) (shares T.third_key T.Key3.eq) item.now other.now }
+{
+    *item.key2() == *other.key2() && *item.key3() == *other.key3()
 }
 
 impl<T: TriHashItem, S: BuildHasher> HashedAt<First, T, S> for TriIndex<T> {
@@ -435,7 +447,7 @@ impl<T: TriHashItem, S: BuildHasher> HashedAt<First, T, S> for TriIndex<T> {
         state: &S,
         query: Q,
     ) -> Option<ItemIndex> {
-        self.tables.first.find(items, state, query)
+        self.first.find(items, state, query)
     }
 }
 
@@ -446,9 +458,9 @@ impl<T: TriHashItem, S: BuildHasher> TakesAt<First, T, S> for TriIndex<T> {
         state: &S,
         query: Q,
     ) -> Option<ItemIndex> {
-        let found = self.tables.first.take(items, state, query)?;
-        self.tables.second.first.remove(items, state, found);
-        self.tables.second.second.remove(items, state, found);
+        let found = self.first.take(items, state, query)?;
+        self.second.remove(items, state, found);
+        self.third.remove(items, state, found);
         Some(found)
     }
 }
@@ -463,7 +475,7 @@ impl<T: TriHashItem, S: BuildHasher> FindsWithHashAt<First, T, S> for TriIndex<T
         Option<ItemIndex>,
         (Option<MapHash>, (Option<MapHash>, Option<MapHash>)),
     ) {
-        let (found, asked) = self.tables.first.find_with_hash(items, state, query);
+        let (found, asked) = self.first.find_with_hash(items, state, query);
         (found, (asked, (None, None)))
     }
 }
@@ -479,7 +491,7 @@ impl<T: TriHashItem, S: BuildHasher> HashedAt<Second, T, S> for TriIndex<T> {
         state: &S,
         query: Q,
     ) -> Option<ItemIndex> {
-        self.tables.second.first.find(items, state, query)
+        self.second.find(items, state, query)
     }
 }
 
@@ -490,9 +502,9 @@ impl<T: TriHashItem, S: BuildHasher> TakesAt<Second, T, S> for TriIndex<T> {
         state: &S,
         query: Q,
     ) -> Option<ItemIndex> {
-        let found = self.tables.second.first.take(items, state, query)?;
-        self.tables.first.remove(items, state, found);
-        self.tables.second.second.remove(items, state, found);
+        let found = self.second.take(items, state, query)?;
+        self.first.remove(items, state, found);
+        self.third.remove(items, state, found);
         Some(found)
     }
 }
@@ -507,7 +519,7 @@ impl<T: TriHashItem, S: BuildHasher> FindsWithHashAt<Second, T, S> for TriIndex<
         Option<ItemIndex>,
         (Option<MapHash>, (Option<MapHash>, Option<MapHash>)),
     ) {
-        let (found, asked) = self.tables.second.first.find_with_hash(items, state, query);
+        let (found, asked) = self.second.find_with_hash(items, state, query);
         (found, (None, (asked, None)))
     }
 }
@@ -523,7 +535,7 @@ impl<T: TriHashItem, S: BuildHasher> HashedAt<Third, T, S> for TriIndex<T> {
         state: &S,
         query: Q,
     ) -> Option<ItemIndex> {
-        self.tables.second.second.find(items, state, query)
+        self.third.find(items, state, query)
     }
 }
 
@@ -534,9 +546,9 @@ impl<T: TriHashItem, S: BuildHasher> TakesAt<Third, T, S> for TriIndex<T> {
         state: &S,
         query: Q,
     ) -> Option<ItemIndex> {
-        let found = self.tables.second.second.take(items, state, query)?;
-        self.tables.first.remove(items, state, found);
-        self.tables.second.first.remove(items, state, found);
+        let found = self.third.take(items, state, query)?;
+        self.first.remove(items, state, found);
+        self.second.remove(items, state, found);
         Some(found)
     }
 }
@@ -551,11 +563,7 @@ impl<T: TriHashItem, S: BuildHasher> FindsWithHashAt<Third, T, S> for TriIndex<T
         Option<ItemIndex>,
         (Option<MapHash>, (Option<MapHash>, Option<MapHash>)),
     ) {
-        let (found, asked) = self
-            .tables
-            .second
-            .second
-            .find_with_hash(items, state, query);
+        let (found, asked) = self.third.find_with_hash(items, state, query);
         (found, (None, (None, asked)))
     }
 }
