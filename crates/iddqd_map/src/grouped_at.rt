@@ -4,7 +4,6 @@ ghost use Rattle.iddqd_map.specs.Groups.{FindsOther, FindsSome};
 
 use crate::key_index::{KeyIndex, Left, Right};
 use crate::pair::Pair;
-use crate::pair_conflict::ReportsPair;
 use iddqd::item_index::ItemIndex;
 use iddqd::item_set::ItemSet;
 use iddqd_keys::hash_query::HashQuery;
@@ -43,11 +42,10 @@ pub trait GroupedAt<P, T, S>: KeyIndex<T, S> {
         ensures { FindsOther items.now.store (passes_by key_at (Q.stands_for query)) ix result };
 }
 
-impl<P, T, S, A, B, C> GroupedAt<Left<P>, T, S> for Pair<A, B, C>
+impl<P, T, S, A, B> GroupedAt<Left<P>, T, S> for Pair<A, B>
 where
     A: GroupedAt<P, T, S>,
     B: KeyIndex<T, S>,
-    C: ReportsPair<A::Conflict, B::Conflict>,
 {
     type Key = A::Key;
 
@@ -73,11 +71,10 @@ where
     }
 }
 
-impl<P, T, S, A, B, C> GroupedAt<Right<P>, T, S> for Pair<A, B, C>
+impl<P, T, S, A, B> GroupedAt<Right<P>, T, S> for Pair<A, B>
 where
     A: KeyIndex<T, S>,
     B: GroupedAt<P, T, S>,
-    C: ReportsPair<A::Conflict, B::Conflict>,
 {
     type Key = B::Key;
 

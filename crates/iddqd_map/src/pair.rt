@@ -13,7 +13,7 @@ use crate::key_index::{
     Checks, FindsSame, FindsWithHashAt, HashedAt, Inserts, KeyIndex, Left, Moves, OrderedAt,
     Removes, Right, Sizes, TakesAt,
 };
-use crate::pair_conflict::{PairConflict, ReportsPair};
+use crate::pair_conflict::PairConflict;
 use crate::reported::lesser;
 use iddqd::index_remap::IndexRemap;
 use iddqd::internal::{ValidateCompact, ValidateRefusal, ValidationError};
@@ -22,33 +22,30 @@ use iddqd::item_set::ItemSet;
 use iddqd_keys::hash_query::HashQuery;
 use iddqd_keys::order_query::OrdQuery;
 use std::alloc::{AllocError, Global};
-use std::marker::PhantomData;
 use std::ops::Bound;
 
-/// Two key indexes over the same items. A conflict is reported as `C`.
+/// Two key indexes over the same items.
 #[derive(Drop)]
-pub struct Pair<A, B, C = PairConflict<ItemIndex, ItemIndex>> {
+pub struct Pair<A, B> {
     /// The first key index: `Left` names the place of a key in it.
     pub first: A,
     /// The second key index: `Right` names the place of a key in it.
     pub second: B,
-    reported: PhantomData<C>,
 }
 
-impl<T, S, A, B, C> KeyIndex<T, S> for Pair<A, B, C>
+impl<T, S, A, B> KeyIndex<T, S> for Pair<A, B>
 where
     A: KeyIndex<T, S>,
     B: KeyIndex<T, S>,
-    C: ReportsPair<A::Conflict, B::Conflict>,
 {
     ghost use Rattle.std.specs.Prelude.{◌||◌, ◌+◌, ◌⊎◌, min};
     ghost use Rattle.iddqd_map.specs.Several.{either_key, both_keys};
-    ghost use Rattle.iddqd_map.specs.PairConflict.{ReportBoth, ReportBothOther, IsEither, IsReportedBy};
+    ghost use Rattle.iddqd_map.specs.PairConflict.{ReportBoth, ReportBothOther, IsEither, IsReportedBy, first_of, second_of};
     ghost use Rattle.std.proofs.Common.{ap};
     ghost use Rattle.std.proofs.lemmas.Cmp.{and_equiv};
     ghost use Rattle.iddqd_map.specs.PairLaws.{AreApart-either, HaveSameKeys-first, HaveSameKeys-second, alike_both, reported_by_one, reported_both, reported_some, few_by_one, few_both, sum_none, sum_grows};
 
-    type Conflict = C;
+    type Conflict = PairConflict<A::Conflict, B::Conflict>;
 
     type KnownHashes = (A::KnownHashes, B::KnownHashes);
 
@@ -82,13 +79,13 @@ where
 
     ghost unique_keys = { A.unique_keys + B.unique_keys };
 
-    ghost conflicts = { λ s item at. ReportBoth A.alike B.alike A.conflicts B.conflicts s item (C.first at)
-        (C.second at) };
+    ghost conflicts = { λ s item at. ReportBoth A.alike B.alike A.conflicts B.conflicts s item (first_of at)
+        (second_of at) };
 
-    ghost taken = { λ s ix item at. ReportBothOther A.alike B.alike A.taken B.taken s ix item (C.first at)
-        (C.second at) };
+    ghost taken = { λ s ix item at. ReportBothOther A.alike B.alike A.taken B.taken s ix item (first_of at)
+        (second_of at) };
 
-    ghost reports = { λ at. IsEither (IsReportedBy A.reports (C.first at)) (IsReportedBy B.reports (C.second at)) };
+    ghost reports = { λ at. IsEither (IsReportedBy A.reports (first_of at)) (IsReportedBy B.reports (second_of at)) };
 
     ghost kept_none = { sum_none A.kept_none B.kept_none };
 
@@ -115,48 +112,45 @@ where
     ghost equivalence = { and_equiv A.equivalence B.equivalence };
 
     ghost reported = { λ s item at conflicts ix. reported_both A.alike B.alike s item
-        (IsReportedBy A.reports (C.first at))
-        (IsReportedBy B.reports (C.second at)) ix
-        (reported_by_one A.reports A.alike A.conflicts s item (A.reported s item) (C.first at) conflicts.first ix)
-        (reported_by_one B.reports B.alike B.conflicts s item (B.reported s item) (C.second at) conflicts.second ix) };
+        (IsReportedBy A.reports (first_of at))
+        (IsReportedBy B.reports (second_of at)) ix
+        (reported_by_one A.reports A.alike A.conflicts s item (A.reported s item) (first_of at) conflicts.first ix)
+        (reported_by_one B.reports B.alike B.conflicts s item (B.reported s item) (second_of at) conflicts.second ix) };
 
     ghost reported_some = { λ s item at conflicts. reported_some A.reports B.reports A.conflicts B.conflicts s item
         A.alike B.alike
-        (A.reported_some s item) (B.reported_some s item) (C.first at) (C.second at) conflicts };
+        (A.reported_some s item) (B.reported_some s item) (first_of at) (second_of at) conflicts };
 
-    ghost few_reported = { λ at. few_both (IsReportedBy A.reports (C.first at)) (IsReportedBy B.reports (C.second at))
+    ghost few_reported = { λ at. few_both (IsReportedBy A.reports (first_of at)) (IsReportedBy B.reports (second_of at))
         A.unique_keys
-        B.unique_keys (few_by_one A.reports A.unique_keys A.few_reported (C.first at))
-        (few_by_one B.reports B.unique_keys B.few_reported (C.second at)) };
+        B.unique_keys (few_by_one A.reports A.unique_keys A.few_reported (first_of at))
+        (few_by_one B.reports B.unique_keys B.few_reported (second_of at)) };
 
     fn no_hashes() -> (A::KnownHashes, B::KnownHashes) {
         (A::no_hashes(), B::no_hashes())
     }
 }
 
-impl<T, S, A, B, C> Sizes<T, S> for Pair<A, B, C>
+impl<T, S, A, B> Sizes<T, S> for Pair<A, B>
 where
     A: Sizes<T, S>,
     B: Sizes<T, S>,
-    C: ReportsPair<A::Conflict, B::Conflict>,
 {
     fn capacity(&self) -> usize {
         self.first.capacity().min(self.second.capacity())
     }
 
-    fn new(alloc: Global) -> Pair<A, B, C> {
+    fn new(alloc: Global) -> Pair<A, B> {
         Pair {
             first: A::new(alloc),
             second: B::new(alloc),
-            reported: PhantomData,
         }
     }
 
-    fn with_capacity(alloc: Global, wanted: usize) -> Result<Pair<A, B, C>, AllocError> {
+    fn with_capacity(alloc: Global, wanted: usize) -> Result<Pair<A, B>, AllocError> {
         Ok(Pair {
             first: A::with_capacity(alloc, wanted)?,
             second: B::with_capacity(alloc, wanted)?,
-            reported: PhantomData,
         })
     }
 
@@ -177,11 +171,10 @@ where
     }
 }
 
-impl<T, S, A, B, C> Inserts<T, S> for Pair<A, B, C>
+impl<T, S, A, B> Inserts<T, S> for Pair<A, B>
 where
     A: Inserts<T, S>,
     B: Inserts<T, S>,
-    C: ReportsPair<A::Conflict, B::Conflict>,
 {
     type Known = (A::Known, B::Known);
 
@@ -216,15 +209,15 @@ where
         state: &S,
         known: (A::Known, B::Known),
         item: &T,
-    ) -> Result<(A::Spot, B::Spot), C> {
+    ) -> Result<(A::Spot, B::Spot), PairConflict<A::Conflict, B::Conflict>> {
         let first = self.first.look_up(items, state, known.0, item);
         let second = self.second.look_up(items, state, known.1, item);
         match first {
             Ok(first) => match second {
                 Ok(second) => Ok((first, second)),
-                Err(other) => Err(C::reported(PairConflict::Second(other))),
+                Err(other) => Err(PairConflict::Second(other)),
             },
-            Err(one) => Err(C::reported(first_with(one, second.err()))),
+            Err(one) => Err(first_with(one, second.err())),
         }
     }
 
@@ -258,7 +251,10 @@ where
         self.second.insert(known.1, &plan.1, ix);
     }
 
-    fn next_reported(conflict: &C, before: Option<ItemIndex>) -> Option<ItemIndex> {
+    fn next_reported(
+        conflict: &PairConflict<A::Conflict, B::Conflict>,
+        before: Option<ItemIndex>,
+    ) -> Option<ItemIndex> {
         let first = next_of::<T, S, A>(conflict.first(), &before);
         let second = next_of::<T, S, B>(conflict.second(), &before);
         lesser(first, second)
@@ -288,11 +284,10 @@ where
     }
 }
 
-impl<T, S, A, B, C> Removes<T, S> for Pair<A, B, C>
+impl<T, S, A, B> Removes<T, S> for Pair<A, B>
 where
     A: Removes<T, S>,
     B: Removes<T, S>,
-    C: ReportsPair<A::Conflict, B::Conflict>,
 {
     fn remove(&mut self, items: &ItemSet<T>, state: &S, ix: ItemIndex) {
         self.first.remove(items, state, ix);
@@ -310,11 +305,10 @@ where
     }
 }
 
-impl<T, S, A, B, C> Moves<T, S> for Pair<A, B, C>
+impl<T, S, A, B> Moves<T, S> for Pair<A, B>
 where
     A: Moves<T, S>,
     B: Moves<T, S>,
-    C: ReportsPair<A::Conflict, B::Conflict>,
 {
     ghost use Rattle.std.specs.Prelude.{◌||◌};
 
@@ -332,15 +326,15 @@ where
         state: &S,
         ix: ItemIndex,
         item: &T,
-    ) -> Result<(A::Move, B::Move), C> {
+    ) -> Result<(A::Move, B::Move), PairConflict<A::Conflict, B::Conflict>> {
         let first = self.first.plan_move(items, state, ix, item);
         let second = self.second.plan_move(items, state, ix, item);
         match first {
             Ok(first) => match second {
                 Ok(second) => Ok((first, second)),
-                Err(other) => Err(C::reported(PairConflict::Second(other))),
+                Err(other) => Err(PairConflict::Second(other)),
             },
-            Err(one) => Err(C::reported(first_with(one, second.err()))),
+            Err(one) => Err(first_with(one, second.err())),
         }
     }
 
@@ -370,17 +364,15 @@ where
     }
 }
 
-impl<T, S, A, B, C> Checks<T, S> for Pair<A, B, C>
+impl<T, S, A, B> Checks<T, S> for Pair<A, B>
 where
     A: Checks<T, S>,
     B: Checks<T, S>,
-    C: ReportsPair<A::Conflict, B::Conflict>,
 {
-    fn copied(&self) -> Result<Pair<A, B, C>, AllocError> {
+    fn copied(&self) -> Result<Pair<A, B>, AllocError> {
         Ok(Pair {
             first: self.first.copied()?,
             second: self.second.copied()?,
-            reported: PhantomData,
         })
     }
 
@@ -400,11 +392,10 @@ where
 }
 
 // The first key index finds the only item that can share all keys.
-impl<T, S, A, B, C> FindsSame<T, S> for Pair<A, B, C>
+impl<T, S, A, B> FindsSame<T, S> for Pair<A, B>
 where
     A: FindsSame<T, S>,
     B: Checks<T, S>,
-    C: ReportsPair<A::Conflict, B::Conflict>,
 {
     ghost use Rattle.iddqd_map.specs.PairLaws.{alike_both};
 
@@ -442,11 +433,10 @@ fn next_of<T, S, X: Inserts<T, S>>(
     X::next_reported(&reported, *before)
 }
 
-impl<P, T, S, A, B, C> HashedAt<Left<P>, T, S> for Pair<A, B, C>
+impl<P, T, S, A, B> HashedAt<Left<P>, T, S> for Pair<A, B>
 where
     A: HashedAt<P, T, S>,
     B: KeyIndex<T, S>,
-    C: ReportsPair<A::Conflict, B::Conflict>,
 {
     type Key = A::Key;
 
@@ -462,11 +452,10 @@ where
     }
 }
 
-impl<P, T, S, A, B, C> TakesAt<Left<P>, T, S> for Pair<A, B, C>
+impl<P, T, S, A, B> TakesAt<Left<P>, T, S> for Pair<A, B>
 where
     A: TakesAt<P, T, S>,
     B: Removes<T, S>,
-    C: ReportsPair<A::Conflict, B::Conflict>,
 {
     fn take<Q: HashQuery<A::Key>>(
         &mut self,
@@ -480,11 +469,10 @@ where
     }
 }
 
-impl<P, T, S, A, B, C> FindsWithHashAt<Left<P>, T, S> for Pair<A, B, C>
+impl<P, T, S, A, B> FindsWithHashAt<Left<P>, T, S> for Pair<A, B>
 where
     A: FindsWithHashAt<P, T, S>,
     B: KeyIndex<T, S>,
-    C: ReportsPair<A::Conflict, B::Conflict>,
 {
     fn find_with_hash<Q: HashQuery<A::Key>>(
         &self,
@@ -497,11 +485,10 @@ where
     }
 }
 
-impl<P, T, S, A, B, C> HashedAt<Right<P>, T, S> for Pair<A, B, C>
+impl<P, T, S, A, B> HashedAt<Right<P>, T, S> for Pair<A, B>
 where
     A: KeyIndex<T, S>,
     B: HashedAt<P, T, S>,
-    C: ReportsPair<A::Conflict, B::Conflict>,
 {
     type Key = B::Key;
 
@@ -517,11 +504,10 @@ where
     }
 }
 
-impl<P, T, S, A, B, C> TakesAt<Right<P>, T, S> for Pair<A, B, C>
+impl<P, T, S, A, B> TakesAt<Right<P>, T, S> for Pair<A, B>
 where
     A: Removes<T, S>,
     B: TakesAt<P, T, S>,
-    C: ReportsPair<A::Conflict, B::Conflict>,
 {
     fn take<Q: HashQuery<B::Key>>(
         &mut self,
@@ -535,11 +521,10 @@ where
     }
 }
 
-impl<P, T, S, A, B, C> FindsWithHashAt<Right<P>, T, S> for Pair<A, B, C>
+impl<P, T, S, A, B> FindsWithHashAt<Right<P>, T, S> for Pair<A, B>
 where
     A: KeyIndex<T, S>,
     B: FindsWithHashAt<P, T, S>,
-    C: ReportsPair<A::Conflict, B::Conflict>,
 {
     fn find_with_hash<Q: HashQuery<B::Key>>(
         &self,
@@ -552,11 +537,10 @@ where
     }
 }
 
-impl<P, T, S, A, B, C> OrderedAt<Left<P>, T, S> for Pair<A, B, C>
+impl<P, T, S, A, B> OrderedAt<Left<P>, T, S> for Pair<A, B>
 where
     A: OrderedAt<P, T, S>,
     B: Removes<T, S>,
-    C: ReportsPair<A::Conflict, B::Conflict>,
 {
     type Key = A::Key;
 
@@ -600,11 +584,10 @@ where
     }
 }
 
-impl<P, T, S, A, B, C> OrderedAt<Right<P>, T, S> for Pair<A, B, C>
+impl<P, T, S, A, B> OrderedAt<Right<P>, T, S> for Pair<A, B>
 where
     A: Removes<T, S>,
     B: OrderedAt<P, T, S>,
-    C: ReportsPair<A::Conflict, B::Conflict>,
 {
     type Key = B::Key;
 

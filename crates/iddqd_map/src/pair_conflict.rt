@@ -31,42 +31,11 @@ impl<A: fmt::Display, B: fmt::Display> fmt::Display for PairConflict<A, B> {
     }
 }
 
-/// A type in which a pair reports conflicts under names of its own, as `BiClash` does.
-pub trait ReportsPair<A, B>: Copy {
-    ghost use Rattle.std.specs.Prelude.{Option};
-
-    // What the first reported, and what the second.
-    ghost first: { Self → Option A };
-
-    ghost second: { Self → Option B };
-
-    /// The conflicts of a pair, as a value of this type.
-    fn reported(conflict: PairConflict<A, B>) -> Self
-        ensures first { first result ≡ first_of conflict }
-        ensures second { second result ≡ second_of conflict };
-
+impl<A: Copy, B: Copy> PairConflict<A, B> {
     /// What the first reported, if it did.
-    fn first(&self) -> Option<A>
-        ensures { result ≡ first self.now };
-
-    /// What the second reported, if it did.
-    fn second(&self) -> Option<B>
-        ensures { result ≡ second self.now };
-}
-
-impl<A: Copy, B: Copy> ReportsPair<A, B> for PairConflict<A, B> {
-    ghost first = { first_of };
-
-    ghost second = { second_of };
-
-    fn reported(conflict: PairConflict<A, B>) -> PairConflict<A, B>
-        ensures first { first_of result ≡ first_of conflict }
-        ensures second { second_of result ≡ second_of conflict }
+    pub fn first(&self) -> Option<A>
+        ensures { result ≡ first_of self.now }
     {
-        conflict
-    }
-
-    fn first(&self) -> Option<A> {
         match *self {
             PairConflict::First(one) => Some(one),
             PairConflict::Both(one, _) => Some(one),
@@ -74,7 +43,10 @@ impl<A: Copy, B: Copy> ReportsPair<A, B> for PairConflict<A, B> {
         }
     }
 
-    fn second(&self) -> Option<B> {
+    /// What the second reported, if it did.
+    pub fn second(&self) -> Option<B>
+        ensures { result ≡ second_of self.now }
+    {
         match *self {
             PairConflict::Second(other) => Some(other),
             PairConflict::Both(_, other) => Some(other),

@@ -101,7 +101,7 @@ type ByTag = Right<Left<Here>>;
 type ByName = Right<Right<Here>>;
 
 /// Devices by each of the four keys.
-pub type Devices = Map<Device, Pair<Numbers, Labels, TakenKeys>>;
+pub type Devices = Map<Device, Pair<Numbers, Labels>>;
 
 /// Adds a device that shares no key with another.
 pub fn add(

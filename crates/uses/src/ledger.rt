@@ -80,11 +80,7 @@ impl KeyOf<Order> for Day {
 /// The order that has the number of a refused one. A customer or a day never conflicts.
 pub type Taken = PairConflict<ItemIndex, PairConflict<NoConflict, NoConflict>>;
 
-type Shared = Pair<
-    ByHashMulti<Customer, u32>,
-    ByOrderMulti<Day>,
-    PairConflict<NoConflict, NoConflict>,
->;
+type Shared = Pair<ByHashMulti<Customer, u32>, ByOrderMulti<Day>>;
 
 type ByNumber = Left<Here>;
 
@@ -93,7 +89,7 @@ type ByCustomer = Right<Left<Here>>;
 type ByDay = Right<Right<Here>>;
 
 /// Orders by their numbers, by their customers, and in the order of their days.
-pub type Ledger = Map<Order, Pair<ByHash<Number, u64>, Shared, Taken>>;
+pub type Ledger = Map<Order, Pair<ByHash<Number, u64>, Shared>>;
 
 /// Adds an order, unless another one has its number.
 pub fn add(ledger: &mut Ledger, order: Order) -> Result<ItemIndex, InsertRefusal<Order, Taken>>

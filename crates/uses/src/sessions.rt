@@ -77,7 +77,7 @@ type ById = Left<Left<Here>>;
 type ByToken = Left<Right<Here>>;
 
 /// Sessions by their ids and tokens, and in the order in which they end.
-pub type Sessions = Map<Session, Pair<Names, ByOrder<Ends>, Taken>>;
+pub type Sessions = Map<Session, Pair<Names, ByOrder<Ends>>>;
 
 /// Opens a session, unless another one has its id, its token or its end.
 pub fn open(
