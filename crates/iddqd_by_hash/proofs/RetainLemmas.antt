@@ -171,6 +171,18 @@ module _ {F T : Type 0} (takes : F → T → Type 0) (ask : F → T → Bool →
         (keeps f x b f' (contains_head x items) i called),
   )
 
+  -- and where an invariant of the items to come and of its states does so
+  pub AsksInTurn-to_come :
+      (I : List T → F → Type 0)
+      → ((x : T) (rest : List T) (s : F) → I (x ∷ rest) s → takes s x)
+      → ((x : T) (rest : List T) (s : F) (b : Bool) (t : F) → I (x ∷ rest) s → ask s x b t → I rest t)
+      → (items : List T) (f : F)
+      → I items f
+      → AsksInTurn takes ask f items
+  AsksInTurn-to_come I asks keeps [] f i = tt
+  AsksInTurn-to_come I asks keeps (x ∷ items) f i =
+      (asks x items f i, λ b f' called. AsksInTurn-to_come I asks keeps items f' (keeps x items f b f' i called))
+
   pub MayAskInTurn-asks : (f : F) (items : List T) → MayAskInTurn takes ask f items → AsksInTurn takes ask f items
   MayAskInTurn-asks f items may = may (AsksInTurn-everywhere f items)
 
@@ -196,9 +208,6 @@ module _ {F T : Type 0} (takes : F → T → Type 0) (ask : F → T → Bool →
     counted = refl;
     can = can;
   }
-
-  pub Retaining-none : (f : F) (old : Store T) → CanAsk takes ask f (live_items old) → Retaining f old old 0 f
-  Retaining-none f old can = Retaining-first f old (AsksInTurn-can f (live_items old) (live_items old) (λ x here. here) can)
 
   -- all slots were asked about
   pub Retaining-all :

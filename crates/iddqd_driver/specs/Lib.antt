@@ -35,7 +35,7 @@ pub use Rattle.iddqd_driver.specs.Queries.{LooksUpBy, LooksUpItem, LooksUpItemBy
 pub use Rattle.iddqd_driver.specs.Walks.{items_at, RangesWithin}
 pub use Rattle.iddqd_driver.specs.Replacement.{ReportsOtherIndex, Becomes, Replaces}
 pub use Rattle.iddqd_driver.specs.Modify.{KeepsKeysOfFound, ModifiesAt, ModifiesFound, ModifiesByKey}
-pub use Rattle.iddqd_by_hash.specs.Retain.{MayAsk, RetainsTo, kept_of, removed_of}
+pub use Rattle.iddqd_by_hash.specs.Retain.{AsksInTurn, MayAskInTurn, RetainsTo, kept_of, removed_of}
 pub use Rattle.iddqd_driver.specs.Retain.{unbound_all, Retains}
 pub use Rattle.iddqd_driver.specs.Memory.{SizedState, no_memory, capacity, room, reservable, IsNoLower, IsMadeFor}
 pub use Rattle.iddqd_driver.specs.Memory.{IsDuplicate, IsOutOfMemory, InsertsInMemory, TakesForOne, ReservesInMemory, ShrinksInMemory}

@@ -2,5 +2,5 @@
 -- the closure's answers are that test; and that a closure may be asked which asks for something.
 pub use Rattle.iddqd_map.proofs.RetainedLemmas.{CanAsk-by, RetainsTo-tested, Retains-tested, RetainsWithin-stays, RetainsWithin-gone}
 pub use Rattle.iddqd_ord_map.proofs.OrderedCallerLemmas.{RetainsAlong-tested, walked}
-pub use Rattle.iddqd_by_hash.proofs.RetainLemmas.{AsksInTurn-by, AsksInTurn-can}
+pub use Rattle.iddqd_by_hash.proofs.RetainLemmas.{AsksInTurn-by, AsksInTurn-to_come, AsksInTurn-can}
 pub use Rattle.iddqd_map.proofs.RangeRetainLemmas.{AsksWithin-by}

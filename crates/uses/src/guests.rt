@@ -2,10 +2,11 @@
 //!
 //! A look-up may miss a guest after an `overwrite` that changed a key, and no function here makes one. So some clauses
 //! hold where the table that is asked is in sync.
-ghost use Rattle.std.specs.Prelude.{◌≡◌, ◌+◌, ℕ, IfNone, IfErr, IfOk, IfSome, OnOk, OnErr};
+ghost use Rattle.std.specs.Prelude.{◌≡◌, ◌+◌, ◌<◌, ◌≤◌, ℕ, IfNone, IfErr, IfOk, IfSome, OnOk, OnErr, filter, nat_le, vec_len, vec_capacity};
 ghost use Rattle.std.specs.String.{string_bytes};
+ghost use Rattle.iddqd_keyed.specs.LiveItems.{live_pairs};
 ghost use Rattle.iddqd_keyed.specs.Scan.{HasNoHit};
-ghost use Rattle.iddqd_keyed.specs.{AreInSync, IsInSync, ListsAsScan, SecondKeysInSync, first_key_index, second_key_index, items_at};
+ghost use Rattle.iddqd_keyed.specs.{AreInSync, IsInSync, ListsAsScan, SecondKeysInSync, first_key_index, second_key_index, items_at, live_count};
 ghost use Rattle.uses.specs.Guests.{is_called, Came, HasArrival, HasNoArrival, IsBetween, IsWhyNotSet, Leaves, SetsArrival, listed};
 
 use iddqd_keyed::keyed_item::KeyedItem;
@@ -141,6 +142,26 @@ pub fn leave(guests: &mut Guests, name: &str) -> Option<u32>
     }
 }
 
+/// Adds the arrival of each guest to a list that has room for them. Removes the guests who came before that time, and
+/// returns how many they were. It takes no memory.
+pub fn dismiss(guests: &mut Guests, time: u32, arrivals: &mut Vec<u32>) -> usize
+    requires { vec_len arrivals.old + live_count guests.old.state.store ≤ vec_capacity arrivals.old }
+    ensures stay { live_pairs guests.new.state.store
+        ≡ filter (λ pair. nat_le time pair.1.arrival) (live_pairs guests.old.state.store) }
+    ensures count { result + live_count guests.new.state.store ≡ live_count guests.old.state.store }
+    ensures memory { guests.new.memory ≡ guests.old.memory }
+{
+    // `push_reserved` requires room for one more, and after the last guest there may be none.
+    guests.retain(
+        |guest|
+            requires { vec_len arrivals.now < vec_capacity arrivals.now }
+        {
+            arrivals.push_reserved(guest.arrival);
+            time <= guest.arrival
+        },
+    )
+}
+
 fn script(alloc: Global, guests: &mut Guests) -> Result<String, AllocError> {
     for (name, arrival) in [("ada", 30), ("bo", 10), ("cy", 20)] {
         let name = String::from_str(alloc, name)?;
@@ -152,7 +173,11 @@ fn script(alloc: Global, guests: &mut Guests) -> Result<String, AllocError> {
     let is = names(alloc, guests)?;
     let late = last_within(guests, 15, 40);
     let left = leave(guests, "ada");
-    format!(in alloc; "guests:{was}, {set:?}, {refused:?},{is}, {late:?}, {left:?}")
+    let mut arrivals = Vec::with_capacity(alloc, guests.len())?;
+    let dismissed = dismiss(guests, 30, &mut arrivals);
+    format!(in alloc;
+        "guests:{was}, {set:?}, {refused:?},{is}, {late:?}, {left:?}, {arrivals:?}, {dismissed}"
+    )
 }
 
 /// What the calls answer.

@@ -10,10 +10,9 @@ ghost use Rattle.std.specs.Fn.{TakesAt, CalledAt};
 ghost use Rattle.iddqd.specs.{get, live_count};
 ghost use Rattle.iddqd.specs.LiveItems.{live_items};
 ghost use Rattle.iddqd_hash.specs.{filed};
-ghost use Rattle.iddqd_hash.specs.Asks.{CanAsk};
 ghost use Rattle.iddqd_hash.specs.HashTable.{KeepsMemory};
 ghost use Rattle.iddqd_order.specs.MapBTreeTable.{order_of, capacity as ordered_capacity};
-ghost use Rattle.iddqd_by_hash.specs.Retain.{MayAsk, RetainsTo};
+ghost use Rattle.iddqd_by_hash.specs.Retain.{AsksInTurn, MayAskInTurn, RetainsTo};
 ghost use Rattle.iddqd_driver.specs.KeyIndexes.{Keeps};
 ghost use Rattle.iddqd_driver.specs.Memory.{capacity, room};
 ghost use Rattle.iddqd_driver.specs.Retain.{Retains};
@@ -33,7 +32,7 @@ impl<T: KeyedItem, S: BuildHasher> KeyedItems<T, S> {
     /// whatever their keys are now. No memory is taken, no key is hashed or compared, and it costs a few steps for each
     /// slot of the store and at most one walk over the cells of the hash table, however few items there are.
     pub fn retain<F: FnMut(&T) -> bool>(&mut self, mut f: F) -> usize
-        requires { MayAsk (TakesAt F.FnMut) (CalledAt F.FnMut) f (live_items self.old.state.store) }
+        requires { MayAskInTurn (TakesAt F.FnMut) (CalledAt F.FnMut) f (live_items self.old.state.store) }
         ensures retained { Retains (CalledAt F.FnMut) f self.old.state self.new.state }
         ensures count { result + live_count self.new.state.store ≡ live_count self.old.state.store }
         ensures keeps { Keeps ⟦<Self as Keyed>⟧.keys self.old.state self.new.state }
@@ -52,7 +51,7 @@ impl<T: KeyedItem, S: BuildHasher> KeyedItems<T, S> {
 // Removes the items at which the closure answers false from the store. The closure stays in the state that its last
 // call leaves.
 fn remove_refused<T: Drop, F: FnMut(&T) -> bool>(items: &mut ItemSet<T>, f: &mut F)
-    requires { CanAsk (TakesAt F.FnMut) (CalledAt F.FnMut) f.old (live_items items.old.store) }
+    requires { AsksInTurn (TakesAt F.FnMut) (CalledAt F.FnMut) f.old (live_items items.old.store) }
     ensures retained { RetainsTo (CalledAt F.FnMut) f.old items.old.store items.new.store f.new }
     ensures slots { items.new.capacity ≡ items.old.capacity }
 {

@@ -1,6 +1,6 @@
 use Rattle.std.proofs.Common.{◌≡◌, refl, arith}
 use Rattle.std.specs.Fn.{TakesAt, CalledAt}
-use Rattle.iddqd_by_hash.proofs.RetainLemmas.{MayAsk-can, RetainsTo-fewer}
+use Rattle.iddqd_by_hash.proofs.RetainLemmas.{MayAskInTurn-asks, RetainsTo-fewer}
 use Rattle.iddqd_driver.specs.State.{state_of}
 use Rattle.iddqd_driver.specs.Memory.{memory_of, sized_of}
 use Rattle.iddqd_driver.specs.Retain.{Retains}
@@ -11,7 +11,7 @@ use Rattle.iddqd_driver.proofs.keyed_items.KeyedItems.retain.Goals as goal
 
 pub remove_refused-requires : goal.remove_refused-requires
 remove_refused-requires g c =
-    rw (← c.self.view_is) at (MayAsk-can (TakesAt g.F.FnMut) (CalledAt g.F.FnMut) _ _ c.requires)
+    rw (← c.self.view_is) at (MayAskInTurn-asks (TakesAt g.F.FnMut) (CalledAt g.F.FnMut) _ _ c.requires)
 
 -- what was done, over the parts of the collection
 did : (g : _) (c : After-drop-f g)

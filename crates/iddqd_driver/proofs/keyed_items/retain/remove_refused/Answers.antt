@@ -2,13 +2,13 @@ use Rattle.std.proofs.Common.{rules, ◌≡◌, ◌∙◌, ◌<◌, ◌≤◌, t
 use Rattle.std.specs.Fn.{TakesAt, CalledAt}
 use Rattle.std.proofs.lemmas.Fn.{called_at}
 use Rattle.iddqd.specs.Store.{get, removed}
-use Rattle.iddqd_by_hash.proofs.RetainLemmas.{Retaining-none, Retaining-all, Retaining-vacant, takes-next, Retaining-kept, Retaining-removed}
+use Rattle.iddqd_by_hash.proofs.RetainLemmas.{Retaining-first, Retaining-all, Retaining-vacant, takes-next, Retaining-kept, Retaining-removed}
 use Rattle.iddqd_driver.proofs.keyed_items.retain.remove_refused.Goals.{then-not-f, else-not-f}
 use Rattle.iddqd_driver.proofs.keyed_items.retain.remove_refused.Goals as goal
 
 pub loop-at-init : goal.loop-at-init
 loop-at-init g c = record {
-  retaining = Retaining-none (TakesAt g.F.FnMut) (CalledAt g.F.FnMut) c.args.f.now c.args.items.now.store c.requires;
+  retaining = Retaining-first (TakesAt g.F.FnMut) (CalledAt g.F.FnMut) c.args.f.now c.args.items.now.store c.requires;
   slots = refl;
 }
 
