@@ -77,10 +77,6 @@ module _ {T : Type 0} where
   kept_fewer ((a, true) ∷ asks) = omega (arith, kept_fewer asks)
   kept_fewer ((a, false) ∷ asks) = omega (arith, kept_fewer asks)
 
-  pub removed_all-limit : (s : Store T) (ixs : List ℕ) → (removed_all s ixs).limit ≡ s.limit
-  removed_all-limit s [] = refl
-  removed_all-limit s (ix ∷ ixs) = removed_all-limit (removed s ix) ixs
-
   -- what there is after a removal was there before
   from_removed : (s : Store T) (ix j : ℕ) (item : T) → get (removed s ix) j ≡ Some item → get s j ≡ Some item
   from_removed s ix j item is =

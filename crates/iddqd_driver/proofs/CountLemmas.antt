@@ -41,7 +41,7 @@ count-replaced old new valid ix item (Ok was) live is same = ap live_count is �
 count-replaced old new valid ix item (Err refusal) live is same = ap live_count same
 
 -- with room, an insert that is refused is one of a duplicate
-pub IsDuplicate-roomy :
+pub IsDuplicate-with_room :
     {T S : Type 0} (old : SizedState T S) (new : Memory)
     → IsPaired old.state
     → (item : T) (r : Result ℕ (InsertRefusal T))
@@ -49,9 +49,9 @@ pub IsDuplicate-roomy :
     → InsertsInMemory (1 ≤ room old) old.memory r new
     → 1 ≤ room old
     → IfErr r IsDuplicate
-IsDuplicate-roomy old new paired item (Ok ix) refused did some = tt
-IsDuplicate-roomy old new paired item (Err (Duplicate back first second)) refused did some = tt
-IsDuplicate-roomy old new paired item (Err (Full back)) refused did some =
+IsDuplicate-with_room old new paired item (Ok ix) refused did some = tt
+IsDuplicate-with_room old new paired item (Err (Duplicate back first second)) refused did some = tt
+IsDuplicate-with_room old new paired item (Err (Full back)) refused did some =
     let full = refused.1 in
     absurd (omega (arith, some, ap length full.0, full.1, paired.valid.counted))
-IsDuplicate-roomy old new paired item (Err (OutOfMemory back)) refused did some = absurd (did.not_refused some tt)
+IsDuplicate-with_room old new paired item (Err (OutOfMemory back)) refused did some = absurd (did.not_refused some tt)

@@ -14,7 +14,8 @@ use Rattle.iddqd_order.specs.MapBTreeTable.{without}
 use Rattle.iddqd_keys.specs.Scan.{IsLive}
 use Rattle.iddqd_keys.specs.Removals.{removed_all}
 use Rattle.iddqd_by_hash.specs.Retain.{RetainsTo, removed_of}
-use Rattle.iddqd_by_hash.proofs.RetainLemmas.{AreLiveInTurn, AreLiveInTurn-refused, removed_all-limit, was_there}
+use Rattle.iddqd_keys.proofs.RemovalLemmas.{limit-removed_all}
+use Rattle.iddqd_by_hash.proofs.RetainLemmas.{AreLiveInTurn, AreLiveInTurn-refused, was_there}
 use Rattle.iddqd_driver.specs.Keys.{Keys}
 use Rattle.iddqd_driver.specs.State.{State, unbound, IsPaired}
 use Rattle.iddqd_driver.specs.KeyIndexes.{Keeps}
@@ -185,7 +186,7 @@ module _ {F T S : Type 0} (ask : F → T → Bool → F → Type 0) (f : F) (old
 
   pub limit-retained : Retains ask f old new → new.store.limit ≡ old.store.limit
   limit-retained did =
-      ap (λ (s : Store T). s.limit) did.retained.left ∙ removed_all-limit old.store (removed_of did.retained.asks)
+      ap (λ (s : Store T). s.limit) did.retained.left ∙ limit-removed_all old.store (removed_of did.retained.asks)
 
 -- the capacity in the same memory under the same limit, and the room that so many removed items leave
 module _

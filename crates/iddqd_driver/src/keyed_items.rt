@@ -222,7 +222,7 @@ impl<T: KeyedItem, S: BuildHasher> KeyedItems<T, S> {
         ensures few { let store = self.old.state.store in
             TakesForOne store.limit (live_count store) self.old.memory self.new.memory }
         ensures room { OnOk result (1 ≤ room self.old → room self.old ≡ room self.new + 1) }
-        ensures roomy { 1 ≤ room self.old → IfErr result IsDuplicate }
+        ensures not_refused { 1 ≤ room self.old → IfErr result IsDuplicate }
         ensures count { OnOk result (live_count self.new.state.store ≡ live_count self.old.state.store + 1) }
     {
         let (hash, first) = self.hash_and_find(item.key1());

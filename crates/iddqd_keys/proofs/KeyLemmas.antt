@@ -1,16 +1,10 @@
--- For callers whose keys are text or unsigned numbers: what tests of them say.
-use Rattle.std.proofs.Common.{◌≡◌, ◌∙◌, ◌↔◌, ◌<◌, ◌≤◌, inl, inr, ℕ, nat_eq, nat_le, true, false, not, List, sym, subst, ap, arith}
+-- For callers whose keys are unsigned numbers: what tests of them say.
+use Rattle.std.proofs.Common.{◌≡◌, ◌∙◌, ◌↔◌, ◌<◌, ◌≤◌, inl, inr, ℕ, nat_eq, nat_le, true, false, not, sym, ap, arith}
 use Rattle.std.specs.Cmp.{nat_cmp_is, unsigned_tied}
-use Rattle.std.specs.Cmp.Lexicographic.{slice_cmp, nat_list_cmp_total}
 use Rattle.std.specs.Ordering.{nat_cmp, is_eq, is_gt, is_lt}
 use Rattle.std.specs.declared.cmp.Ordering.TheVariants.{Less, Equal, Greater}
 use Rattle.std.proofs.lemmas.Bool.{cases_lt}
 use Rattle.std.proofs.lemmas.Bool.Decides.{nat_tests}
-use Rattle.std.proofs.lemmas.Cmp.{tied_itself}
-
--- a copy of a text stands where the text does
-pub same_text : (text copy : List ℕ) → copy ≡ text → slice_cmp nat_cmp text copy ≡ Equal
-same_text text copy same = subst (λ bytes. slice_cmp nat_cmp text bytes ≡ Equal) (sym same) (tied_itself nat_list_cmp_total text)
 
 -- of numbers: the same, less, no greater, and the same as they compare
 pub is_same : (a b : ℕ) → (nat_eq a b ≡ true) ↔ (b ≡ a)

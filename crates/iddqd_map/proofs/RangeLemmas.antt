@@ -1,8 +1,8 @@
 -- For maps: what calls leave that remove the items whose keys are within bounds, one after the other.
-use Rattle.std.proofs.Common.{◌≡◌, ◌≢◌, ◌∙◌, ◌+◌, ℕ, Bool, [], ◌∷◌, Option, Some, None, refl, subst, Ordering, arith, length-set}
+use Rattle.std.proofs.Common.{◌≡◌, ◌≢◌, ◌∙◌, ℕ, Bool, [], ◌∷◌, Option, Some, None, refl, subst, Ordering, arith}
 use Rattle.std.specs.Cmp.{IsTotalOrder}
 use Rattle.std.specs.declared.ops.Bound.TheVariants.{Included}
-use Rattle.iddqd.specs.Store.{Store, IsValid, get, live_count, removed}
+use Rattle.iddqd.specs.Store.{Store, get, removed}
 use Rattle.iddqd.proofs.LiveLemmas.{get-removed_other}
 use Rattle.iddqd_keys.specs.OrderedQuery.{is_equal}
 use Rattle.iddqd_keys.specs.OrderedQuery.{is_between}
@@ -14,18 +14,6 @@ use Rattle.iddqd_keys.proofs.KeyWalkLemmas.{pairs_at-first}
 use Rattle.iddqd_keys.proofs.NextLemmas.{before_still, next_still, not_before_itself}
 use Rattle.iddqd_keys.proofs.ScanLemmas.{live_before}
 use Rattle.iddqd_map.specs.Ranges.{LeavesOthers, RemovesAlong}
-
--- one item fewer is left
-pub live_count-removed :
-    {T : Type 0} (s now : Store T) (ix : ℕ)
-    → now ≡ removed s ix
-    → IsValid s
-    → IsValid now
-    → live_count s ≡ live_count now + 1
-live_count-removed s now ix gone valid after =
-    let was = valid.counted in
-    let is = (rw gone at after).counted in
-    rw gone (omega (arith, was, is, length-set s.items ix None))
 
 module _
     {T K : Type 0} (key_of : T → K) (compare : K → K → Ordering) (total : IsTotalOrder compare) (within : K → Bool)

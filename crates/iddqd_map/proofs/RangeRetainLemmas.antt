@@ -12,6 +12,7 @@ use Rattle.std.proofs.lemmas.Bool.Decides.{Decides-eqb, not_from_Decides}
 use Rattle.std.proofs.lemmas.Cmp.{alike_right, tied_itself}
 use Rattle.std.proofs.lemmas.Map.Made.{is_member-Decides}
 use Rattle.iddqd.specs.Store.{Store, IsValid, get, live_count, removed}
+use Rattle.iddqd.proofs.LiveCountLemmas.{live_count-removed}
 use Rattle.iddqd.proofs.LiveLemmas.{get-removed_at, get-removed_other}
 use Rattle.iddqd.proofs.StoreLemmas.{contains_head, contains_tail, contains_cases, contains_none, live_within}
 use Rattle.iddqd_keys.specs.KeyWalk.{by_key_then_index, ComesBefore, IsFirstHit, IsNextHit, pairs_at}
@@ -23,7 +24,6 @@ use Rattle.iddqd_keys.proofs.ScanLemmas.{live_before}
 use Rattle.iddqd_map.specs.RangeRetain.{AsksFrom, AsksWithin, KeepsMisses, MayAskWithin, RetainsWithin}
 use Rattle.iddqd_map.specs.Retain.{removed_of}
 use Rattle.iddqd_keys.specs.Removals.{removed_all}
-use Rattle.iddqd_map.proofs.RangeLemmas.{live_count-removed}
 
 -- how many numbers below a limit pass
 abbrev how_many : (ℕ → Bool) → ℕ → ℕ
@@ -288,10 +288,10 @@ module _
               pub limit_stays : now.limit ≡ s.limit
               limit_stays = left_as (λ t. t.limit ≡ s.limit) (λ _. refl) (λ _. refl)
 
-              pub no_more_live : IsValid s → IsValid now → live_count now ≤ live_count s
-              no_more_live valid = left_as (λ t. IsValid t → live_count t ≤ live_count s)
-                  (λ _ _. omega arith)
-                  (λ _ after. omega (arith, live_count-removed s (removed s ix) ix refl valid after))
+              pub no_more_live : IsValid s → live_count now ≤ live_count s
+              no_more_live valid = left_as (λ t. live_count t ≤ live_count s)
+                  (λ _. omega arith)
+                  (λ _. omega (arith, live_count-removed s ix item valid live))
 
 -- a closure that may be called from an index on
 module _

@@ -2,7 +2,7 @@
 use Rattle.std.proofs.Common.{◌≡◌, ◌∙◌, ◌≤◌, Bool, ap, arith}
 use Rattle.iddqd.specs.Store.{Store}
 pub use Rattle.iddqd_by_hash.proofs.RetainLemmas.{Contains-live, RetainsTo-fewer, MayAsk-can, AsksInTurn-by, AsksInTurn-can, AsksInTurn-everywhere, MayAskInTurn-asks, Retaining, Retaining-first, Retaining-all, Retaining-vacant, takes-next, Retaining-kept, Retaining-removed}
-use Rattle.iddqd_by_hash.proofs.RetainLemmas.{removed_all-limit}
+use Rattle.iddqd_keys.proofs.RemovalLemmas.{limit-removed_all}
 use Rattle.iddqd_map.specs.Map.{MapState, MapMemory, room}
 use Rattle.iddqd_map.specs.Retain.{removed_of, RetainsTo}
 
@@ -30,7 +30,7 @@ module _ {F T : Type 0} (ask : F → T → Bool → F → Type 0) where
       → now.memory ≡ old.memory
       → room old ≤ room now
   RetainsTo-room f old now last w memory =
-      let limit = ap (λ (s : Store T). s.limit) w.left ∙ removed_all-limit old.store (removed_of w.asks) in
+      let limit = ap (λ (s : Store T). s.limit) w.left ∙ limit-removed_all old.store (removed_of w.asks) in
       omega (
         arith,
         RetainsTo-fewer ask f old.store now.store last w,

@@ -4,10 +4,9 @@ use Rattle.std.specs.Prelude.{Result, Ok, Err, OnOk, OnErr, IfErr, OnSome, IfNon
 use Rattle.std.specs.List.{Contains, count_by}
 use Rattle.iddqd.specs.Store.{Store, IsFull, IsValid, get, live_count, removed}
 use Rattle.iddqd.proofs.LiveCountLemmas.{live_count-inserted, live_count-removed}
-use Rattle.iddqd_by_hash.proofs.RetainLemmas.{removed_all-limit}
 use Rattle.iddqd_keys.specs.Removals.{removed_all}
 use Rattle.iddqd_keys.specs.Scan.{IsLive}
-use Rattle.iddqd_keys.proofs.RemovalLemmas.{AreLiveInTurn, AreLiveInTurn-rising, IsValid-removed_all, live_count-removed_all, free-removed_all, count-padded}
+use Rattle.iddqd_keys.proofs.RemovalLemmas.{AreLiveInTurn, AreLiveInTurn-rising, IsValid-removed_all, live_count-removed_all, free-removed_all, limit-removed_all, count-padded}
 use Rattle.iddqd_map.specs.Calls.{Inserts, InsertsAt, IsDuplicate, OverwritesAt, OverwritesInto, RefusesFull, RefusesMemory}
 use Rattle.iddqd_map.specs.Map.{MapState, MapMemory, Removes, RemovesAt, capacity, room}
 use Rattle.iddqd_map.specs.declared.refusal.InsertRefusal.{InsertRefusal}
@@ -145,7 +144,7 @@ module _
         overwritten-room : 1 ≤ room old → room new + 1 ≡ room old + count_by is_some back
         overwritten-room some =
             room-exchanged old new (did.memory.had_room some)
-            (ap (λ (s : Store T). s.limit) did.stored ∙ removed_all-limit old.store did.conflicts)
+            (ap (λ (s : Store T). s.limit) did.stored ∙ limit-removed_all old.store did.conflicts)
             (count_by is_some back) overwritten-count some
 
       module _ (may_need_memory : Bool) where

@@ -103,14 +103,14 @@ module _ {T K1 K2 K3 S : Type 0} (keys : TriKeys T K1 K2 K3 S) (item : T) where
         subst (λ n. n - live_count new.state.store + 1 ≡ room old + count_by is_some back) (sym held)
         (room_left (capacity old) _ _ _ count some)
 
-    pub IsOk-roomy :
+    pub IsOk-with_room :
         (r : Result (ℕ × List (Option T)) (TriRefusal T)) (new : TriState T S)
         → Overwriting keys old.state item r new
         → ((back : T) → r ≡ Err (Memory back) → NeedsMemory keys old item)
         → 1 ≤ room old
         → IsOk r
-    IsOk-roomy (Ok p) new did needed some = refl
-    IsOk-roomy (Err (Full back)) new did needed some =
+    IsOk-with_room (Ok p) new did needed some = refl
+    IsOk-with_room (Err (Full back)) new did needed some =
         let full = did.2 in
         absurd (omega (arith, some, ap length full.0, full.1, o.valid.counted))
-    IsOk-roomy (Err (Memory back)) new did needed some = absurd (omega (arith, some, (needed back refl).no_room))
+    IsOk-with_room (Err (Memory back)) new did needed some = absurd (omega (arith, some, (needed back refl).no_room))

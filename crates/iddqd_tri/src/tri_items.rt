@@ -223,7 +223,7 @@ impl<T: TriHashItem, S: BuildHasher> TriItems<T, S> {
             Grows s.limit (live_count s + 1) self.old.memory self.new.memory }
         ensures needed { (back : T) → result ≡ Err (TriRefusal.Memory back)
             → NeedsMemory ⟦<Self as TriKeyed>⟧.keys self.old item }
-        ensures roomy { 1 ≤ room self.old → IsOk result }
+        ensures not_refused { 1 ≤ room self.old → IsOk result }
 
         // How many items there are then, and for how many more there is room: one item more, without those that it
         // returns.

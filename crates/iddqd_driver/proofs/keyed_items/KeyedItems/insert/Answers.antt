@@ -10,7 +10,7 @@ use Rattle.iddqd_hash.specs.HashTable.{memory as cells}
 use Rattle.iddqd_hash.specs.Sizes.{most_cells}
 use Rattle.iddqd_driver.specs.Memory.{sized_of}
 use Rattle.iddqd_driver.proofs.MemoryLemmas.{InsertsInMemory-where, HasRoomInParts-from_room, room-inserted, length-filed}
-use Rattle.iddqd_driver.proofs.CountLemmas.{count-inserted, IsDuplicate-roomy}
+use Rattle.iddqd_driver.proofs.CountLemmas.{count-inserted, IsDuplicate-with_room}
 use Rattle.iddqd_driver.proofs.InsertLemmas.{StoresAt-from_parts, same-from_parts, Keeps-from_stored}
 use Rattle.iddqd_by_hash.proofs.HoldsLemmas.{next_unfiled}
 use Rattle.iddqd_driver.proofs.keyed_items.KeyedItems.insert.Goals.{After-insert_item}
@@ -110,11 +110,11 @@ returns-clause-room g c =
     (HasRoomInParts-from_room c.self.inside.state c.self.inside.items c.self.inside.filed c.self.inside.order c.self.invariant)
     c.insert_item.ensures.memory))
 
-pub returns-clause-roomy : goal.returns-clause-roomy
-returns-clause-roomy g c =
+pub returns-clause-not_refused : goal.returns-clause-not_refused
+returns-clause-not_refused g c =
     let whole = sized_of c.self.inside.state c.self.inside.items c.self.inside.filed c.self.inside.order in
     rw (← c.self.view_is)
-    (IsDuplicate-roomy whole _ c.self.invariant c.args.item c.insert_item.result c.insert_item.ensures.refused
+    (IsDuplicate-with_room whole _ c.self.invariant c.args.item c.insert_item.result c.insert_item.ensures.refused
     (InsertsInMemory-where
     (HasRoomInParts-from_room c.self.inside.state c.self.inside.items c.self.inside.filed c.self.inside.order c.self.invariant)
     c.insert_item.ensures.memory))

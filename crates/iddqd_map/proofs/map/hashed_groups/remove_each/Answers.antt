@@ -1,12 +1,13 @@
 use Rattle.std.proofs.Common.{◌≢◌, ◌∙◌, Bool, true, sym, ap, arith}
+use Rattle.iddqd.specs.Store.{live_count}
 use Rattle.iddqd.specs.ItemSet.{SizedStore}
 use Rattle.iddqd.specs.LiveItems.{live_items}
+use Rattle.iddqd.proofs.LiveCountLemmas.{live_count-removed}
 use Rattle.iddqd_hash.proofs.AskLemmas.{CanAsk-takes, CanAsk-asked}
 use Rattle.iddqd_keys.specs.Scan.{passes_by}
 use Rattle.iddqd_keys.proofs.ScanLemmas.{live_before}
 use Rattle.iddqd_map.specs.Ranges.{TakesItem, GivesItem}
 use Rattle.iddqd_map.proofs.GroupLemmas.{HasNoHit-last, IsHit-other, LeavesOthers-none, LeavesOthers-hit, RemovesEach-none, RemovesEach-hit}
-use Rattle.iddqd_map.proofs.RangeLemmas.{live_count-removed}
 use Rattle.iddqd_map.proofs.RetainLemmas.{Contains-live}
 use Rattle.iddqd_map.proofs.map.hashed_groups.remove_each.Goals as goal
 
@@ -51,7 +52,7 @@ loop-ix-preserved g c =
       removes = λ new last along.
           i.removes new last
           (RemovesEach-hit test now ix hit (GivesItem g.F.FnMut) c.loop-ix.f c.give.new.f last _ new item live gone given along);
-      fewer = omega (arith, i.fewer, live_count-removed now _ ix gone i.kept.valid did.indexed.valid);
+      fewer = omega (arith, i.fewer, live_count-removed now ix item i.kept.valid live, ap live_count gone);
       limit = ap (λ (s : SizedStore _). s.store.limit) did.removed ∙ i.limit;
       slots = ap (λ (s : SizedStore _). s.capacity) did.removed ∙ i.slots;
       capacity = did.capacity ∙ i.capacity;

@@ -95,7 +95,7 @@ loop-next-preserved g c =
       others = λ j other.
           let apart : j ≢ ix = λ same. other (item, ap (get old) same ∙ was, passes) in
           others_stay key_at compare total within ask f after after s now ix item next live passes is now b kept gone asked j apart ∙ i.others j other;
-      fewer = omega (arith, i.fewer, no_more_live key_at compare total within ask f after after s now ix item next live passes is now b kept gone asked i.kept.valid did.indexed.valid);
+      fewer = omega (arith, i.fewer, no_more_live key_at compare total within ask f after after s now ix item next live passes is now b kept gone asked i.kept.valid);
       limit = limit_stays key_at compare total within ask f after after s now ix item next live passes is now b kept gone asked ∙ i.limit;
       slots = did.slots ∙ i.slots;
       capacity = did.capacity ∙ i.capacity;

@@ -1,8 +1,9 @@
 use Rattle.std.proofs.Common.{IfSome, None, Option, ℕ, refl, subst, ◌≡◌, ◌∙◌, Bool, true, Some, sym, ap, arith}
 use Rattle.std.specs.Range.Bound.{bound_map}
-use Rattle.iddqd.specs.Store.{get}
+use Rattle.iddqd.specs.Store.{get, live_count}
 use Rattle.iddqd.specs.ItemSet.{SizedStore}
 use Rattle.iddqd.specs.LiveItems.{live_items}
+use Rattle.iddqd.proofs.LiveCountLemmas.{live_count-removed}
 use Rattle.iddqd_hash.proofs.AskLemmas.{CanAsk-takes, CanAsk-asked}
 use Rattle.iddqd_keys.specs.KeyWalk.{IsFirstHit}
 use Rattle.iddqd_keys.specs.OrderedQuery.{is_between}
@@ -11,7 +12,7 @@ use Rattle.iddqd_keys.proofs.NextLemmas.{IsNextHit-between}
 use Rattle.iddqd_keys.proofs.ScanLemmas.{live_before}
 use Rattle.iddqd_map.specs.Ranges.{TakesItem, GivesItem}
 use Rattle.iddqd_map.proofs.GroupLemmas.{LeavesOthers-none, LeavesOthers-hit}
-use Rattle.iddqd_map.proofs.RangeLemmas.{IsFirstHit-removed, live_count-removed, RemovesAlong-none, RemovesAlong-first}
+use Rattle.iddqd_map.proofs.RangeLemmas.{IsFirstHit-removed, RemovesAlong-none, RemovesAlong-first}
 use Rattle.iddqd_map.proofs.RetainLemmas.{Contains-live}
 use Rattle.iddqd_map.proofs.map.ranges.remove_within.Goals as goal
 
@@ -66,7 +67,7 @@ loop-next-preserved g c =
       removes = λ new last along.
           i.removes new last
           (RemovesAlong-first key_at compare total within (GivesItem g.F.FnMut) c.loop-next.f c.f.new.self last now _ new ix item first live gone c.f.ensures along);
-      fewer = omega (arith, i.fewer, live_count-removed now _ ix gone i.kept.valid did.map.valid);
+      fewer = omega (arith, i.fewer, live_count-removed now ix item i.kept.valid live, ap live_count gone);
       limit = ap (λ (s : SizedStore _). s.store.limit) did.removed ∙ i.limit;
       slots = ap (λ (s : SizedStore _). s.capacity) did.removed ∙ i.slots;
       capacity = did.capacity ∙ i.capacity;

@@ -14,7 +14,7 @@ use Rattle.iddqd_tri.proofs.ClashLemmas.{none_listed, some_listed, some_there}
 use Rattle.iddqd_tri.proofs.TriLemmas.{AreLawful-from_bounds}
 use Rattle.iddqd_tri.proofs.TriCallLemmas.{ClashesAt-live, AreClashes-listed, HasNoClash-none, with_none, inserted_apart, inserted_over}
 use Rattle.iddqd_tri.proofs.TriMemoryLemmas.{Grows-parts, Grows-none, Grows-same, HaveRoom-held, set_room-held}
-use Rattle.iddqd_tri.proofs.TriCountLemmas.{count-overwriting, room-overwriting, IsOk-roomy}
+use Rattle.iddqd_tri.proofs.TriCountLemmas.{count-overwriting, room-overwriting, IsOk-with_room}
 use Rattle.iddqd_tri.proofs.tri_items.TriItems.insert_overwrite.Goals.{After-replace_clashes-ix}
 use Rattle.iddqd_tri.proofs.tri_items.TriItems.insert_overwrite.Given.{Over}
 use Rattle.iddqd_tri.proofs.tri_items.TriItems.insert_overwrite.Goals as goal
@@ -275,12 +275,12 @@ returns-in_err-ix-clause-room g c =
     rw (← c.self.view_is)
     (room-overwriting (keys_in g) c.args.item was c.self.invariant c.from_residual.result is (did_refuse g c) stays)
 
-pub returns-in_err-ix-clause-roomy : goal.returns-in_err-ix-clause-roomy
-returns-in_err-ix-clause-roomy g c =
+pub returns-in_err-ix-clause-not_refused : goal.returns-in_err-ix-clause-not_refused
+returns-in_err-ix-clause-not_refused g c =
     let was = sized_tri_of c.self.inside.state c.self.inside.items c.self.inside.tables in
     let needed = rw (← c.self.view_is) at (returns-in_err-ix-clause-needed g c) in
     rw (← c.self.view_is)
-    (IsOk-roomy (keys_in g) c.args.item was c.self.invariant c.from_residual.result _ (did_refuse g c) needed)
+    (IsOk-with_room (keys_in g) c.args.item was c.self.invariant c.from_residual.result _ (did_refuse g c) needed)
 
 pub returns-clause-count : goal.returns-clause-count
 returns-clause-count g c =
