@@ -22,9 +22,8 @@ pub use iddqd_groups::{by_hash_multi as by_hash_multi, hashed_group as hashed_gr
 pub use iddqd_keys::{hash_query as hash_query, key_of as key_of, order_query as order_query};
 pub use iddqd_map::{
     bi_hash_map as bi_hash_map, by_hash as by_hash, grouped_at as grouped_at,
-    id_hash_map as id_hash_map, key_index as key_index, map as map,
-    no_conflict as no_conflict, pair as pair, pair_conflict as pair_conflict, refusal as refusal,
-    tri_hash_map as tri_hash_map,
+    id_hash_map as id_hash_map, key_index as key_index, map as map, no_conflict as no_conflict,
+    pair as pair, pair_conflict as pair_conflict, refusal as refusal, tri_hash_map as tri_hash_map,
 };
 pub use iddqd_ord_map::{
     by_order as by_order, by_order_multi as by_order_multi, id_ord_map as id_ord_map,
