@@ -1,13 +1,13 @@
 -- For callers: the ends of a group, which is a list of the live indexes whose items have one key.
-use Rattle.std.proofs.Common.{◌≡◌, ◌∙◌, ◌++◌, ◌<◌, ◌≤◌, inl, inr, ◌↔◌, ℕ, Bool, true, false, is_some, List, [], ◌∷◌, Option, Some, None, MatchOption, refl, sym, ap, subst, Ordering, arith}
-use Rattle.std.specs.Cmp.{IsTotalOrder, Equal-is, nat_cmp_is}
+use Rattle.std.proofs.Common.{◌≡◌, ◌∙◌, ◌++◌, ◌<◌, inl, inr, ◌↔◌, ℕ, false, is_some, List, [], ◌∷◌, Option, Some, None, MatchOption, refl, Ordering, arith}
+use Rattle.std.specs.Cmp.{Equal-is, nat_cmp_is}
 use Rattle.std.specs.Ordering.{nat_cmp}
 use Rattle.std.specs.declared.cmp.Ordering.TheVariants.{Less, Equal, Greater}
 use Rattle.std.proofs.lemmas.Bool.{cases_lt, cases_eq}
-use Rattle.iddqd.specs.Store.{Store, get}
-use Rattle.iddqd_by_order.specs.Ordered.{is_equal, key_at, Finds, IsInPlace}
+use Rattle.iddqd.specs.Store.{Store}
+use Rattle.iddqd_by_order.specs.Ordered.{is_equal, Finds, IsInPlace}
 use Rattle.iddqd_keys.specs.OrderedQuery.{IsQuery}
-use Rattle.iddqd_by_order.specs.OrderedWalk.{SortsWithin, ComesBefore, IsFirstHit}
+use Rattle.iddqd_by_order.specs.OrderedWalk.{SortsWithin, ComesBefore}
 use Rattle.iddqd_keys.specs.Scan.{IsHit, HasNoHit, passes_by}
 use Rattle.iddqd_keys.proofs.KeyWalkLemmas.{IsFirstHit-none, IsFirstHit-head, IsLastHit-end}
 use Rattle.iddqd_ord_map.specs.ByOrderMulti.{IsLeastHit, IsGreatestHit}

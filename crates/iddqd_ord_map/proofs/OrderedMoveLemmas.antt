@@ -21,7 +21,7 @@ use Rattle.iddqd_order.specs.declared.btree_table.asking.Asking.{Asking}
 use Rattle.iddqd_order.proofs.IndexListLemmas.{IsDistinct-insert, IsDistinct-filter}
 use Rattle.iddqd_order.proofs.KeyOrderLemmas.{key_then_index-total, with_ties-key, IsRising-from_sorted, IsStrictlySortedBy-insert}
 use Rattle.iddqd_order.proofs.MemberLemmas.{contains-inserted_at, contains-inserted_other, contains-inserted_cases, contains-without, contains-from_without}
-use Rattle.iddqd_keys.specs.Scan.{IsLive, IsHit, HasNoHit, AreApart}
+use Rattle.iddqd_keys.specs.Scan.{IsLive, IsHit, HasNoHit}
 use Rattle.iddqd_by_order.specs.Ordered.{IsInPlace, IsSortedScan, compared, key_at}
 use Rattle.iddqd_keys.specs.AnyTable.{HasDistinctKeys}
 use Rattle.iddqd_ord_map.specs.ByOrderMulti.{item_answer}

@@ -1,6 +1,5 @@
 -- An index by the order of a key that several items may have: where it puts an index, and what it finds.
 use Rattle.std.specs.Prelude.{◌≡◌, ◌≤◌, ℕ, Bool, not, List, Option, Some, None, length}
-use Rattle.std.specs.Ordering.{eq_by_cmp}
 use Rattle.std.specs.declared.cmp.Ordering.{Ordering}
 use Rattle.iddqd.specs.Store.{Store, next_index}
 use Rattle.iddqd_order.specs.MapBTreeTable.{Order, order_of}

@@ -1,9 +1,7 @@
 -- The items of a store at listed indexes.
 use Rattle.std.specs.Prelude.{ℕ, List, Option, IsSome, filter_map, nat_eq}
 use Rattle.std.specs.List.{Contains, IsDistinct}
-use Rattle.std.specs.Option.{option_map}
 use Rattle.iddqd.specs.LiveItems.{item_at}
-use Rattle.iddqd.specs.Store.{Store, get}
 
 module _ {T : Type 0} where
   -- the items of the slots at these indexes, in the order of the list

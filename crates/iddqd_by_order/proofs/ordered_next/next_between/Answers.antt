@@ -1,4 +1,4 @@
-use Rattle.std.proofs.Common.{◌≡◌, ◌∙◌, ℕ, false, true, Some, slice_index, refl, sym, subst}
+use Rattle.std.proofs.Common.{◌≡◌, ◌∙◌, false, true, Some, slice_index, refl, sym, subst}
 use Rattle.std.specs.Range.Bound.{bound_map}
 use Rattle.iddqd_order.specs.MapBTreeTable.{order_of, spot_place}
 use Rattle.iddqd_keys.specs.KeyWalk.{IsNextHit}

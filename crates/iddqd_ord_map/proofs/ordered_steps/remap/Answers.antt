@@ -1,4 +1,4 @@
-use Rattle.std.proofs.Common.{◌≡◌, ◌∙◌, map}
+use Rattle.std.proofs.Common.{◌∙◌}
 use Rattle.iddqd_order.specs.MapBTreeTable.{order_of}
 use Rattle.iddqd_by_order.proofs.OrderedHoldsLemmas.{CanRemap-held, one_name-held, map-by_rank}
 use Rattle.iddqd_ord_map.proofs.ordered_steps.remap.Goals as goal

@@ -1,4 +1,4 @@
-use Rattle.std.proofs.Common.{◌≡◌, ap, ◌∙◌}
+use Rattle.std.proofs.Common.{ap, ◌∙◌}
 use Rattle.iddqd.proofs.LiveLemmas.{item_at}
 use Rattle.iddqd_order.specs.MapBTreeTable.{order_of, without}
 use Rattle.iddqd_ord_map.proofs.SortedScanLemmas.{IsSortedScan-removed}
