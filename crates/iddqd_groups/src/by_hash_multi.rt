@@ -35,7 +35,7 @@ use iddqd_keys::hash_query::{AsEquivalent, HashQuery};
 use iddqd_keys::key_of::KeyOf;
 use iddqd_map::grouped_at::GroupedAt;
 use iddqd_map::hashed_plan::move_of;
-use iddqd_map::key_index::{Checks, Here, Inserts, KeyIndex, Moves, Removes, Sizes};
+use iddqd_map::key_index::{Here, KeyIndex};
 pub use iddqd_map::no_conflict::NoConflict;
 use std::alloc::{AllocError, Global};
 use std::hash::{BuildHasher, Hash};
@@ -121,10 +121,24 @@ where
     ghost use Rattle.iddqd_map.specs.HashLaws.{shares_laws};
     ghost use Rattle.iddqd_map.specs.Map.{shares};
     ghost use Rattle.iddqd_map.specs.NoConflict.{never_alike, never_apart, none_named};
+    ghost use Rattle.std.specs.Prelude.{◌<◌};
+    ghost use Rattle.std.specs.FinMap as finite;
+    ghost use Rattle.iddqd_map.specs.Files.{IsMoveFor};
+    ghost use Rattle.iddqd_map.specs.Hashed.{moves};
 
     type Conflict = NoConflict;
 
     type KnownHashes = ();
+
+    type Hashes = MapHash;
+
+    type Place = ();
+
+    type InsertPlan = ();
+
+    type MovePlan = Move;
+
+    type Spare = ();
 
     ghost Keys = { K };
 
@@ -142,6 +156,8 @@ where
     ghost cells = { λ x. x.table.memory };
 
     ghost most = { most_linked };
+
+    ghost grown = { most_linked };
 
     ghost kept = { kept_linked };
 
@@ -185,15 +201,28 @@ where
 
     ghost few_reported = { λ at. none_named };
 
-    fn no_hashes() {}
-}
+    ghost are_hashes = { λ state item hash. hash ≡ (hashing_of K.eq K.hash_input S.BuildHasher
+        S.Hasher.Hasher state).hash_of (E.key_of item) };
 
-impl<T, S, E, K> Sizes<T, S> for ByHashMulti<E, K>
-where
-    E: KeyOf<T, Key = K>,
-    K: Eq + Hash + Drop,
-    S: BuildHasher,
-{
+    ghost is_place = { λ x state s item place. Unit {0} };
+
+    ghost is_planned = { λ x state s item plan. Unit {0} };
+
+    ghost has_room_for = { λ x plan spare. finite.len x.table.filed < x.table.capacity };
+
+    ghost does_after = { λ x spare. Unit {0} };
+
+    ghost same_plans = { λ x y state s item plan same is. is };
+
+    ghost is_move = { λ state s ix item plan. IsMoveFor E.key_of (hashing_of K.eq K.hash_input S.BuildHasher
+        S.Hasher.Hasher state) s ix item plan };
+
+    ghost moves = { moves };
+
+    ghost does_for = { λ x plan spare. Unit {0} };
+
+    fn no_hashes() {}
+
     fn capacity(&self) -> usize {
         self.table.capacity()
     }
@@ -226,37 +255,8 @@ where
     fn shrink_to(&mut self, items: &ItemSet<T>, state: &S, least: usize) -> Result<(), AllocError> {
         linked_steps::shrink_to(&mut self.table, items, least)
     }
-}
 
-impl<T, S, E, K> Inserts<T, S> for ByHashMulti<E, K>
-where
-    E: KeyOf<T, Key = K>,
-    K: Eq + Hash + Drop,
-    S: BuildHasher,
-{
-    ghost use Rattle.std.specs.Prelude.{◌<◌};
-    ghost use Rattle.std.specs.FinMap as finite;
-
-    type Known = MapHash;
-
-    type Spot = ();
-
-    type Plan = ();
-
-    ghost is_known = { λ state item hash. hash ≡ (hashing_of K.eq K.hash_input S.BuildHasher
-        S.Hasher.Hasher state).hash_of (E.key_of item) };
-
-    ghost is_spot = { λ x state s item spot. Unit {0} };
-
-    ghost is_planned = { λ x state s item plan. Unit {0} };
-
-    ghost has_room_for = { λ x plan. finite.len x.table.filed < x.table.capacity };
-
-    ghost is_ready_after = { λ x. Unit {0} };
-
-    ghost same_plans = { λ x y state s item plan same is. is };
-
-    fn known(state: &S, item: &T) -> MapHash {
+    fn hashes(state: &S, item: &T) -> MapHash {
         hash_of::<T, E, S>(state, item)
     }
 
@@ -264,43 +264,32 @@ where
         &self,
         items: &ItemSet<T>,
         state: &S,
-        known: MapHash,
+        hashes: MapHash,
         item: &T,
     ) -> Result<(), NoConflict> {
         Ok(())
     }
 
-    fn plan(&self, items: &ItemSet<T>, state: &S, spot: (), ix: ItemIndex, item: &T) {}
+    fn plan(&self, items: &ItemSet<T>, state: &S, place: (), ix: ItemIndex, item: &T) {}
 
     fn make_room(&mut self, items: &ItemSet<T>, state: &S, plan: &()) -> Result<(), AllocError> {
         linked_steps::reserve(&mut self.table, items, 1)
     }
 
-    fn insert(&mut self, known: MapHash, plan: &(), ix: ItemIndex) {
-        self.table.insert(known, ix);
+    fn insert(&mut self, hashes: MapHash, plan: &(), spare: (), ix: ItemIndex) {
+        self.table.insert(hashes, ix);
     }
 
     fn next_reported(conflict: &NoConflict, before: Option<ItemIndex>) -> Option<ItemIndex> {
         None
     }
 
-    fn spot(&self, items: &ItemSet<T>, state: &S, known: MapHash, item: &T) {}
+    fn place(&self, items: &ItemSet<T>, state: &S, hashes: MapHash, item: &T) {}
 
-    fn ready_after(&mut self, items: &ItemSet<T>, state: &S) -> Result<(), AllocError> {
+    fn spare_after(&self, items: &ItemSet<T>, state: &S) -> Result<(), AllocError> {
         Ok(())
     }
 
-    fn give_way(&mut self, items: &ItemSet<T>, state: &S, ix: ItemIndex) {
-        self.table.remove(ix);
-    }
-}
-
-impl<T, S, E, K> Removes<T, S> for ByHashMulti<E, K>
-where
-    E: KeyOf<T, Key = K>,
-    K: Eq + Hash + Drop,
-    S: BuildHasher,
-{
     fn remove(&mut self, items: &ItemSet<T>, state: &S, ix: ItemIndex) {
         self.table.remove(ix);
     }
@@ -312,25 +301,6 @@ where
     fn remap(&mut self, remap: &IndexRemap) {
         linked_steps::remap::<T>(&mut self.table, remap);
     }
-}
-
-impl<T, S, E, K> Moves<T, S> for ByHashMulti<E, K>
-where
-    E: KeyOf<T, Key = K>,
-    K: Eq + Hash + Drop,
-    S: BuildHasher,
-{
-    ghost use Rattle.iddqd_map.specs.Files.{IsMoveFor};
-    ghost use Rattle.iddqd_map.specs.Hashed.{moves};
-
-    type Move = Move;
-
-    ghost is_move = { λ state s ix item plan. IsMoveFor E.key_of (hashing_of K.eq K.hash_input S.BuildHasher
-        S.Hasher.Hasher state) s ix item plan };
-
-    ghost moves = { moves };
-
-    ghost is_ready = { λ x plan. Unit {0} };
 
     fn plan_move(
         &self,
@@ -342,7 +312,7 @@ where
         Ok(move_of::<T, E, S>(items, state, ix, item))
     }
 
-    fn ready_move(&mut self, items: &ItemSet<T>, state: &S, plan: &Move) -> Result<(), AllocError> {
+    fn spare_for(&self, items: &ItemSet<T>, state: &S, plan: &Move) -> Result<(), AllocError> {
         Ok(())
     }
 
@@ -350,21 +320,15 @@ where
         &mut self,
         items: &ItemSet<T>,
         state: &S,
-        asked: (),
+        known: (),
         plan: &Move,
+        spare: (),
         ix: ItemIndex,
         item: &T,
     ) {
         linked_steps::commit_move(&mut self.table, items, plan, ix);
     }
-}
 
-impl<T, S, E, K> Checks<T, S> for ByHashMulti<E, K>
-where
-    E: KeyOf<T, Key = K>,
-    K: Eq + Hash + Drop,
-    S: BuildHasher,
-{
     fn copied(&self) -> Result<ByHashMulti<E, K>, AllocError> {
         Ok(ByHashMulti {
             table: self.table.clone()?,
@@ -387,26 +351,20 @@ where
     }
 }
 
-impl<T, S, E, K> GroupedAt<Here, T, S> for ByHashMulti<E, K>
+impl<T, S, E, K, Q> GroupedAt<Here, Q, T, S> for ByHashMulti<E, K>
 where
     E: KeyOf<T, Key = K>,
     K: Eq + Hash + Drop,
     S: BuildHasher,
+    Q: HashQuery<K>,
 {
-    type Key = K;
+    ghost stands_for = { λ query. passes_by E.key_of (Q.stands_for query) };
 
-    ghost key_at = { E.key_of };
-
-    fn find_any_at<Q: HashQuery<K>>(
-        &self,
-        items: &ItemSet<T>,
-        state: &S,
-        query: Q,
-    ) -> Option<ItemIndex> {
+    fn find_any(&self, items: &ItemSet<T>, state: &S, query: Q) -> Option<ItemIndex> {
         find_any::<T, E, S, Q>(&self.table, items, state, query)
     }
 
-    fn find_other_at<Q: HashQuery<K>>(
+    fn find_other(
         &self,
         items: &ItemSet<T>,
         state: &S,

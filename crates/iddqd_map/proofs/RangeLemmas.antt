@@ -13,41 +13,41 @@ use Rattle.iddqd_keys.proofs.KeyWalkLemmas.{between_equal}
 use Rattle.iddqd_keys.proofs.KeyWalkLemmas.{pairs_at-first}
 use Rattle.iddqd_keys.proofs.NextLemmas.{before_still, next_still, not_before_itself}
 use Rattle.iddqd_keys.proofs.ScanLemmas.{live_before}
-use Rattle.iddqd_map.specs.Ranges.{LeavesOthers, RemovesAlong}
+use Rattle.iddqd_map.specs.Ranges.{LeavesOthers, RemovesAlong, itself}
 
 module _
-    {T K : Type 0} (key_of : T → K) (compare : K → K → Ordering) (total : IsTotalOrder compare) (within : K → Bool)
+    {T : Type 0} (compare : T → T → Ordering) (total : IsTotalOrder compare) (within : T → Bool)
   where
     module _ {F : Type 0} (give : F → T → F → Type 0) where
       pub RemovesAlong-none :
           (f : F) (s : Store T)
-          → HasNoHit s (passes_by key_of within)
-          → RemovesAlong key_of compare within give f s s f
+          → HasNoHit s within
+          → RemovesAlong compare within give f s s f
       RemovesAlong-none f s none = record {
         indexes = [];
-        sorted = SortsWithin-none key_of compare s within none;
+        sorted = SortsWithin-none itself compare s within none;
         given = refl;
         left = refl;
       }
 
       pub RemovesAlong-first :
           (f next last : F) (s now new : Store T) (ix : ℕ) (item : T)
-          → IsFirstHit key_of compare s (passes_by key_of within) (Some ix)
+          → IsFirstHit itself compare s within (Some ix)
           → get s ix ≡ Some item
           → now ≡ removed s ix
           → give f item next
-          → RemovesAlong key_of compare within give next now new last
-          → RemovesAlong key_of compare within give f s new last
+          → RemovesAlong compare within give next now new last
+          → RemovesAlong compare within give f s new last
       RemovesAlong-first f next last s now new ix item first live gone given along =
-          let then : RemovesAlong key_of compare within give next (removed s ix) new last = rw gone at along in
+          let then : RemovesAlong compare within give next (removed s ix) new last = rw gone at along in
           let rest = then.indexes in
           let same : pairs_at (removed s ix) rest ≡ pairs_at s rest =
           pairs_at-alike s (removed s ix) rest (λ j there.
-          get-removed_other s ix j (hit_before key_of compare s within total ix first j ((then.sorted.each j).0 there)).0) in
+          get-removed_other s ix j (hit_before itself compare s within total ix first j ((then.sorted.each j).0 there)).0) in
           let pairs : pairs_at s (ix ∷ rest) ≡ (ix, item) ∷ pairs_at s rest = pairs_at-first s (ix ∷ rest) rest ix item refl live in
           record {
             indexes = ix ∷ rest;
-            sorted = SortsWithin-first key_of compare s within total ix first rest then.sorted;
+            sorted = SortsWithin-first itself compare s within total ix first rest then.sorted;
             given = rw pairs (next, given, rw same at then.given);
             left = then.left;
           }
@@ -79,16 +79,16 @@ module _
     )
 
 -- between a query and itself are the keys at which it is Equal
-module _ {T K : Type 0} (key_of : T → K) (comparing : K → Ordering) (old new : Store T) where
+module _ {T : Type 0} (comparing : T → Ordering) (old new : Store T) where
   pub LeavesOthers-group :
-      LeavesOthers old (passes_by key_of (is_between (Included comparing) (Included comparing))) new
-      → LeavesOthers old (passes_by key_of (is_equal comparing)) new
+      LeavesOthers old (is_between (Included comparing) (Included comparing)) new
+      → LeavesOthers old (is_equal comparing) new
   LeavesOthers-group leaves =
-      subst (λ within. LeavesOthers old (passes_by key_of within) new) (between_equal comparing) leaves
+      subst (λ within. LeavesOthers old within new) (between_equal comparing) leaves
 
   pub RemovesAlong-group :
-      {F : Type 0} (compare : K → K → Ordering) (give : F → T → F → Type 0) (f last : F)
-      → RemovesAlong key_of compare (is_between (Included comparing) (Included comparing)) give f old new last
-      → RemovesAlong key_of compare (is_equal comparing) give f old new last
+      {F : Type 0} (compare : T → T → Ordering) (give : F → T → F → Type 0) (f last : F)
+      → RemovesAlong compare (is_between (Included comparing) (Included comparing)) give f old new last
+      → RemovesAlong compare (is_equal comparing) give f old new last
   RemovesAlong-group compare give f last along =
-      subst (λ within. RemovesAlong key_of compare within give f old new last) (between_equal comparing) along
+      subst (λ within. RemovesAlong compare within give f old new last) (between_equal comparing) along

@@ -17,10 +17,11 @@ use Rattle.iddqd.proofs.LiveLemmas.{get-removed_at, get-removed_other}
 use Rattle.iddqd.proofs.StoreLemmas.{contains_head, contains_tail, contains_cases, contains_none, live_within}
 use Rattle.iddqd_keys.specs.KeyWalk.{by_key_then_index, ComesBefore, IsFirstHit, IsNextHit, pairs_at}
 use Rattle.iddqd_keys.specs.OrderedQuery.{is_between, is_equal}
-use Rattle.iddqd_keys.specs.Scan.{IsHit, passes_by}
+use Rattle.iddqd_keys.specs.Scan.{IsHit}
 use Rattle.iddqd_keys.proofs.KeyWalkLemmas.{between_equal, pairs_at-alike, pairs_at-first, totals}
 use Rattle.iddqd_keys.proofs.NextLemmas.{SortsFrom, SortsFrom-more, SortsFrom-removed, SortsFrom-none, SortsWithin-from, before_still, both, from_later, next_hits, next_still, not_before_itself}
 use Rattle.iddqd_keys.proofs.ScanLemmas.{live_before}
+use Rattle.iddqd_map.specs.Ranges.{itself}
 use Rattle.iddqd_map.specs.RangeRetain.{AsksFrom, AsksWithin, KeepsMisses, MayAskWithin, RetainsWithin}
 use Rattle.iddqd_map.specs.Retain.{removed_of}
 use Rattle.iddqd_keys.specs.Removals.{removed_all}
@@ -146,16 +147,13 @@ module _ {T K : Type 0} (key_of : T → K) (compare : K → K → Ordering) wher
         omega (arith, no_more, same, to_ask-kept)
 
 module _
-    {T K : Type 0} (key_of : T → K) (compare : K → K → Ordering) (total : IsTotalOrder compare) (within : K → Bool)
+    {T : Type 0} (compare : T → T → Ordering) (total : IsTotalOrder compare) (within : T → Bool)
   where
-    abbrev hits : T → Bool
-    hits = passes_by key_of within
-
     module _ {F : Type 0} (ask : F → T → Bool → F → Type 0) where
       -- the same as `RetainsWithin`, from an index on
       pub record RetainsFrom (f : F) (s : Store T) (next : Option ℕ) (new : Store T) (last : F) : Type 0 where
         pub indexes : List ℕ
-        pub sorted : SortsFrom key_of compare hits s next indexes
+        pub sorted : SortsFrom itself compare within s next indexes
         pub asks : List ((ℕ × T) × Bool)
         pub each_once : map (λ a. a.0) asks ≡ pairs_at s indexes
         pub were_asked : FoldsTo (λ p a q. ask p a.0.1 a.1 q) f asks last
@@ -167,7 +165,7 @@ module _
       pub RetainsFrom-none : (f : F) (s : Store T) → RetainsFrom f s None s f
       RetainsFrom-none f s = record {
         indexes = [];
-        sorted = SortsFrom-none key_of compare total s hits;
+        sorted = SortsFrom-none itself compare total s within;
         asks = [];
         each_once = refl;
         were_asked = refl;
@@ -179,12 +177,12 @@ module _
       -- all that are within are asked about from the first on
       pub RetainsWithin-from :
           (f : F) (s new : Store T) (last : F) (first : Option ℕ)
-          → IsFirstHit key_of compare s hits first
+          → IsFirstHit itself compare s within first
           → RetainsFrom f s first new last
-          → RetainsWithin key_of compare within ask f s new last
+          → RetainsWithin compare within ask f s new last
       RetainsWithin-from f s new last first is r = record {
         indexes = r.indexes;
-        sorted = SortsWithin-from key_of compare total s within first r.indexes is r.sorted;
+        sorted = SortsWithin-from itself compare total s within first r.indexes is r.sorted;
         asks = r.asks;
         each_once = r.each_once;
         were_asked = r.were_asked;
@@ -195,7 +193,7 @@ module _
 
       module _
           (f after last : F) (s new : Store T) (ix : ℕ) (item : T) (next : Option ℕ) (live : get s ix ≡ Some item)
-          (passes : hits item ≡ true) (is : IsNextHit key_of compare s hits ix next)
+          (passes : within item ≡ true) (is : IsNextHit itself compare s within ix next)
         where
           -- one that is kept, and then those from the next on
           pub RetainsFrom-kept :
@@ -204,7 +202,7 @@ module _
               → RetainsFrom f s (Some ix) new last
           RetainsFrom-kept asked r = record {
             indexes = ix ∷ r.indexes;
-            sorted = SortsFrom-more key_of compare total s hits ix next is r.indexes (item, live, passes) r.sorted;
+            sorted = SortsFrom-more itself compare total s within ix next is r.indexes (item, live, passes) r.sorted;
             asks = ((ix, item), true) ∷ r.asks;
             each_once = ap (λ l. (ix, item) ∷ l) r.each_once ∙ sym (pairs_at-first s (ix ∷ r.indexes) r.indexes ix item refl live);
             were_asked = (after, asked, r.were_asked);
@@ -219,9 +217,9 @@ module _
               → RetainsFrom after (removed s ix) next new last
               → RetainsFrom f s (Some ix) new last
           RetainsFrom-removed asked r =
-              let sorts = SortsFrom-removed key_of compare total s hits ix next is r.indexes item live r.sorted in
+              let sorts = SortsFrom-removed itself compare total s within ix next is r.indexes item live r.sorted in
               let apart : (j : ℕ) → Contains r.indexes j → j ≢ ix = λ j there same.
-              not_before_itself key_of compare total s ix (subst (λ k. by_key_then_index key_of compare s ix k ≡ Less) same (from_later key_of compare total s hits ix next j is ((sorts.each j).0 there).1)) in
+              not_before_itself itself compare total s ix (subst (λ k. by_key_then_index itself compare s ix k ≡ Less) same (from_later itself compare total s within ix next j is ((sorts.each j).0 there).1)) in
               let still : pairs_at (removed s ix) r.indexes ≡ pairs_at s r.indexes =
               pairs_at-alike s (removed s ix) r.indexes (λ j there. get-removed_other s ix j (apart j there)) in
               let own : get new ix ≡ None = elim (is_member nat_eq (removed_of r.asks) ix) as (λ b. Decides b (Contains (removed_of r.asks) ix) → get new ix ≡ None) [
@@ -230,7 +228,7 @@ module _
               ] (is_member-Decides Decides-eqb (removed_of r.asks) ix) in
               record {
                 indexes = ix ∷ r.indexes;
-                sorted = SortsFrom-more key_of compare total s hits ix next is r.indexes (item, live, passes) sorts;
+                sorted = SortsFrom-more itself compare total s within ix next is r.indexes (item, live, passes) sorts;
                 asks = ((ix, item), false) ∷ r.asks;
                 each_once = ap (λ l. (ix, item) ∷ l) (r.each_once ∙ still) ∙ sym (pairs_at-first s (ix ∷ r.indexes) r.indexes ix item refl live);
                 were_asked = (after, asked, r.were_asked);
@@ -267,15 +265,15 @@ module _
                   (λ is_true. RetainsFrom-kept (subst (λ a. ask f item a after) is_true asked))
                   (λ is_false. RetainsFrom-removed (subst (λ a. ask f item a after) is_false asked))
 
-              pub to_ask-asked : to_ask key_of compare now next < to_ask key_of compare s (Some ix)
-              to_ask-asked = left_as (λ t. to_ask key_of compare t next < to_ask key_of compare s (Some ix))
-                  (λ _. to_ask-kept key_of compare total s hits ix next is item live)
-                  (λ _. to_ask-removed key_of compare total s hits ix next is item live)
+              pub to_ask-asked : to_ask itself compare now next < to_ask itself compare s (Some ix)
+              to_ask-asked = left_as (λ t. to_ask itself compare t next < to_ask itself compare s (Some ix))
+                  (λ _. to_ask-kept itself compare total s within ix next is item live)
+                  (λ _. to_ask-removed itself compare total s within ix next is item live)
 
-              pub next_passes : (n : ℕ) → next ≡ Some n → IsHit now hits n
-              next_passes n same = left_as (λ t. IsHit t hits n)
-                  (λ _. next_hits key_of compare s hits ix next is n same)
-                  (λ _. next_still key_of compare total s hits ix next is [] item live n same)
+              pub next_passes : (n : ℕ) → next ≡ Some n → IsHit now within n
+              next_passes n same = left_as (λ t. IsHit t within n)
+                  (λ _. next_hits itself compare s within ix next is n same)
+                  (λ _. next_still itself compare total s within ix next is [] item live n same)
 
               pub live_then : (j : ℕ) (x : T) → get now j ≡ Some x → get s j ≡ Some x
               live_then j x = left_as (λ t. get t j ≡ Some x → get s j ≡ Some x)
@@ -295,7 +293,7 @@ module _
 
 -- a closure that may be called from an index on
 module _
-    {F T K : Type 0} (key_of : T → K) (compare : K → K → Ordering) (within : K → Bool) (takes : F → T → Type 0)
+    {F T : Type 0} (compare : T → T → Ordering) (within : T → Bool) (takes : F → T → Type 0)
     (ask : F → T → Bool → F → Type 0)
   where
     AsksFrom-by :
@@ -304,7 +302,7 @@ module _
         → ((p : F) (ix : ℕ) (x : T) (b : Bool) (q : F) → get s ix ≡ Some x → I p → ask p x b q → I q)
         → (n : ℕ) (f : F) (at : Option ℕ)
         → I f
-        → AsksFrom key_of compare within takes ask s n f at
+        → AsksFrom compare within takes ask s n f at
     AsksFrom-by I s asks keeps zero f at i = tt
     AsksFrom-by I s asks keeps (suc n) f None i = tt
     AsksFrom-by I s asks keeps (suc n) f (Some ix) i = λ item live. (
@@ -319,13 +317,13 @@ module _
         → ((p : F) (ix : ℕ) (x : T) (b : Bool) (q : F) → get s ix ≡ Some x → I p → ask p x b q → I q)
         → (f : F)
         → I f
-        → AsksWithin key_of compare within takes ask f s
+        → AsksWithin compare within takes ask f s
     AsksWithin-by I s asks keeps f i = record { at = λ n first is. AsksFrom-by I s asks keeps n f first i }
 
     pub MayAskWithin-asks :
         (f : F) (s : Store T)
-        → MayAskWithin key_of compare within takes ask f s
-        → AsksWithin key_of compare within takes ask f s
+        → MayAskWithin compare within takes ask f s
+        → AsksWithin compare within takes ask f s
     MayAskWithin-asks f s may =
         may (λ asks.
         AsksWithin-by (λ p. Unit {0}) s (λ p ix x live i. asks p x) (λ p ix x b q live i called. tt) f tt)
@@ -333,47 +331,47 @@ module _
     -- the item at the index may be asked about
     pub takes-at :
         (s : Store T) (f : F) (at : Option ℕ) (ix : ℕ) (item : T)
-        → ((n : ℕ) → AsksFrom key_of compare within takes ask s n f at)
+        → ((n : ℕ) → AsksFrom compare within takes ask s n f at)
         → at ≡ Some ix
         → get s ix ≡ Some item
         → takes f item
     takes-at s f at ix item can is live =
-        ((subst (AsksFrom key_of compare within takes ask s 1 f) is (can 1)) item live).0
+        ((subst (AsksFrom compare within takes ask s 1 f) is (can 1)) item live).0
 
     module _ (total : IsTotalOrder compare) (s : Store T) (ix : ℕ) (was : T) (here : get s ix ≡ Some was) where
       -- what is behind an index is another one
-      behind_apart : (j : ℕ) → ComesBefore key_of compare s ix j → j ≢ ix
+      behind_apart : (j : ℕ) → ComesBefore itself compare s ix j → j ≢ ix
       behind_apart j behind same =
-          not_before_itself key_of compare total s ix (subst (ComesBefore key_of compare s ix) same behind)
+          not_before_itself itself compare total s ix (subst (ComesBefore itself compare s ix) same behind)
 
       -- the next hit behind what is behind a removed index was the next before
       next_before :
           (j : ℕ) (next : Option ℕ)
-          → ComesBefore key_of compare s ix j
-          → IsNextHit key_of compare (removed s ix) (passes_by key_of within) j next
-          → IsNextHit key_of compare s (passes_by key_of within) j next
+          → ComesBefore itself compare s ix j
+          → IsNextHit itself compare (removed s ix) within j next
+          → IsNextHit itself compare s within j next
       next_before j None behind is = λ i hit before.
-          let i_apart = behind_apart i ((totals key_of compare total s).trans ix j i behind before) in
+          let i_apart = behind_apart i ((totals itself compare total s).trans ix j i behind before) in
           is i (hit.0, get-removed_other s ix i i_apart ∙ hit.1, hit.2)
-          (before_still key_of compare s ix j i (behind_apart j behind) i_apart ∙ before)
+          (before_still itself compare s ix j i (behind_apart j behind) i_apart ∙ before)
       next_before j (Some k) behind is =
           let (item, live, passes) = is.0 in
           let (k_apart, there) = live_before s ix k was item here live in
           let j_apart = behind_apart j behind in (
             (item, there, passes),
-            sym (before_still key_of compare s ix j k j_apart k_apart) ∙ is.1,
+            sym (before_still itself compare s ix j k j_apart k_apart) ∙ is.1,
             λ i hit before other.
-                let i_apart = behind_apart i ((totals key_of compare total s).trans ix j i behind before) in
-                sym (before_still key_of compare s ix k i k_apart i_apart)
+                let i_apart = behind_apart i ((totals itself compare total s).trans ix j i behind before) in
+                sym (before_still itself compare s ix k i k_apart i_apart)
                 ∙ is.2 i (hit.0, get-removed_other s ix i i_apart ∙ hit.1, hit.2)
-                (before_still key_of compare s ix j i j_apart i_apart ∙ before) other,
+                (before_still itself compare s ix j i j_apart i_apart ∙ before) other,
           )
 
       AsksFrom-removed :
           (n : ℕ) (f : F) (at : Option ℕ)
-          → ((j : ℕ) → at ≡ Some j → ComesBefore key_of compare s ix j)
-          → AsksFrom key_of compare within takes ask s n f at
-          → AsksFrom key_of compare within takes ask (removed s ix) n f at
+          → ((j : ℕ) → at ≡ Some j → ComesBefore itself compare s ix j)
+          → AsksFrom compare within takes ask s n f at
+          → AsksFrom compare within takes ask (removed s ix) n f at
       AsksFrom-removed zero f at behind asks = tt
       AsksFrom-removed (suc n) f None behind asks = tt
       AsksFrom-removed (suc n) f (Some j) behind asks = λ item live.
@@ -383,53 +381,53 @@ module _
             λ b f' next called is.
                 let is_next = next_before j next j_behind is in
                 let later = λ (k : ℕ) (same : next ≡ Some k).
-                (totals key_of compare total s).trans ix j k j_behind
-                (subst (IsNextHit key_of compare s (passes_by key_of within) j) same is_next).1 in
+                (totals itself compare total s).trans ix j k j_behind
+                (subst (IsNextHit itself compare s within j) same is_next).1 in
                 AsksFrom-removed n f' next later ((asks item there).1 b f' next called is_next),
           )
 
       -- after the item at the index was asked about, and kept or removed by the answer
       pub AsksFrom-asked :
           (f after : F) (at next : Option ℕ) (now : Store T) (b : Bool)
-          → ((n : ℕ) → AsksFrom key_of compare within takes ask s n f at)
+          → ((n : ℕ) → AsksFrom compare within takes ask s n f at)
           → at ≡ Some ix
           → ask f was b after
-          → IsNextHit key_of compare s (passes_by key_of within) ix next
+          → IsNextHit itself compare s within ix next
           → (b ≡ true → now ≡ s)
           → (b ≡ false → now ≡ removed s ix)
           → (n : ℕ)
-          → AsksFrom key_of compare within takes ask now n after next
+          → AsksFrom compare within takes ask now n after next
       AsksFrom-asked f after at next now b can same asked is kept gone n =
-          let from : AsksFrom key_of compare within takes ask s (suc n) f (Some ix) =
-          subst (AsksFrom key_of compare within takes ask s (suc n) f) same (can (suc n)) in
+          let from : AsksFrom compare within takes ask s (suc n) f (Some ix) =
+          subst (AsksFrom compare within takes ask s (suc n) f) same (can (suc n)) in
           let rest = (from was here).1 b after next asked is in
-          elim b as (λ a. b ≡ a → AsksFrom key_of compare within takes ask now n after next) [
-            | true ↦ λ yes. subst (λ t. AsksFrom key_of compare within takes ask t n after next) (sym (kept yes)) rest
+          elim b as (λ a. b ≡ a → AsksFrom compare within takes ask now n after next) [
+            | true ↦ λ yes. subst (λ t. AsksFrom compare within takes ask t n after next) (sym (kept yes)) rest
             | false ↦ λ no.
                 let behind = λ (k : ℕ) (at_k : next ≡ Some k).
-                (subst (IsNextHit key_of compare s (passes_by key_of within) ix) at_k is).1 in
-                subst (λ t. AsksFrom key_of compare within takes ask t n after next) (sym (gone no))
+                (subst (IsNextHit itself compare s within ix) at_k is).1 in
+                subst (λ t. AsksFrom compare within takes ask t n after next) (sym (gone no))
                 (AsksFrom-removed n after next behind rest)
           ] refl
 
 -- between a query and itself are the keys at which it is Equal
-module _ {T K : Type 0} (key_of : T → K) (comparing : K → Ordering) (old new : Store T) where
+module _ {T : Type 0} (comparing : T → Ordering) (old new : Store T) where
   pub AsksWithin-group :
-      {F : Type 0} (compare : K → K → Ordering) (takes : F → T → Type 0) (ask : F → T → Bool → F → Type 0) (f : F)
-      → AsksWithin key_of compare (is_equal comparing) takes ask f old
-      → AsksWithin key_of compare (is_between (Included comparing) (Included comparing)) takes ask f old
+      {F : Type 0} (compare : T → T → Ordering) (takes : F → T → Type 0) (ask : F → T → Bool → F → Type 0) (f : F)
+      → AsksWithin compare (is_equal comparing) takes ask f old
+      → AsksWithin compare (is_between (Included comparing) (Included comparing)) takes ask f old
   AsksWithin-group compare takes ask f asks =
-      subst (λ within. AsksWithin key_of compare within takes ask f old) (sym (between_equal comparing)) asks
+      subst (λ within. AsksWithin compare within takes ask f old) (sym (between_equal comparing)) asks
 
   pub KeepsMisses-group :
-      KeepsMisses old (passes_by key_of (is_between (Included comparing) (Included comparing))) new
-      → KeepsMisses old (passes_by key_of (is_equal comparing)) new
+      KeepsMisses old (is_between (Included comparing) (Included comparing)) new
+      → KeepsMisses old (is_equal comparing) new
   KeepsMisses-group others =
-      subst (λ within. KeepsMisses old (passes_by key_of within) new) (between_equal comparing) others
+      subst (λ within. KeepsMisses old within new) (between_equal comparing) others
 
   pub RetainsWithin-group :
-      {F : Type 0} (compare : K → K → Ordering) (ask : F → T → Bool → F → Type 0) (f last : F)
-      → RetainsWithin key_of compare (is_between (Included comparing) (Included comparing)) ask f old new last
-      → RetainsWithin key_of compare (is_equal comparing) ask f old new last
+      {F : Type 0} (compare : T → T → Ordering) (ask : F → T → Bool → F → Type 0) (f last : F)
+      → RetainsWithin compare (is_between (Included comparing) (Included comparing)) ask f old new last
+      → RetainsWithin compare (is_equal comparing) ask f old new last
   RetainsWithin-group compare ask f last along =
-      subst (λ within. RetainsWithin key_of compare within ask f old new last) (between_equal comparing) along
+      subst (λ within. RetainsWithin compare within ask f old new last) (between_equal comparing) along

@@ -135,9 +135,8 @@ module _
         ]
 
     -- of a range or a group: items that pass stay under their indexes, and those within that fail are gone
-    module _ {K : Type 0} (key_of : T → K) (compare : K → K → Ordering) (within : K → Bool) (f : F) (old new : Store T)
-        (last : F) (i : I f) (retains : RetainsWithin key_of compare within ask f old new last) (ix : ℕ) (item : T)
-        (live : get old ix ≡ Some item)
+    module _ (order : T → T → Ordering) (within : T → Bool) (f : F) (old new : Store T) (last : F) (i : I f)
+        (retains : RetainsWithin order within ask f old new last) (ix : ℕ) (item : T) (live : get old ix ≡ Some item)
       where
         pub RetainsWithin-stays : test item ≡ true → get new ix ≡ Some item
         RetainsWithin-stays passes =
@@ -150,7 +149,7 @@ module _
             cc)
             ∙ live
 
-        pub RetainsWithin-gone : within (key_of item) ≡ true → test item ≡ false → get new ix ≡ None
+        pub RetainsWithin-gone : within item ≡ true → test item ≡ false → get new ix ≡ None
         RetainsWithin-gone inside fails =
             let listed = (retains.sorted.each ix).1 (item, live, inside) in
             let asked = subst (λ l. Contains l (ix, item)) (sym retains.each_once) (live_pair old retains.indexes ix item listed live) in

@@ -31,16 +31,16 @@ pub record Compacts {T : Type 0} (old new : MapState T) : Type 0 where
   pub store : new.store ≡ compacted old.store
   pub memory : new.memory ≡ old.memory
 
--- `alike x y` says that the items share a unique key, and `most n` is the most memory that the tables take for n
--- indexes. Below, a key is a unique one.
-module _ {T : Type 0} (alike : T → T → Bool) (most : ℕ → ℕ) where
+-- `alike x y` says that the items share a unique key, and `grown n` is the most memory by which the tables grow
+-- where an insert leaves n indexes. Below, a key is a unique one.
+module _ {T : Type 0} (alike : T → T → Bool) (grown : ℕ → ℕ) where
   -- An item that shares no key with another was stored at the next index.
   pub record InsertsAt (old : MapState T) (item : T) (ix : ℕ) (new : MapState T) : Type 0 where
     pub no_conflict : HasNoHit old.store (alike item)
     pub not_full : IsFull old.store → ⊥
     pub index : ix ≡ next_index old.store
     pub stored : new.store ≡ inserted old.store item
-    pub memory : MakesRoom most old new.memory
+    pub memory : MakesRoom grown old new.memory
 
   -- a refusal for fullness: the item comes back, it shares no key, there is no slot for it, and nothing changed
   pub record RefusesFull (old : MapState T) (item back : T) (new : MapState T) : Type 0 where
@@ -57,7 +57,7 @@ module _ {T : Type 0} (alike : T → T → Bool) (most : ℕ → ℕ) where
     pub not_full : IsFull old.store → ⊥
     pub no_room : room old ≡ 0
     pub store_stays : new.store ≡ old.store
-    pub memory : MakesRoom most old new.memory
+    pub memory : MakesRoom grown old new.memory
 
   -- `conflicts s item at` says that `at` reports the items that share a key with this one
   module _ {C : Type 0} (conflicts : Store T → T → C → Type 0) where
@@ -85,7 +85,7 @@ module _ {T : Type 0} (alike : T → T → Bool) (most : ℕ → ℕ) where
     pub items : given_back ≡ padded places (map (get old.store) conflicts)
     pub index : ix ≡ next_index (removed_all old.store conflicts)
     pub stored : new.store ≡ inserted (removed_all old.store conflicts) item
-    pub memory : MakesRoom most old new.memory
+    pub memory : MakesRoom grown old new.memory
     pub same_memory : (HasNoHit old.store (alike item) → ⊥) → new.memory ≡ old.memory
 
   -- `may_need_memory` says that an insert after a removal may need memory, if there are more items than the capacity

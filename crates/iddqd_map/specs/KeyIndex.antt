@@ -21,14 +21,14 @@ module _ {S T : Type 0} where
   abbrev pub IsPlannedForOne : (S → Store T → T → Type 0) → Type 0
   IsPlannedForOne planned = (state : S) × ((s : Store T) × ((item : T) × planned state s item))
 
-  -- If the plan was made for an item that shares no key with those stored, and `known` is what is known of its keys,
-  -- the store with that item inserted is indexed.
+  -- If the plan was made for an item that shares no key with those stored, and these are the hashes of its keys, the
+  -- store with that item inserted is indexed.
   abbrev pub IndexesOneMore :
       {K P : Type 0} → (T → T → Bool) → (S → T → K → Type 0) → K → (S → Store T → T → P → Type 0) → P
       → (S → Store T → Type 0) → ℕ → (S → Store T → Type 0) → Type 0
-  IndexesOneMore alike is_known known is_planned plan old ix new =
+  IndexesOneMore alike are_hashes hashes is_planned plan old ix new =
       (state : S) (s : Store T) (item : T) → old state s → IsValid s → (IsFull s → ⊥) → ix ≡ next_index s
-      → HasNoHit s (alike item) → is_known state item known → is_planned state s item plan
+      → HasNoHit s (alike item) → are_hashes state item hashes → is_planned state s item plan
       → new state (inserted s item)
 
   -- there is a store that it indexes, and the remap is that of the store
@@ -55,12 +55,12 @@ module _ {S T : Type 0} where
     pub indexed : indexes state s
 
 module _ {T : Type 0} where
-  -- `Ok`: the position for an item that shares no key with another; `Err`: the items with which it shares a key
-  abbrev pub FindsSpot :
+  -- `Ok`: the place for an item that shares no key with another; `Err`: the items with which it shares a key
+  abbrev pub FindsPlace :
       {P C : Type 0} → (T → T → Bool) → (Store T → T → P → Type 0) → (Store T → T → C → Type 0) → Store T → T
       → Result P C → Type 0
-  FindsSpot alike is_spot conflicts s item (Ok spot) = HasNoHit s (alike item) × is_spot s item spot
-  FindsSpot alike is_spot conflicts s item (Err at) = conflicts s item at
+  FindsPlace alike is_place conflicts s item (Ok place) = HasNoHit s (alike item) × is_place s item place
+  FindsPlace alike is_place conflicts s item (Err at) = conflicts s item at
 
   -- `Ok`: how a live index must move if its item is replaced, which it must unless all keys stay; `Err`: the other
   -- items that share a key with the new one.

@@ -10,15 +10,15 @@ use Rattle.iddqd_map.specs.declared.refusal.OverwriteRefusal.{OverwriteRefusal}
 use Rattle.iddqd_map.specs.declared.refusal.OverwriteRefusal.TheVariants.{Full, Memory}
 use Rattle.iddqd_map.specs.declared.refusal.ReplaceRefusal.{ReplaceRefusal}
 
-module _ {T : Type 0} (alike : T → T → Bool) (most : ℕ → ℕ) where
+module _ {T : Type 0} (alike : T → T → Bool) (grown : ℕ → ℕ) where
   -- If an item had the key, the new one replaced it, it comes back, and no memory was taken. Otherwise the new one was
   -- inserted or refused.
   abbrev pub OverwritesOne : MapState T → T → Result (ℕ × Option T) (OverwriteRefusal T) → MapState T → Type 0
   OverwritesOne old item (Ok (ix, Some was)) new =
       IsOnly old.store (alike item) ix was × (new.store ≡ rebound old.store ix item) × (new.memory ≡ old.memory)
-  OverwritesOne old item (Ok (ix, None)) new = InsertsAt alike most old item ix new
-  OverwritesOne old item (Err (Full back)) new = RefusesFull alike most old item back new
-  OverwritesOne old item (Err (Memory back)) new = RefusesMemory alike most old item back new
+  OverwritesOne old item (Ok (ix, None)) new = InsertsAt alike grown old item ix new
+  OverwritesOne old item (Err (Full back)) new = RefusesFull alike grown old item back new
+  OverwritesOne old item (Err (Memory back)) new = RefusesMemory alike grown old item back new
 
 -- the item at the reported index has the key of this one, and no other has
 abbrev pub IsReported : {T : Type 0} → (T → T → Bool) → Store T → T → ℕ → Type 0

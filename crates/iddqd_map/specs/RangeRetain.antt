@@ -4,7 +4,8 @@ use Rattle.std.specs.List.{Contains, FoldsTo}
 use Rattle.std.specs.declared.cmp.Ordering.{Ordering}
 use Rattle.iddqd.specs.Store.{Store, get}
 use Rattle.iddqd_keys.specs.KeyWalk.{IsFirstHit, IsNextHit, SortsWithin, pairs_at}
-use Rattle.iddqd_keys.specs.Scan.{IsHit, passes_by}
+use Rattle.iddqd_keys.specs.Scan.{IsHit}
+use Rattle.iddqd_map.specs.Ranges.{itself}
 use Rattle.iddqd_map.specs.Retain.{removed_of}
 use Rattle.iddqd_keys.specs.Removals.{removed_all}
 
@@ -14,10 +15,10 @@ KeepsMisses old test new = (ix : ℕ) → (IsHit old test ix → ⊥) → get ne
 
 -- `takes p x` says that the closure in the state p may be called on x, and `ask p x b q` that it may then answer b and
 -- be in the state q
-module _ {F T K : Type 0} (key_of : T → K) (compare : K → K → Ordering) (within : K → Bool)
+module _ {F T : Type 0} (order : T → T → Ordering) (within : T → Bool)
     (takes : F → T → Type 0) (ask : F → T → Bool → F → Type 0) where
-  -- The closure may be called on the item at this index, then on the next item whose key is within, and so on, on so
-  -- many items at most, whatever it answers. Behind the last, it may not be called again.
+  -- The closure may be called on the item at this index, then on the next item within, and so on, on so many items at
+  -- most, whatever it answers. Behind the last, it may not be called again.
   abbrev pub AsksFrom : Store T → ℕ → F → Option ℕ → Type 0
   AsksFrom s zero f at = Unit {0}
   AsksFrom s (suc n) f None = Unit {0}
@@ -25,26 +26,25 @@ module _ {F T K : Type 0} (key_of : T → K) (compare : K → K → Ordering) (w
       (item : T) → get s ix ≡ Some item
       → takes f item
       × ((b : Bool) (f' : F) (next : Option ℕ) → ask f item b f'
-      → IsNextHit key_of compare s (passes_by key_of within) ix next → AsksFrom s n f' next)
+      → IsNextHit itself order s within ix next → AsksFrom s n f' next)
 
-  -- it may be called so on each item whose key is within, from the first on
+  -- it may be called so on each item within, from the first on
   pub record AsksWithin (f : F) (s : Store T) : Type 0 where
     pub at : (n : ℕ) (first : Option ℕ)
-        → IsFirstHit key_of compare s (passes_by key_of within) first → AsksFrom s n f first
+        → IsFirstHit itself order s within first → AsksFrom s n f first
 
   -- equivalent to `AsksWithin`, and in the form of `MayAsk` for the same reason
   abbrev pub MayAskWithin : F → Store T → Type 0
   MayAskWithin f s = (((p : F) (x : T) → takes p x) → AsksWithin f s) → AsksWithin f s
 
 -- `ask p x b q` says that the closure in the state p may answer b at x, and is then in the state q
-module _ {F T K : Type 0} (key_of : T → K) (compare : K → K → Ordering) (within : K → Bool)
-    (ask : F → T → Bool → F → Type 0) where
-  -- f was called once at each item whose key is within, by key and then by index, each time in the state that the call
+module _ {F T : Type 0} (order : T → T → Ordering) (within : T → Bool) (ask : F → T → Bool → F → Type 0) where
+  -- f was called once at each item within, in order and then by index, each time in the state that the call
   -- before left; `last` is the state after the last call. The items at which it answered false were removed, in the
   -- order of the calls. All others stay under their indexes.
   pub record RetainsWithin (f : F) (old new : Store T) (last : F) : Type 0 where
     pub indexes : List ℕ
-    pub sorted : SortsWithin key_of compare within old indexes
+    pub sorted : SortsWithin itself order within old indexes
     pub asks : List ((ℕ × T) × Bool)
     pub each_once : map (λ a. a.0) asks ≡ pairs_at old indexes
     pub were_asked : FoldsTo (λ p a q. ask p a.0.1 a.1 q) f asks last

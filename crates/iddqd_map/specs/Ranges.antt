@@ -9,6 +9,10 @@ use Rattle.iddqd_keys.specs.Scan.{IsHit}
 use Rattle.iddqd_map.specs.Retain.{MayAsk}
 use Rattle.iddqd_keys.specs.Removals.{removed_all}
 
+-- an item in place of its key: items themselves are compared
+abbrev pub itself : {T : Type 0} → T → T
+itself item = item
+
 module _ {T : Type 0} where
   -- the items that pass were removed, and all others stay under their indexes
   pub record LeavesOthers (old : Store T) (test : T → Bool) (new : Store T) : Type 0 where
@@ -27,12 +31,11 @@ abbrev pub MayGive : {F T : Type 0} → Mut F (T × Unit {0}) (Unit {0}) → F �
 MayGive g f items = MayAsk (TakesItem g) (λ p x (b : Bool) q. GivesItem g p x q) f items
 
 -- `give p x q` says that a call of f with x in the state p may leave the state q
-module _ {F T K : Type 0} (key_of : T → K) (compare : K → K → Ordering) (within : K → Bool)
-    (give : F → T → F → Type 0) where
-  -- The items whose keys are within were removed, and f was called with each, by key and then by index, each time in
-  -- the state that the call before left.
+module _ {F T : Type 0} (order : T → T → Ordering) (within : T → Bool) (give : F → T → F → Type 0) where
+  -- The items within were removed, and f was called with each, in order and then by index, each time in the state that
+  -- the call before left.
   pub record RemovesAlong (f : F) (old new : Store T) (last : F) : Type 0 where
     pub indexes : List ℕ
-    pub sorted : SortsWithin key_of compare within old indexes
+    pub sorted : SortsWithin itself order within old indexes
     pub given : FoldsTo (λ p a q. give p a.1 q) f (pairs_at old indexes) last
     pub left : new ≡ removed_all old indexes

@@ -17,10 +17,7 @@ ghost use Rattle.iddqd_map.specs.Indexing.{Indexes};
 use crate::hashed_plan::plan_move;
 use crate::hashed_query::{find_item, find_under, take_by};
 use crate::hashed_steps;
-use crate::key_index::{
-    Checks, FindsSame, FindsWithHashAt, HashedAt, Here, Inserts, KeyIndex, Moves, Removes, Sizes,
-    TakesAt,
-};
+use crate::key_index::{FindsSame, Here, KeyIndex, UniqueAt};
 use iddqd::index_remap::IndexRemap;
 use iddqd::internal::{ValidateCompact, ValidateRefusal, ValidationError};
 use iddqd::item_index::ItemIndex;
@@ -55,8 +52,8 @@ where
     S: BuildHasher,
 {
     ghost use Rattle.std.proofs.Common.{refl};
-    ghost use Rattle.std.specs.Prelude.{◌≢◌, Some, false};
-    ghost use Rattle.iddqd_hash.specs.HashTable.{capacity, memory};
+    ghost use Rattle.std.specs.Prelude.{◌≢◌, Some, false, ◌≤◌};
+    ghost use Rattle.iddqd_hash.specs.HashTable.{capacity, memory, room};
     ghost use Rattle.iddqd_hash.specs.OpenTableSizes.{least_cells};
     ghost use Rattle.iddqd_hash.proofs.LeastCellsLemmas.{least_cells-grows};
     ghost use Rattle.iddqd_hash.specs.Sizes.{most_cells};
@@ -64,10 +61,22 @@ where
     ghost use Rattle.iddqd_map.specs.Map.{shares};
     ghost use Rattle.iddqd_map.specs.HashLaws.{shares_laws, Indexes-kept, Indexes-key_kept, Indexes-keys_shared};
     ghost use Rattle.iddqd_map.specs.OneKeyLaws.{reported_one, few_one};
+    ghost use Rattle.iddqd_map.specs.Hashed.{moves};
+    ghost use Rattle.iddqd_map.specs.Indexing.{Plans};
 
     type Conflict = ItemIndex;
 
     type KnownHashes = Option<MapHash>;
+
+    type Hashes = MapHash;
+
+    type Place = ();
+
+    type InsertPlan = ();
+
+    type MovePlan = Move;
+
+    type Spare = ();
 
     ghost Keys = { K };
 
@@ -85,6 +94,8 @@ where
     ghost cells = { λ x. memory x.table };
 
     ghost most = { most_cells };
+
+    ghost grown = { most_cells };
 
     ghost kept = { λ slots count. most_cells count };
 
@@ -127,17 +138,30 @@ where
 
     ghost few_reported = { few_one };
 
+    ghost are_hashes = { λ state item hash. hash ≡ (hashing_of K.eq K.hash_input S.BuildHasher
+        S.Hasher.Hasher state).hash_of (E.key_of item) };
+
+    ghost is_place = { λ x state s item place. Unit {0} };
+
+    ghost is_planned = { λ x state s item plan. Unit {0} };
+
+    ghost has_room_for = { λ x plan spare. 1 ≤ room x.table };
+
+    ghost does_after = { λ x spare. Unit {0} };
+
+    ghost same_plans = { λ x y state s item plan same is. is };
+
+    ghost is_move = { λ state s ix item plan. Plans E.key_of (hashing_of K.eq K.hash_input S.BuildHasher
+        S.Hasher.Hasher state) s ix item plan };
+
+    ghost moves = { moves };
+
+    ghost does_for = { λ x plan spare. Unit {0} };
+
     fn no_hashes() -> Option<MapHash> {
         None
     }
-}
 
-impl<T, S, E, K> Sizes<T, S> for ByHash<E, K>
-where
-    E: KeyOf<T, Key = K>,
-    K: Eq + Hash + Drop,
-    S: BuildHasher,
-{
     fn capacity(&self) -> usize {
         self.table.capacity()
     }
@@ -170,37 +194,8 @@ where
     fn shrink_to(&mut self, items: &ItemSet<T>, state: &S, least: usize) -> Result<(), AllocError> {
         hashed_steps::shrink_to(&mut self.table, items, least)
     }
-}
 
-impl<T, S, E, K> Inserts<T, S> for ByHash<E, K>
-where
-    E: KeyOf<T, Key = K>,
-    K: Eq + Hash + Drop,
-    S: BuildHasher,
-{
-    ghost use Rattle.std.specs.Prelude.{◌≤◌};
-    ghost use Rattle.iddqd_hash.specs.HashTable.{room};
-
-    type Known = MapHash;
-
-    type Spot = ();
-
-    type Plan = ();
-
-    ghost is_known = { λ state item hash. hash ≡ (hashing_of K.eq K.hash_input S.BuildHasher
-        S.Hasher.Hasher state).hash_of (E.key_of item) };
-
-    ghost is_spot = { λ x state s item spot. Unit {0} };
-
-    ghost is_planned = { λ x state s item plan. Unit {0} };
-
-    ghost has_room_for = { λ x plan. 1 ≤ room x.table };
-
-    ghost is_ready_after = { λ x. Unit {0} };
-
-    ghost same_plans = { λ x y state s item plan same is. is };
-
-    fn known(state: &S, item: &T) -> MapHash {
+    fn hashes(state: &S, item: &T) -> MapHash {
         hash_of::<T, E, S>(state, item)
     }
 
@@ -208,23 +203,23 @@ where
         &self,
         items: &ItemSet<T>,
         state: &S,
-        known: MapHash,
+        hashes: MapHash,
         item: &T,
     ) -> Result<(), ItemIndex> {
-        match find_item::<T, E, S>(&self.table, items, state, known, item) {
+        match find_item::<T, E, S>(&self.table, items, state, hashes, item) {
             Some(at) => Err(at),
             None => Ok(()),
         }
     }
 
-    fn plan(&self, items: &ItemSet<T>, state: &S, spot: (), ix: ItemIndex, item: &T) {}
+    fn plan(&self, items: &ItemSet<T>, state: &S, place: (), ix: ItemIndex, item: &T) {}
 
     fn make_room(&mut self, items: &ItemSet<T>, state: &S, plan: &()) -> Result<(), AllocError> {
         hashed_steps::make_room(&mut self.table, items)
     }
 
-    fn insert(&mut self, known: MapHash, plan: &(), ix: ItemIndex) {
-        self.table.insert_prehashed_unchecked(known, ix);
+    fn insert(&mut self, hashes: MapHash, plan: &(), spare: (), ix: ItemIndex) {
+        self.table.insert_prehashed_unchecked(hashes, ix);
     }
 
     fn next_reported(conflict: &ItemIndex, before: Option<ItemIndex>) -> Option<ItemIndex> {
@@ -235,23 +230,12 @@ where
         }
     }
 
-    fn spot(&self, items: &ItemSet<T>, state: &S, known: MapHash, item: &T) {}
+    fn place(&self, items: &ItemSet<T>, state: &S, hashes: MapHash, item: &T) {}
 
-    fn ready_after(&mut self, items: &ItemSet<T>, state: &S) -> Result<(), AllocError> {
+    fn spare_after(&self, items: &ItemSet<T>, state: &S) -> Result<(), AllocError> {
         Ok(())
     }
 
-    fn give_way(&mut self, items: &ItemSet<T>, state: &S, ix: ItemIndex) {
-        hashed_steps::take_out::<T, E, S>(&mut self.table, items, state, ix);
-    }
-}
-
-impl<T, S, E, K> Removes<T, S> for ByHash<E, K>
-where
-    E: KeyOf<T, Key = K>,
-    K: Eq + Hash + Drop,
-    S: BuildHasher,
-{
     fn remove(&mut self, items: &ItemSet<T>, state: &S, ix: ItemIndex) {
         hashed_steps::take_out::<T, E, S>(&mut self.table, items, state, ix);
     }
@@ -263,25 +247,6 @@ where
     fn remap(&mut self, remap: &IndexRemap) {
         hashed_steps::remap::<T>(&mut self.table, remap);
     }
-}
-
-impl<T, S, E, K> Moves<T, S> for ByHash<E, K>
-where
-    E: KeyOf<T, Key = K>,
-    K: Eq + Hash + Drop,
-    S: BuildHasher,
-{
-    ghost use Rattle.iddqd_map.specs.Hashed.{moves};
-    ghost use Rattle.iddqd_map.specs.Indexing.{Plans};
-
-    type Move = Move;
-
-    ghost is_move = { λ state s ix item plan. Plans E.key_of (hashing_of K.eq K.hash_input S.BuildHasher
-        S.Hasher.Hasher state) s ix item plan };
-
-    ghost moves = { moves };
-
-    ghost is_ready = { λ x plan. Unit {0} };
 
     fn plan_move(
         &self,
@@ -293,7 +258,7 @@ where
         plan_move::<T, E, S>(&self.table, items, state, ix, item)
     }
 
-    fn ready_move(&mut self, items: &ItemSet<T>, state: &S, plan: &Move) -> Result<(), AllocError> {
+    fn spare_for(&self, items: &ItemSet<T>, state: &S, plan: &Move) -> Result<(), AllocError> {
         Ok(())
     }
 
@@ -301,21 +266,15 @@ where
         &mut self,
         items: &ItemSet<T>,
         state: &S,
-        asked: Option<MapHash>,
+        known: Option<MapHash>,
         plan: &Move,
+        spare: (),
         ix: ItemIndex,
         item: &T,
     ) {
-        hashed_steps::commit_move::<T, E, S>(&mut self.table, items, state, asked, plan, ix);
+        hashed_steps::commit_move::<T, E, S>(&mut self.table, items, state, known, plan, ix);
     }
-}
 
-impl<T, S, E, K> Checks<T, S> for ByHash<E, K>
-where
-    E: KeyOf<T, Key = K>,
-    K: Eq + Hash + Drop,
-    S: BuildHasher,
-{
     fn copied(&self) -> Result<ByHash<E, K>, AllocError> {
         Ok(ByHash {
             table: self.table.clone()?,
@@ -357,44 +316,16 @@ where
     }
 }
 
-impl<T, S, E, K> HashedAt<Here, T, S> for ByHash<E, K>
+impl<T, S, E, K, Q> UniqueAt<Here, Q, T, S> for ByHash<E, K>
 where
     E: KeyOf<T, Key = K>,
     K: Eq + Hash + Drop,
     S: BuildHasher,
+    Q: HashQuery<K>,
 {
-    type Key = K;
+    ghost stands_for = { λ query. passes_by E.key_of (Q.stands_for query) };
 
-    ghost key_at = { E.key_of };
-
-    fn find<Q: HashQuery<K>>(&self, items: &ItemSet<T>, state: &S, query: Q) -> Option<ItemIndex> {
-        find_under::<T, E, S, Q>(&self.table, items, state, query_hash(state, query), query)
-    }
-}
-
-impl<T, S, E, K> TakesAt<Here, T, S> for ByHash<E, K>
-where
-    E: KeyOf<T, Key = K>,
-    K: Eq + Hash + Drop,
-    S: BuildHasher,
-{
-    fn take<Q: HashQuery<K>>(
-        &mut self,
-        items: &ItemSet<T>,
-        state: &S,
-        query: Q,
-    ) -> Option<ItemIndex> {
-        take_by::<T, E, S, Q>(&mut self.table, items, state, query)
-    }
-}
-
-impl<T, S, E, K> FindsWithHashAt<Here, T, S> for ByHash<E, K>
-where
-    E: KeyOf<T, Key = K>,
-    K: Eq + Hash + Drop,
-    S: BuildHasher,
-{
-    fn find_with_hash<Q: HashQuery<K>>(
+    fn find(
         &self,
         items: &ItemSet<T>,
         state: &S,
@@ -403,5 +334,9 @@ where
         let hash = query_hash(state, query);
         let found = find_under::<T, E, S, Q>(&self.table, items, state, hash, query);
         (found, Some(hash))
+    }
+
+    fn take(&mut self, items: &ItemSet<T>, state: &S, query: Q) -> Option<ItemIndex> {
+        take_by::<T, E, S, Q>(&mut self.table, items, state, query)
     }
 }

@@ -4,26 +4,33 @@
 //! pair has two key indexes. A map is a store with a key index, so each call of a map is written once, however many
 //! keys its items have. A hasher's state belongs to the map, since several tables may share one.
 //!
-//! A call that takes memory does so before anything is written: `look_up`, `plan`, `make_room`, then `insert`;
-//! `plan_move`, `ready_move`, then `commit_move`. The plans in between are plain data: they borrow nothing, and own no
-//! memory.
+//! A call that takes memory does so before anything is written.
+//!
+//! - To insert: `look_up` finds the place for the item, or the items that share a key with it; `plan` adds what depends
+//!   on its index; `make_room` takes the memory; then `insert` can't fail.
+//! - To overwrite: `spare_after` takes the memory, if any is needed; `remove` removes the index of each item that shares
+//!   a key; then `place`, `plan` and `insert` can't fail.
+//! - To move: `plan_move` finds how the index must move, or the other items that share a key; `spare_for` takes the
+//!   memory, if any is needed; then `commit_move` can't fail.
+//!
+//! What is planned is plain data: it borrows nothing, and owns no memory. The memory that an ordered table needs for one
+//! index is a value of its own, the spare, which the insert or the move consumes. So no key index holds memory that
+//! waits for a call.
 ghost use Rattle.std.specs.Prelude.{◌≡◌, ◌≢◌, ◌≤◌, ◌+◌, ◌<◌, true, false, min, max, length, IsOk, IfOk, OnOk, OnErr, IfSome};
 ghost use Rattle.std.specs.Option.{option_map};
 ghost use Rattle.std.specs.Range.Bound.{bound_map};
 ghost use Rattle.iddqd.specs.{next_index, removed, rebound, sentinel, live_count, slot_count, IsValid, Allows, Validates};
 ghost use Rattle.iddqd_keys.specs.KeyWalk.{IsFirstHit, IsNextHit};
 ghost use Rattle.iddqd_keys.specs.OrderedQuery.{is_up_to, is_within};
-ghost use Rattle.iddqd_keys.specs.Scan.{AnswersScan, IsLive, HasNoHit, passes_by};
-ghost use Rattle.iddqd_map.specs.KeyIndex.{IndexesNone, IsNextOf, IsPlannedForOne, IndexesOneMore, IsRemapOfSome, IndexesCompacted, IndexesAllOf, IsNextReported, FindsSpot, FindsMove, TakesFound};
+ghost use Rattle.iddqd_keys.specs.Scan.{AnswersScan, IsLive, HasNoHit};
+ghost use Rattle.iddqd_map.specs.Ranges.{itself};
+ghost use Rattle.iddqd_map.specs.KeyIndex.{IndexesNone, IsNextOf, IsPlannedForOne, IndexesOneMore, IsRemapOfSome, IndexesCompacted, IndexesAllOf, IsNextReported, FindsPlace, FindsMove, TakesFound};
 
 use iddqd::index_remap::IndexRemap;
 use iddqd::internal::{ValidateCompact, ValidateRefusal, ValidationError};
 use iddqd::item_index::ItemIndex;
 use iddqd::item_set::ItemSet;
-use iddqd_keys::hash_query::HashQuery;
-use iddqd_keys::order_query::OrdQuery;
 use std::alloc::{AllocError, Global};
-use std::hash::Hash;
 use std::marker::PhantomData;
 use std::ops::Bound;
 
@@ -43,8 +50,18 @@ pub trait KeyIndex<T, S>: Sized + Drop {
 
     /// The items that an item is alike to: at least one.
     type Conflict: Copy;
+    /// The hashes of an item's keys.
+    type Hashes: Copy;
     /// Those hashes of a stored item's keys that a look-up has computed already.
     type KnownHashes: Copy;
+    /// The place for an item that is alike to none, before its index is known.
+    type Place: Drop;
+    /// The place for an item under its index.
+    type InsertPlan: Drop;
+    /// How a live index must move if its item is replaced.
+    type MovePlan: Drop;
+    /// Memory that was taken for one insert or one move.
+    type Spare: Drop;
 
     // The keys of an item.
     ghost Keys: { Type 0 };
@@ -67,6 +84,9 @@ pub trait KeyIndex<T, S>: Sized + Drop {
 
     // The most cells that it takes for a number of indexes.
     ghost most: { ℕ → ℕ };
+
+    // The most cells that an insert takes where there are so many indexes then.
+    ghost grown: { ℕ → ℕ };
 
     // The most cells that a shrink leaves, for a number of slots and a number of indexes.
     ghost kept: { ℕ → ℕ → ℕ };
@@ -91,49 +111,26 @@ pub trait KeyIndex<T, S>: Sized + Drop {
     // The conflict reports this index.
     ghost reports: { Self.Conflict → ℕ → Type 0 };
 
-    /// The value for no hash: no look-up computed one.
-    fn no_hashes() -> Self::KnownHashes;
+    ghost are_hashes: { S → T → Self.Hashes → Type 0 };
 
-    // If there are no slots and no indexes, a shrink leaves nothing.
-    ghost kept_none: { kept 0 0 ≡ 0 };
+    ghost is_place: { Self → S → Store T → T → Self.Place → Type 0 };
 
-    // More slots and more indexes need no fewer cells.
-    ghost needed_grows: { (slots more_slots count more : ℕ) → slots ≤ more_slots → count ≤ more
-        → needed slots count ≤ needed more_slots more };
+    ghost is_planned: { Self → S → Store T → T → Self.InsertPlan → Type 0 };
 
-    // `same` is reflexive. Of two key indexes that are the same, the second indexes each store that the first does.
-    ghost same_as_itself: { (x : Self) → same x x };
+    // With the spare there is room for the planned insert.
+    ghost has_room_for: { Self → Self.InsertPlan → Self.Spare → Type 0 };
 
-    ghost same_indexes: { (x y : Self) (state : S) (s : Store T) → same x y → indexes x state s → indexes y state s };
+    // The spare does for any insert that comes after a removal.
+    ghost does_after: { Self → Self.Spare → Type 0 };
 
-    // No two items are alike.
-    ghost apart: { (x : Self) (state : S) (s : Store T) → indexes x state s → AreApart alike s };
+    ghost is_move: { S → Store T → ℕ → T → Self.MovePlan → Type 0 };
 
-    // A key index still indexes its store after an item was modified and kept its keys, and it indexes any store whose
-    // items have the same keys.
-    ghost modified: { (x : Self) (state : S) (s : Store T) (ix : ℕ) (was item : T) → indexes x state s
-        → get s ix ≡ Some was → keys item ≡ keys was → indexes x state (rebound s ix item) };
+    // Some table has to move the index.
+    ghost moves: { Self.MovePlan → Bool };
 
-    ghost same_items: { (x : Self) (state : S) (s t : Store T) → HaveSameKeys same_keys s t → indexes x state s
-        → indexes x state t };
+    // The spare does for the planned move.
+    ghost does_for: { Self → Self.MovePlan → Self.Spare → Type 0 };
 
-    // To share all keys is an equivalence.
-    ghost equivalence: { IsEquivalence same_keys };
-
-    // A conflict reports the stored items that share a key with the item, and no others.
-    ghost reported: { (s : Store T) (item : T) (at : Self.Conflict) → conflicts s item at → (ix : ℕ)
-        → reports at ix ↔ IsHit s (alike item) ix };
-
-    // At least one is reported, and never more than there are keys.
-    ghost reported_some: { (s : Store T) (item : T) (at : Self.Conflict) → conflicts s item at
-        → (ix : ℕ) × reports at ix };
-
-    ghost few_reported: { (at : Self.Conflict) → (l : List ℕ) × (length l ≤ unique_keys)
-        × ((ix : ℕ) → reports at ix → Contains l ix) };
-}
-
-/// A key index whose memory can be reserved and given back.
-pub trait Sizes<T, S>: KeyIndex<T, S> {
     /// How many indexes it can hold without more memory.
     fn capacity(&self) -> usize
         ensures { result ≡ Self.capacity self.now };
@@ -185,88 +182,69 @@ pub trait Sizes<T, S>: KeyIndex<T, S> {
             Self.needed (max (slot_count items.now.store) kept) kept ≤ Self.cells self.new }
         ensures succeeds { Self.kept (max least (slot_count items.now.store))
             (max least (live_count items.now.store)) ≡ 0 → IsOk result };
-}
 
-/// A key index into which an item's index can be inserted.
-///
-/// To insert: `look_up` finds the position for the item, or the items that share a key with it; `plan` adds what
-/// depends on its index; `make_room` takes the memory; then `insert` can't fail. To overwrite: `ready_after` takes the
-/// memory, if any is needed; `give_way` removes the index of each item that shares a key; then `spot`, `plan` and
-/// `insert` can't fail.
-pub trait Inserts<T, S>: KeyIndex<T, S> {
-    ghost use Rattle.std.specs.Prelude.{ℕ};
-    ghost use Rattle.iddqd.specs.Store.{Store};
+    /// Hashes the keys of an item, each once.
+    fn hashes(state: &S, item: &T) -> Self::Hashes
+        ensures { are_hashes state.now item.now result };
 
-    /// What is computed from an item's keys, once: their hashes.
-    type Known: Copy;
-    /// The position for an item that is alike to none, before its index is known.
-    type Spot: Drop;
-    /// The position for an item under its index.
-    type Plan: Drop;
+    /// The value for no hash: no look-up computed one.
+    fn no_hashes() -> Self::KnownHashes;
 
-    ghost is_known: { S → T → Self.Known → Type 0 };
-
-    ghost is_spot: { Self → S → Store T → T → Self.Spot → Type 0 };
-
-    ghost is_planned: { Self → S → Store T → T → Self.Plan → Type 0 };
-
-    ghost has_room_for: { Self → Self.Plan → Type 0 };
-
-    // It is ready for an insert that comes after a removal.
-    ghost is_ready_after: { Self → Type 0 };
-
-    /// Computes it from an item's keys.
-    fn known(state: &S, item: &T) -> Self::Known
-        ensures { is_known state.now item.now result };
-
-    /// Finds the position for an item, or the items that it is alike to. It takes no memory.
+    /// Finds the place for an item, or the items that it is alike to. It takes no memory.
     fn look_up(
         &self,
         items: &ItemSet<T>,
         state: &S,
-        known: Self::Known,
+        hashes: Self::Hashes,
         item: &T,
-    ) -> Result<Self::Spot, Self::Conflict>
-        requires hashed { is_known state.now item.now known }
+    ) -> Result<Self::Place, Self::Conflict>
+        requires hashed { are_hashes state.now item.now hashes }
         requires indexed { Self.indexes self.now state.now items.now.store }
-        ensures { FindsSpot Self.alike (is_spot self.now state.now) Self.conflicts items.now.store item.now result };
+        ensures { FindsPlace Self.alike (is_place self.now state.now) Self.conflicts items.now.store item.now result };
 
-    /// The position for an item under the next index.
+    /// The place for an item under the next index.
     fn plan(
         &self,
         items: &ItemSet<T>,
         state: &S,
-        spot: Self::Spot,
+        place: Self::Place,
         ix: ItemIndex,
         item: &T,
-    ) -> Self::Plan
+    ) -> Self::InsertPlan
         requires valid { IsValid items.now.store }
         requires indexed { Self.indexes self.now state.now items.now.store }
-        requires spot { is_spot self.now state.now items.now.store item.now spot }
+        requires place { is_place self.now state.now items.now.store item.now place }
         requires next { ix ≡ next_index items.now.store }
         ensures { is_planned self.now state.now items.now.store item.now result };
 
-    /// Makes room for a planned insert. If there is room, it takes no memory.
+    /// Takes the memory of a planned insert, and returns what of it isn't in the tables yet. If there is room, it takes
+    /// none.
     fn make_room(
         &mut self,
         items: &ItemSet<T>,
         state: &S,
-        plan: &Self::Plan,
-    ) -> Result<(), AllocError>
+        plan: &Self::InsertPlan,
+    ) -> Result<Self::Spare, AllocError>
         requires indexed { Self.indexes self.old state.now items.now.store }
         ensures contents { Self.same self.old self.new }
-        ensures ready { OnOk result (has_room_for self.new plan.now) }
+        ensures ready { IfOk result (has_room_for self.new plan.now) }
         ensures had_room { live_count items.now.store < Self.capacity self.old → IsOk result × (self.new ≡ self.old) }
         ensures capacity_at_least { Self.capacity self.old ≤ Self.capacity self.new }
-        ensures few { Self.cells self.new ≤ Self.cells self.old + Self.most (live_count items.now.store + 1) };
+        ensures few { Self.cells self.new ≤ Self.cells self.old + grown (live_count items.now.store + 1) };
 
     /// Inserts an index as planned. It takes no memory.
-    fn insert(&mut self, known: Self::Known, plan: &Self::Plan, ix: ItemIndex)
-        requires room { has_room_for self.old plan.now }
+    fn insert(
+        &mut self,
+        hashes: Self::Hashes,
+        plan: &Self::InsertPlan,
+        spare: Self::Spare,
+        ix: ItemIndex,
+    )
+        requires room { has_room_for self.old plan.now spare }
         requires next { IsNextOf (Self.indexes self.old) ix }
         requires assigned { ix ≢ sentinel }
         requires planned { IsPlannedForOne (λ state s item. is_planned self.old state s item plan.now) }
-        ensures indexed { IndexesOneMore Self.alike is_known known (is_planned self.old) plan.now
+        ensures indexed { IndexesOneMore Self.alike are_hashes hashes (is_planned self.old) plan.now
             (Self.indexes self.old) ix (Self.indexes self.new) }
         ensures capacity { Self.capacity self.new ≡ Self.capacity self.old }
         ensures cells { Self.cells self.new ≡ Self.cells self.old };
@@ -275,46 +253,30 @@ pub trait Inserts<T, S>: KeyIndex<T, S> {
     fn next_reported(conflict: &Self::Conflict, before: Option<ItemIndex>) -> Option<ItemIndex>
         ensures { IsNextReported (Self.reports conflict.now) before result };
 
-    /// The position for an item that is alike to none.
-    fn spot(&self, items: &ItemSet<T>, state: &S, known: Self::Known, item: &T) -> Self::Spot
-        requires hashed { is_known state.now item.now known }
+    /// The place for an item that is alike to none.
+    fn place(&self, items: &ItemSet<T>, state: &S, hashes: Self::Hashes, item: &T) -> Self::Place
+        requires hashed { are_hashes state.now item.now hashes }
         requires indexed { Self.indexes self.now state.now items.now.store }
         requires apart { HasNoHit items.now.store (Self.alike item.now) }
-        ensures { is_spot self.now state.now items.now.store item.now result };
+        ensures { is_place self.now state.now items.now.store item.now result };
 
-    /// Makes ready for an insert that comes after a removal. Up to the capacity it takes no memory.
-    fn ready_after(&mut self, items: &ItemSet<T>, state: &S) -> Result<(), AllocError>
-        requires indexed { Self.indexes self.old state.now items.now.store }
-        ensures contents { Self.same self.old self.new }
-        ensures ready { OnOk result (is_ready_after self.new) }
+    /// Takes the memory for an insert that comes after a removal. Up to the capacity it takes none.
+    fn spare_after(&self, items: &ItemSet<T>, state: &S) -> Result<Self::Spare, AllocError>
+        requires indexed { Self.indexes self.now state.now items.now.store }
+        ensures does { IfOk result (does_after self.now) }
         ensures may_need_memory { OnErr result (Self.may_need_memory ≡ true) }
-        ensures past { OnErr result (Self.capacity self.old < live_count items.now.store) }
-        ensures capacity { Self.capacity self.new ≡ Self.capacity self.old }
-        ensures cells { Self.cells self.new ≡ Self.cells self.old };
+        ensures past { OnErr result (Self.capacity self.now < live_count items.now.store) };
 
-    /// Removes a live index, as `remove` does, so that there is room for the insert that follows.
-    fn give_way(&mut self, items: &ItemSet<T>, state: &S, ix: ItemIndex)
-        requires live { IsLive items.now.store ix }
-        requires indexed { Self.indexes self.old state.now items.now.store }
-        ensures indexed { Self.indexes self.new state.now (removed items.now.store ix) }
-        ensures capacity { Self.capacity self.new ≡ Self.capacity self.old }
-        ensures cells { Self.cells self.new ≡ Self.cells self.old }
-        ensures ready { is_ready_after self.old → is_ready_after self.new }
-        ensures roomy { (plan : Self.Plan) → is_ready_after self.old → has_room_for self.new plan };
-
-    ghost same_plans: { (x y : Self) (state : S) (s : Store T) (item : T) (plan : Self.Plan) → Self.same x y
-        → is_planned x state s item plan → is_planned y state s item plan };
-}
-
-/// A key index that removes an index or all of them, or replaces them by new ones. None of these takes memory.
-pub trait Removes<T, S>: KeyIndex<T, S> {
-    /// Removes a live index. It takes no memory.
+    /// Removes a live index. It takes no memory. What was taken for an insert after a removal still does for it.
     fn remove(&mut self, items: &ItemSet<T>, state: &S, ix: ItemIndex)
         requires live { IsLive items.now.store ix }
         requires indexed { Self.indexes self.old state.now items.now.store }
         ensures indexed { Self.indexes self.new state.now (removed items.now.store ix) }
         ensures capacity { Self.capacity self.new ≡ Self.capacity self.old }
-        ensures cells { Self.cells self.new ≡ Self.cells self.old };
+        ensures cells { Self.cells self.new ≡ Self.cells self.old }
+        ensures does { (spare : Self.Spare) → does_after self.old spare → does_after self.new spare }
+        ensures roomy { (plan : Self.InsertPlan) (spare : Self.Spare) → does_after self.old spare
+            → has_room_for self.new plan spare };
 
     /// Forgets every index, and keeps the memory.
     fn clear(&mut self)
@@ -328,25 +290,6 @@ pub trait Removes<T, S>: KeyIndex<T, S> {
         ensures indexed { IndexesCompacted (Self.indexes self.old) remap.now (Self.indexes self.new) }
         ensures capacity { Self.capacity self.new ≡ Self.capacity self.old }
         ensures cells { Self.cells self.new ≡ Self.cells self.old };
-}
-
-/// A key index that moves a live index when its item is replaced.
-///
-/// `plan_move` finds how the index must move, or the other items that share a key; `ready_move` takes the memory, if
-/// any is needed; then `commit_move` can't fail.
-pub trait Moves<T, S>: KeyIndex<T, S> {
-    ghost use Rattle.std.specs.Prelude.{ℕ, Bool};
-    ghost use Rattle.iddqd.specs.Store.{Store};
-
-    /// How a live index must move if its item is replaced.
-    type Move: Drop;
-
-    ghost is_move: { S → Store T → ℕ → T → Self.Move → Type 0 };
-
-    // Some table has to move the index.
-    ghost moves: { Self.Move → Bool };
-
-    ghost is_ready: { Self → Self.Move → Type 0 };
 
     /// How a live index must move if its item is replaced by this one; or the other items that share a key with it.
     fn plan_move(
@@ -355,52 +298,47 @@ pub trait Moves<T, S>: KeyIndex<T, S> {
         state: &S,
         ix: ItemIndex,
         item: &T,
-    ) -> Result<Self::Move, Self::Conflict>
+    ) -> Result<Self::MovePlan, Self::Conflict>
         requires live { IsLive items.now.store ix }
         requires indexed { Self.indexes self.now state.now items.now.store }
         ensures { FindsMove Self.alike Self.same_keys (is_move state.now) moves Self.taken items.now.store ix item.now
             result };
 
-    /// Makes ready for a move. Up to the capacity it takes no memory, nor if all keys stay.
-    fn ready_move(
-        &mut self,
+    /// Takes the memory of a planned move. Up to the capacity it takes none, nor if all keys stay.
+    fn spare_for(
+        &self,
         items: &ItemSet<T>,
         state: &S,
-        plan: &Self::Move,
-    ) -> Result<(), AllocError>
-        requires indexed { Self.indexes self.old state.now items.now.store }
-        ensures contents { Self.same self.old self.new }
-        ensures ready { OnOk result (is_ready self.new plan.now) }
+        plan: &Self::MovePlan,
+    ) -> Result<Self::Spare, AllocError>
+        requires indexed { Self.indexes self.now state.now items.now.store }
+        ensures does { IfOk result (does_for self.now plan.now) }
         ensures moves { OnErr result (moves plan.now ≡ true) }
         ensures may_need_memory { OnErr result (Self.may_need_memory ≡ true) }
-        ensures past { OnErr result (Self.capacity self.old < live_count items.now.store) }
-        ensures capacity { Self.capacity self.new ≡ Self.capacity self.old }
-        ensures cells { Self.cells self.new ≡ Self.cells self.old };
+        ensures past { OnErr result (Self.capacity self.now < live_count items.now.store) };
 
     /// Moves a live index as planned, while the store still has its old item. It takes no memory.
     ///
-    /// `asked` has the hashes of old keys that a look-up computed, so that they aren't computed again. If one of them
+    /// `known` has the hashes of old keys that a look-up computed, so that they aren't computed again. If one of them
     /// isn't the hash of the old key, its table is scanned.
     fn commit_move(
         &mut self,
         items: &ItemSet<T>,
         state: &S,
-        asked: Self::KnownHashes,
-        plan: &Self::Move,
+        known: Self::KnownHashes,
+        plan: &Self::MovePlan,
+        spare: Self::Spare,
         ix: ItemIndex,
         item: &T,
     )
         requires live { IsLive items.now.store ix }
         requires indexed { Self.indexes self.old state.now items.now.store }
         requires planned { is_move state.now items.now.store ix item.now plan.now }
-        requires ready { is_ready self.old plan.now }
+        requires does { does_for self.old plan.now spare }
         ensures indexed { Self.indexes self.new state.now (rebound items.now.store ix item.now) }
         ensures capacity { Self.capacity self.new ≡ Self.capacity self.old }
         ensures cells { Self.cells self.new ≡ Self.cells self.old };
-}
 
-/// A key index that can be copied and checked.
-pub trait Checks<T, S>: KeyIndex<T, S> {
     /// A copy that indexes the same stores, with at most as many cells.
     fn copied(&self) -> Result<Self, AllocError>
         ensures contents { IfOk result (λ copy. IndexesAllOf (Self.indexes self.now) (Self.indexes copy)) }
@@ -422,6 +360,47 @@ pub trait Checks<T, S>: KeyIndex<T, S> {
         requires allowed { Allows compactness (length items.now.store.free) }
         requires indexed { Self.indexes self.now state.now items.now.store }
         ensures { Validates (Allows compactness (length items.now.store.free)) result };
+
+    // If there are no slots and no indexes, a shrink leaves nothing.
+    ghost kept_none: { kept 0 0 ≡ 0 };
+
+    // More slots and more indexes need no fewer cells.
+    ghost needed_grows: { (slots more_slots count more : ℕ) → slots ≤ more_slots → count ≤ more
+        → needed slots count ≤ needed more_slots more };
+
+    // `same` is reflexive. Of two key indexes that are the same, the second indexes each store that the first does.
+    ghost same_as_itself: { (x : Self) → same x x };
+
+    ghost same_indexes: { (x y : Self) (state : S) (s : Store T) → same x y → indexes x state s → indexes y state s };
+
+    // No two items are alike.
+    ghost apart: { (x : Self) (state : S) (s : Store T) → indexes x state s → AreApart alike s };
+
+    // A key index still indexes its store after an item was modified and kept its keys, and it indexes any store whose
+    // items have the same keys.
+    ghost modified: { (x : Self) (state : S) (s : Store T) (ix : ℕ) (was item : T) → indexes x state s
+        → get s ix ≡ Some was → keys item ≡ keys was → indexes x state (rebound s ix item) };
+
+    ghost same_items: { (x : Self) (state : S) (s t : Store T) → HaveSameKeys same_keys s t → indexes x state s
+        → indexes x state t };
+
+    // To share all keys is an equivalence.
+    ghost equivalence: { IsEquivalence same_keys };
+
+    // A conflict reports the stored items that share a key with the item, and no others.
+    ghost reported: { (s : Store T) (item : T) (at : Self.Conflict) → conflicts s item at → (ix : ℕ)
+        → reports at ix ↔ IsHit s (alike item) ix };
+
+    // At least one is reported, and never more than there are keys.
+    ghost reported_some: { (s : Store T) (item : T) (at : Self.Conflict) → conflicts s item at
+        → (ix : ℕ) × reports at ix };
+
+    ghost few_reported: { (at : Self.Conflict) → (l : List ℕ) × (length l ≤ unique_keys)
+        × ((ix : ℕ) → reports at ix → Contains l ix) };
+
+    // What was planned by a key index is planned by one that is the same.
+    ghost same_plans: { (x y : Self) (state : S) (s : Store T) (item : T) (plan : Self.InsertPlan) → Self.same x y
+        → is_planned x state s item plan → is_planned y state s item plan };
 }
 
 /// A key index that finds the one item that shares all keys with another: its first key is unique.
@@ -459,51 +438,25 @@ pub enum Second {}
 /// The place of its third key.
 pub enum Third {}
 
-/// A key index with a unique key by its hash at the place `P`.
-pub trait HashedAt<P, T, S>: KeyIndex<T, S> {
-    ghost use Rattle.std.specs.Prelude.{Bool};
-
-    /// The key.
-    type Key: Eq + Hash + Drop;
-
-    ghost key_at: { T → Self.Key };
-
-    /// The index of the item that has the key for which the query stands.
-    fn find<Q: HashQuery<Self::Key>>(
-        &self,
-        items: &ItemSet<T>,
-        state: &S,
-        query: Q,
-    ) -> Option<ItemIndex>
-        requires indexed { Self.KeyIndex.indexes self.now state.now items.now.store }
-        ensures { AnswersScan items.now.store (passes_by key_at (Q.stands_for query)) result };
-}
-
-/// A key index that finds an item by the key at the place `P`, and removes its index in the same search.
-pub trait TakesAt<P, T, S>: HashedAt<P, T, S> {
-    /// Finds as `find` does, and removes the index, by one search by that key. It takes no memory.
-    fn take<Q: HashQuery<Self::Key>>(
-        &mut self,
-        items: &ItemSet<T>,
-        state: &S,
-        query: Q,
-    ) -> Option<ItemIndex>
-        requires indexed { Self.KeyIndex.indexes self.old state.now items.now.store }
-        ensures found { AnswersScan items.now.store (passes_by Self.HashedAt.key_at (Q.stands_for query)) result }
-        ensures taken { TakesFound (Self.KeyIndex.indexes self.new) state.now items.now.store result }
-        ensures capacity { Self.KeyIndex.capacity self.new ≡ Self.KeyIndex.capacity self.old }
-        ensures cells { Self.KeyIndex.cells self.new ≡ Self.KeyIndex.cells self.old };
-}
-
-/// A key index that finds an item by a query `Q`, and removes its index in the same search.
-pub trait TakesQuery<Q, T, S>: KeyIndex<T, S> {
+/// A key index with a unique key at the place `P`, found by queries `Q`.
+pub trait UniqueAt<P, Q, T, S>: KeyIndex<T, S> {
     ghost use Rattle.std.specs.Prelude.{Bool};
 
     // The query stands for the key of the item.
     ghost stands_for: { Q → T → Bool };
 
-    /// Finds the item that has the key, and removes its index, by one search. It takes no memory.
-    fn take_query(&mut self, items: &ItemSet<T>, state: &S, query: Q) -> Option<ItemIndex>
+    /// The index of the item that has the key for which the query stands, and the hashes that were computed for that.
+    fn find(
+        &self,
+        items: &ItemSet<T>,
+        state: &S,
+        query: Q,
+    ) -> (Option<ItemIndex>, Self::KnownHashes)
+        requires indexed { Self.KeyIndex.indexes self.now state.now items.now.store }
+        ensures { AnswersScan items.now.store (stands_for query) result.0 };
+
+    /// Finds as `find` does, and removes the index, by one search by that key. It takes no memory.
+    fn take(&mut self, items: &ItemSet<T>, state: &S, query: Q) -> Option<ItemIndex>
         requires indexed { Self.KeyIndex.indexes self.old state.now items.now.store }
         ensures found { AnswersScan items.now.store (stands_for query) result }
         ensures taken { TakesFound (Self.KeyIndex.indexes self.new) state.now items.now.store result }
@@ -511,38 +464,30 @@ pub trait TakesQuery<Q, T, S>: KeyIndex<T, S> {
         ensures cells { Self.KeyIndex.cells self.new ≡ Self.KeyIndex.cells self.old };
 }
 
-/// A key index whose look-up passes its hash on to the replacement of the item that it finds.
-pub trait FindsWithHashAt<P, T, S>: HashedAt<P, T, S> {
-    /// Finds as `find` does, and keeps what was computed for that.
-    fn find_with_hash<Q: HashQuery<Self::Key>>(
-        &self,
-        items: &ItemSet<T>,
-        state: &S,
-        query: Q,
-    ) -> (Option<ItemIndex>, Self::KnownHashes)
-        requires indexed { Self.KeyIndex.indexes self.now state.now items.now.store }
-        ensures { AnswersScan items.now.store (passes_by Self.HashedAt.key_at (Q.stands_for query)) result.0 };
-}
-
-/// A key index with a key by its order at the place `P`, unique or not.
+/// A key index with a key by its order at the place `P`, unique or not, and queries `Q` that fit that order.
 ///
 /// A call that goes along the order may remove items as it goes. So nothing is borrowed between two steps: a spot says
 /// where an index stands, and only `first_between` searches.
-pub trait OrderedAt<P, T, S>: KeyIndex<T, S> {
+pub trait OrderedAt<P, Q, T, S>: KeyIndex<T, S> {
     ghost use Rattle.std.specs.Prelude.{ℕ};
+    ghost use Rattle.std.specs.Cmp.{IsTotalOrder};
+    ghost use Rattle.std.specs.declared.cmp.Ordering.{Ordering};
+    ghost use Rattle.iddqd_keys.specs.OrderedQuery.{IsQuery};
 
-    /// The key.
-    type Key: Ord;
     /// Where an index stands in the order.
     type Spot: Drop;
 
-    ghost key_at: { T → Self.Key };
+    // How two items compare by that key.
+    ghost order: { T → T → Ordering };
+
+    // How the query compares with an item's key.
+    ghost compare: { Q → T → Ordering };
 
     // The index stands at the spot.
     ghost stands: { Self → Self.Spot → ℕ → Type 0 };
 
     /// The first index whose item has a key within the bounds, by key and then by index, with its spot.
-    fn first_between<Q: OrdQuery<Self::Key>>(
+    fn first_between(
         &self,
         items: &ItemSet<T>,
         state: &S,
@@ -550,14 +495,13 @@ pub trait OrderedAt<P, T, S>: KeyIndex<T, S> {
         upper: Bound<Q>,
     ) -> Option<(ItemIndex, Self::Spot)>
         requires indexed { Self.KeyIndex.indexes self.now state.now items.now.store }
-        ensures first { let within = is_within Q.compare lower upper in
-            IsFirstHit key_at Self.Key.cmp items.now.store (passes_by key_at within)
+        ensures first { IsFirstHit itself order items.now.store (is_within compare lower upper)
             (option_map (λ (r : ℕ × Self.Spot). r.0) result) }
         ensures stands { IfSome result (λ r. stands self.now r.1 r.0) };
 
     /// Moves the spot of a live index to the next one behind it, by key and then by index, and returns that index, if
     /// its item's key is within the bound.
-    fn next_between<Q: OrdQuery<Self::Key>>(
+    fn next_between(
         &self,
         items: &ItemSet<T>,
         state: &S,
@@ -568,12 +512,11 @@ pub trait OrderedAt<P, T, S>: KeyIndex<T, S> {
         requires live { IsLive items.now.store ix }
         requires indexed { Self.KeyIndex.indexes self.now state.now items.now.store }
         requires stands { stands self.now spot.old ix }
-        ensures next { IsNextHit key_at Self.Key.cmp items.now.store
-            (passes_by key_at (is_up_to (bound_map Q.compare upper))) ix result }
+        ensures next { IsNextHit itself order items.now.store (is_up_to (bound_map compare upper)) ix result }
         ensures stands { IfSome result (stands self.now spot.new) };
 
     /// Removes a live index, and moves its spot as `next_between` does. It takes no memory.
-    fn take_between<Q: OrdQuery<Self::Key>>(
+    fn take_between(
         &mut self,
         items: &ItemSet<T>,
         state: &S,
@@ -584,10 +527,14 @@ pub trait OrderedAt<P, T, S>: KeyIndex<T, S> {
         requires live { IsLive items.now.store ix }
         requires indexed { Self.KeyIndex.indexes self.old state.now items.now.store }
         requires stands { stands self.old spot.old ix }
-        ensures next { IsNextHit key_at Self.Key.cmp items.now.store
-            (passes_by key_at (is_up_to (bound_map Q.compare upper))) ix result }
+        ensures next { IsNextHit itself order items.now.store (is_up_to (bound_map compare upper)) ix result }
         ensures stands { IfSome result (stands self.new spot.new) }
         ensures indexed { Self.KeyIndex.indexes self.new state.now (removed items.now.store ix) }
         ensures capacity { Self.KeyIndex.capacity self.new ≡ Self.KeyIndex.capacity self.old }
         ensures cells { Self.KeyIndex.cells self.new ≡ Self.KeyIndex.cells self.old };
+
+    // The order is total, and each query fits it.
+    ghost total: { IsTotalOrder order };
+
+    ghost fits: { (query : Q) → IsQuery order (compare query) };
 }

@@ -32,7 +32,7 @@ mod steps;
 mod walks;
 mod whole;
 
-use crate::key_index::{KeyIndex, Sizes};
+use crate::key_index::KeyIndex;
 use iddqd::hash_builder::DefaultHashBuilder;
 use iddqd::item_index::ItemIndex;
 use iddqd::item_set::ItemSet;
@@ -73,7 +73,7 @@ pub struct Parts<'a, T, X, S> {
     pub state: &'a S,
 }
 
-impl<T, X: Sizes<T, DefaultHashBuilder>> Map<T, X, DefaultHashBuilder> {
+impl<T, X: KeyIndex<T, DefaultHashBuilder>> Map<T, X, DefaultHashBuilder> {
     /// An empty map with the default hasher, whose seed is fixed. It may grow to `u32::MAX` items, one for each index
     /// but `SENTINEL`. It takes no memory.
     pub fn new(alloc: Global) -> Map<T, X, DefaultHashBuilder>
@@ -92,7 +92,7 @@ impl<T, X: Sizes<T, DefaultHashBuilder>> Map<T, X, DefaultHashBuilder> {
     }
 }
 
-impl<T, X: Sizes<T, S>, S> Map<T, X, S> {
+impl<T, X: KeyIndex<T, S>, S> Map<T, X, S> {
     /// An empty map that may grow to `u32::MAX` items, one for each index but `SENTINEL`. It takes no memory.
     pub fn with_hasher(alloc: Global, state: S) -> Map<T, X, S>
         ensures { result ≡ empty_map u32.MAX }

@@ -5,22 +5,24 @@
 //! all of both. Pairs nest, so items can have any number of keys.
 //!
 //! Invariant: both key indexes index the same store, under the same state of the hasher.
-ghost use Rattle.std.specs.Prelude.{◌≡◌, Some};
+ghost use Rattle.std.specs.Prelude.{◌≡◌, ◌+◌, ℕ, min, Some, IfSome};
+ghost use Rattle.std.specs.Option.{option_map};
+ghost use Rattle.std.specs.Range.Bound.{bound_map};
+ghost use Rattle.iddqd.specs.{removed};
+ghost use Rattle.iddqd_keys.specs.KeyWalk.{IsFirstHit, IsNextHit};
+ghost use Rattle.iddqd_keys.specs.OrderedQuery.{is_up_to, is_within};
+ghost use Rattle.iddqd_keys.specs.Scan.{IsLive};
 ghost use Rattle.iddqd_map.specs.KeyIndex.{IsNextReported};
 ghost use Rattle.iddqd_map.specs.PairConflict.{IsReportedBy, first_of, second_of};
+ghost use Rattle.iddqd_map.specs.Ranges.{itself};
 
-use crate::key_index::{
-    Checks, FindsSame, FindsWithHashAt, HashedAt, Inserts, KeyIndex, Left, Moves, OrderedAt,
-    Removes, Right, Sizes, TakesAt,
-};
+use crate::key_index::{FindsSame, KeyIndex, Left, OrderedAt, Right, UniqueAt};
 use crate::pair_conflict::PairConflict;
 use crate::reported::lesser;
 use iddqd::index_remap::IndexRemap;
 use iddqd::internal::{ValidateCompact, ValidateRefusal, ValidationError};
 use iddqd::item_index::ItemIndex;
 use iddqd::item_set::ItemSet;
-use iddqd_keys::hash_query::HashQuery;
-use iddqd_keys::order_query::OrdQuery;
 use std::alloc::{AllocError, Global};
 use std::ops::Bound;
 
@@ -49,6 +51,16 @@ where
 
     type KnownHashes = (A::KnownHashes, B::KnownHashes);
 
+    type Hashes = (A::Hashes, B::Hashes);
+
+    type Place = (A::Place, B::Place);
+
+    type InsertPlan = (A::InsertPlan, B::InsertPlan);
+
+    type MovePlan = (A::MovePlan, B::MovePlan);
+
+    type Spare = (A::Spare, B::Spare);
+
     ghost Keys = { A.Keys × B.Keys };
 
     ghost keys = { λ item. (A.keys item, B.keys item) };
@@ -64,6 +76,8 @@ where
     ghost cells = { λ x. A.cells x.first + B.cells x.second };
 
     ghost most = { λ n. A.most n + B.most n };
+
+    ghost grown = { λ n. A.grown n + B.grown n };
 
     ghost kept = { λ slots count. A.kept slots count + B.kept slots count };
 
@@ -126,16 +140,34 @@ where
         B.unique_keys (few_by_one A.reports A.unique_keys A.few_reported (first_of at))
         (few_by_one B.reports B.unique_keys B.few_reported (second_of at)) };
 
+    ghost are_hashes = { λ state item hashes. A.are_hashes state item hashes.0 × B.are_hashes state item hashes.1 };
+
+    ghost is_place = { λ x state s item place. A.is_place x.first state s item place.0
+        × B.is_place x.second state s item place.1 };
+
+    ghost is_planned = { λ x state s item plan. A.is_planned x.first state s item plan.0
+        × B.is_planned x.second state s item plan.1 };
+
+    ghost has_room_for = { λ x plan spare. A.has_room_for x.first plan.0 spare.0
+        × B.has_room_for x.second plan.1 spare.1 };
+
+    ghost does_after = { λ x spare. A.does_after x.first spare.0 × B.does_after x.second spare.1 };
+
+    ghost same_plans = { λ x y state s item plan same is. (
+      A.same_plans x.first y.first state s item plan.0 same.0 is.0,
+      B.same_plans x.second y.second state s item plan.1 same.1 is.1,
+    ) };
+
+    ghost is_move = { λ state s ix item plan. A.is_move state s ix item plan.0 × B.is_move state s ix item plan.1 };
+
+    ghost moves = { λ plan. A.moves plan.0 || B.moves plan.1 };
+
+    ghost does_for = { λ x plan spare. A.does_for x.first plan.0 spare.0 × B.does_for x.second plan.1 spare.1 };
+
     fn no_hashes() -> (A::KnownHashes, B::KnownHashes) {
         (A::no_hashes(), B::no_hashes())
     }
-}
 
-impl<T, S, A, B> Sizes<T, S> for Pair<A, B>
-where
-    A: Sizes<T, S>,
-    B: Sizes<T, S>,
-{
     fn capacity(&self) -> usize {
         self.first.capacity().min(self.second.capacity())
     }
@@ -169,49 +201,20 @@ where
         let second = self.second.shrink_to(items, state, least);
         first.and(second)
     }
-}
 
-impl<T, S, A, B> Inserts<T, S> for Pair<A, B>
-where
-    A: Inserts<T, S>,
-    B: Inserts<T, S>,
-{
-    type Known = (A::Known, B::Known);
-
-    type Spot = (A::Spot, B::Spot);
-
-    type Plan = (A::Plan, B::Plan);
-
-    ghost is_known = { λ state item known. A.is_known state item known.0 × B.is_known state item known.1 };
-
-    ghost is_spot = { λ x state s item spot. A.is_spot x.first state s item spot.0
-        × B.is_spot x.second state s item spot.1 };
-
-    ghost is_planned = { λ x state s item plan. A.is_planned x.first state s item plan.0
-        × B.is_planned x.second state s item plan.1 };
-
-    ghost has_room_for = { λ x plan. A.has_room_for x.first plan.0 × B.has_room_for x.second plan.1 };
-
-    ghost is_ready_after = { λ x. A.is_ready_after x.first × B.is_ready_after x.second };
-
-    ghost same_plans = { λ x y state s item plan same is. (
-      A.same_plans x.first y.first state s item plan.0 same.0 is.0,
-      B.same_plans x.second y.second state s item plan.1 same.1 is.1,
-    ) };
-
-    fn known(state: &S, item: &T) -> (A::Known, B::Known) {
-        (A::known(state, item), B::known(state, item))
+    fn hashes(state: &S, item: &T) -> (A::Hashes, B::Hashes) {
+        (A::hashes(state, item), B::hashes(state, item))
     }
 
     fn look_up(
         &self,
         items: &ItemSet<T>,
         state: &S,
-        known: (A::Known, B::Known),
+        hashes: (A::Hashes, B::Hashes),
         item: &T,
-    ) -> Result<(A::Spot, B::Spot), PairConflict<A::Conflict, B::Conflict>> {
-        let first = self.first.look_up(items, state, known.0, item);
-        let second = self.second.look_up(items, state, known.1, item);
+    ) -> Result<(A::Place, B::Place), PairConflict<A::Conflict, B::Conflict>> {
+        let first = self.first.look_up(items, state, hashes.0, item);
+        let second = self.second.look_up(items, state, hashes.1, item);
         match first {
             Ok(first) => match second {
                 Ok(second) => Ok((first, second)),
@@ -225,11 +228,11 @@ where
         &self,
         items: &ItemSet<T>,
         state: &S,
-        spot: (A::Spot, B::Spot),
+        place: (A::Place, B::Place),
         ix: ItemIndex,
         item: &T,
-    ) -> (A::Plan, B::Plan) {
-        let (first, second) = spot;
+    ) -> (A::InsertPlan, B::InsertPlan) {
+        let (first, second) = place;
         (
             self.first.plan(items, state, first, ix, item),
             self.second.plan(items, state, second, ix, item),
@@ -240,15 +243,23 @@ where
         &mut self,
         items: &ItemSet<T>,
         state: &S,
-        plan: &(A::Plan, B::Plan),
-    ) -> Result<(), AllocError> {
-        self.first.make_room(items, state, &plan.0)?;
-        self.second.make_room(items, state, &plan.1)
+        plan: &(A::InsertPlan, B::InsertPlan),
+    ) -> Result<(A::Spare, B::Spare), AllocError> {
+        let first = self.first.make_room(items, state, &plan.0)?;
+        let second = self.second.make_room(items, state, &plan.1)?;
+        Ok((first, second))
     }
 
-    fn insert(&mut self, known: (A::Known, B::Known), plan: &(A::Plan, B::Plan), ix: ItemIndex) {
-        self.first.insert(known.0, &plan.0, ix);
-        self.second.insert(known.1, &plan.1, ix);
+    fn insert(
+        &mut self,
+        hashes: (A::Hashes, B::Hashes),
+        plan: &(A::InsertPlan, B::InsertPlan),
+        spare: (A::Spare, B::Spare),
+        ix: ItemIndex,
+    ) {
+        let (first, second) = spare;
+        self.first.insert(hashes.0, &plan.0, first, ix);
+        self.second.insert(hashes.1, &plan.1, second, ix);
     }
 
     fn next_reported(
@@ -260,35 +271,29 @@ where
         lesser(first, second)
     }
 
-    fn spot(
+    fn place(
         &self,
         items: &ItemSet<T>,
         state: &S,
-        known: (A::Known, B::Known),
+        hashes: (A::Hashes, B::Hashes),
         item: &T,
-    ) -> (A::Spot, B::Spot) {
+    ) -> (A::Place, B::Place) {
         (
-            self.first.spot(items, state, known.0, item),
-            self.second.spot(items, state, known.1, item),
+            self.first.place(items, state, hashes.0, item),
+            self.second.place(items, state, hashes.1, item),
         )
     }
 
-    fn ready_after(&mut self, items: &ItemSet<T>, state: &S) -> Result<(), AllocError> {
-        self.first.ready_after(items, state)?;
-        self.second.ready_after(items, state)
+    fn spare_after(
+        &self,
+        items: &ItemSet<T>,
+        state: &S,
+    ) -> Result<(A::Spare, B::Spare), AllocError> {
+        let first = self.first.spare_after(items, state)?;
+        let second = self.second.spare_after(items, state)?;
+        Ok((first, second))
     }
 
-    fn give_way(&mut self, items: &ItemSet<T>, state: &S, ix: ItemIndex) {
-        self.first.give_way(items, state, ix);
-        self.second.give_way(items, state, ix);
-    }
-}
-
-impl<T, S, A, B> Removes<T, S> for Pair<A, B>
-where
-    A: Removes<T, S>,
-    B: Removes<T, S>,
-{
     fn remove(&mut self, items: &ItemSet<T>, state: &S, ix: ItemIndex) {
         self.first.remove(items, state, ix);
         self.second.remove(items, state, ix);
@@ -303,22 +308,6 @@ where
         self.first.remap(remap);
         self.second.remap(remap);
     }
-}
-
-impl<T, S, A, B> Moves<T, S> for Pair<A, B>
-where
-    A: Moves<T, S>,
-    B: Moves<T, S>,
-{
-    ghost use Rattle.std.specs.Prelude.{◌||◌};
-
-    type Move = (A::Move, B::Move);
-
-    ghost is_move = { λ state s ix item plan. A.is_move state s ix item plan.0 × B.is_move state s ix item plan.1 };
-
-    ghost moves = { λ plan. A.moves plan.0 || B.moves plan.1 };
-
-    ghost is_ready = { λ x plan. A.is_ready x.first plan.0 × B.is_ready x.second plan.1 };
 
     fn plan_move(
         &self,
@@ -326,7 +315,7 @@ where
         state: &S,
         ix: ItemIndex,
         item: &T,
-    ) -> Result<(A::Move, B::Move), PairConflict<A::Conflict, B::Conflict>> {
+    ) -> Result<(A::MovePlan, B::MovePlan), PairConflict<A::Conflict, B::Conflict>> {
         let first = self.first.plan_move(items, state, ix, item);
         let second = self.second.plan_move(items, state, ix, item);
         match first {
@@ -338,37 +327,34 @@ where
         }
     }
 
-    fn ready_move(
-        &mut self,
+    fn spare_for(
+        &self,
         items: &ItemSet<T>,
         state: &S,
-        plan: &(A::Move, B::Move),
-    ) -> Result<(), AllocError> {
-        self.first.ready_move(items, state, &plan.0)?;
-        self.second.ready_move(items, state, &plan.1)
+        plan: &(A::MovePlan, B::MovePlan),
+    ) -> Result<(A::Spare, B::Spare), AllocError> {
+        let first = self.first.spare_for(items, state, &plan.0)?;
+        let second = self.second.spare_for(items, state, &plan.1)?;
+        Ok((first, second))
     }
 
     fn commit_move(
         &mut self,
         items: &ItemSet<T>,
         state: &S,
-        asked: (A::KnownHashes, B::KnownHashes),
-        plan: &(A::Move, B::Move),
+        known: (A::KnownHashes, B::KnownHashes),
+        plan: &(A::MovePlan, B::MovePlan),
+        spare: (A::Spare, B::Spare),
         ix: ItemIndex,
         item: &T,
     ) {
+        let (first, second) = spare;
         self.first
-            .commit_move(items, state, asked.0, &plan.0, ix, item);
+            .commit_move(items, state, known.0, &plan.0, first, ix, item);
         self.second
-            .commit_move(items, state, asked.1, &plan.1, ix, item);
+            .commit_move(items, state, known.1, &plan.1, second, ix, item);
     }
-}
 
-impl<T, S, A, B> Checks<T, S> for Pair<A, B>
-where
-    A: Checks<T, S>,
-    B: Checks<T, S>,
-{
     fn copied(&self) -> Result<Pair<A, B>, AllocError> {
         Ok(Pair {
             first: self.first.copied()?,
@@ -395,7 +381,7 @@ where
 impl<T, S, A, B> FindsSame<T, S> for Pair<A, B>
 where
     A: FindsSame<T, S>,
-    B: Checks<T, S>,
+    B: KeyIndex<T, S>,
 {
     ghost use Rattle.iddqd_map.specs.PairLaws.{alike_both};
 
@@ -423,7 +409,7 @@ fn first_with<A, B>(one: A, other: Option<B>) -> PairConflict<A, B>
 }
 
 // The next reported index past `before`; `None` if this key index reported nothing.
-fn next_of<T, S, X: Inserts<T, S>>(
+fn next_of<T, S, X: KeyIndex<T, S>>(
     conflict: Option<X::Conflict>,
     before: &Option<ItemIndex>,
 ) -> Option<ItemIndex>
@@ -433,199 +419,207 @@ fn next_of<T, S, X: Inserts<T, S>>(
     X::next_reported(&reported, *before)
 }
 
-impl<P, T, S, A, B> HashedAt<Left<P>, T, S> for Pair<A, B>
+impl<P, Q, T, S, A, B> UniqueAt<Left<P>, Q, T, S> for Pair<A, B>
 where
-    A: HashedAt<P, T, S>,
+    A: UniqueAt<P, Q, T, S>,
     B: KeyIndex<T, S>,
 {
-    type Key = A::Key;
+    ghost stands_for = { A.UniqueAt.stands_for };
 
-    ghost key_at = { A.HashedAt.key_at };
-
-    fn find<Q: HashQuery<A::Key>>(
+    fn find(
         &self,
         items: &ItemSet<T>,
         state: &S,
         query: Q,
-    ) -> Option<ItemIndex> {
-        self.first.find(items, state, query)
+    ) -> (Option<ItemIndex>, (A::KnownHashes, B::KnownHashes)) {
+        let (found, known) = self.first.find(items, state, query);
+        (found, (known, B::no_hashes()))
     }
-}
 
-impl<P, T, S, A, B> TakesAt<Left<P>, T, S> for Pair<A, B>
-where
-    A: TakesAt<P, T, S>,
-    B: Removes<T, S>,
-{
-    fn take<Q: HashQuery<A::Key>>(
-        &mut self,
-        items: &ItemSet<T>,
-        state: &S,
-        query: Q,
-    ) -> Option<ItemIndex> {
+    fn take(&mut self, items: &ItemSet<T>, state: &S, query: Q) -> Option<ItemIndex> {
         let ix = self.first.take(items, state, query)?;
         self.second.remove(items, state, ix);
         Some(ix)
     }
 }
 
-impl<P, T, S, A, B> FindsWithHashAt<Left<P>, T, S> for Pair<A, B>
+impl<P, Q, T, S, A, B> UniqueAt<Right<P>, Q, T, S> for Pair<A, B>
 where
-    A: FindsWithHashAt<P, T, S>,
-    B: KeyIndex<T, S>,
+    A: KeyIndex<T, S>,
+    B: UniqueAt<P, Q, T, S>,
 {
-    fn find_with_hash<Q: HashQuery<A::Key>>(
+    ghost stands_for = { B.UniqueAt.stands_for };
+
+    fn find(
         &self,
         items: &ItemSet<T>,
         state: &S,
         query: Q,
     ) -> (Option<ItemIndex>, (A::KnownHashes, B::KnownHashes)) {
-        let (found, asked) = self.first.find_with_hash(items, state, query);
-        (found, (asked, B::no_hashes()))
+        let (found, known) = self.second.find(items, state, query);
+        (found, (A::no_hashes(), known))
     }
-}
 
-impl<P, T, S, A, B> HashedAt<Right<P>, T, S> for Pair<A, B>
-where
-    A: KeyIndex<T, S>,
-    B: HashedAt<P, T, S>,
-{
-    type Key = B::Key;
-
-    ghost key_at = { B.HashedAt.key_at };
-
-    fn find<Q: HashQuery<B::Key>>(
-        &self,
-        items: &ItemSet<T>,
-        state: &S,
-        query: Q,
-    ) -> Option<ItemIndex> {
-        self.second.find(items, state, query)
-    }
-}
-
-impl<P, T, S, A, B> TakesAt<Right<P>, T, S> for Pair<A, B>
-where
-    A: Removes<T, S>,
-    B: TakesAt<P, T, S>,
-{
-    fn take<Q: HashQuery<B::Key>>(
-        &mut self,
-        items: &ItemSet<T>,
-        state: &S,
-        query: Q,
-    ) -> Option<ItemIndex> {
+    fn take(&mut self, items: &ItemSet<T>, state: &S, query: Q) -> Option<ItemIndex> {
         let ix = self.second.take(items, state, query)?;
         self.first.remove(items, state, ix);
         Some(ix)
     }
 }
 
-impl<P, T, S, A, B> FindsWithHashAt<Right<P>, T, S> for Pair<A, B>
+impl<P, Q, T, S, A, B> OrderedAt<Left<P>, Q, T, S> for Pair<A, B>
 where
-    A: KeyIndex<T, S>,
-    B: FindsWithHashAt<P, T, S>,
+    A: OrderedAt<P, Q, T, S>,
+    B: KeyIndex<T, S>,
 {
-    fn find_with_hash<Q: HashQuery<B::Key>>(
-        &self,
-        items: &ItemSet<T>,
-        state: &S,
-        query: Q,
-    ) -> (Option<ItemIndex>, (A::KnownHashes, B::KnownHashes)) {
-        let (found, asked) = self.second.find_with_hash(items, state, query);
-        (found, (A::no_hashes(), asked))
-    }
-}
-
-impl<P, T, S, A, B> OrderedAt<Left<P>, T, S> for Pair<A, B>
-where
-    A: OrderedAt<P, T, S>,
-    B: Removes<T, S>,
-{
-    type Key = A::Key;
-
     type Spot = A::Spot;
 
-    ghost key_at = { A.OrderedAt.key_at };
+    ghost order = { A.OrderedAt.order };
+
+    ghost compare = { A.OrderedAt.compare };
 
     ghost stands = { λ x spot ix. A.OrderedAt.stands x.first spot ix };
 
-    fn first_between<Q: OrdQuery<A::Key>>(
+    ghost total = { A.OrderedAt.total };
+
+    ghost fits = { A.OrderedAt.fits };
+
+    fn first_between(
         &self,
         items: &ItemSet<T>,
         state: &S,
         lower: Bound<Q>,
         upper: Bound<Q>,
-    ) -> Option<(ItemIndex, A::Spot)> {
+    ) -> Option<(ItemIndex, A::Spot)>
+        requires indexed { A.KeyIndex.indexes self.now.first state.now items.now.store
+            × B.KeyIndex.indexes self.now.second state.now items.now.store }
+        ensures first { IsFirstHit itself A.OrderedAt.order items.now.store (is_within A.OrderedAt.compare lower upper)
+            (option_map (λ (r : ℕ × A.Spot). r.0) result) }
+        ensures stands { IfSome result (λ r. A.OrderedAt.stands self.now.first r.1 r.0) }
+    {
         self.first.first_between(items, state, lower, upper)
     }
 
-    fn next_between<Q: OrdQuery<A::Key>>(
+    fn next_between(
         &self,
         items: &ItemSet<T>,
         state: &S,
         spot: &mut A::Spot,
         ix: ItemIndex,
         upper: Bound<Q>,
-    ) -> Option<ItemIndex> {
+    ) -> Option<ItemIndex>
+        requires live { IsLive items.now.store ix }
+        requires indexed { A.KeyIndex.indexes self.now.first state.now items.now.store
+            × B.KeyIndex.indexes self.now.second state.now items.now.store }
+        requires stands { A.OrderedAt.stands self.now.first spot.old ix }
+        ensures next { let within = is_up_to (bound_map A.OrderedAt.compare upper) in
+            IsNextHit itself A.OrderedAt.order items.now.store within ix result }
+        ensures stands { IfSome result (A.OrderedAt.stands self.now.first spot.new) }
+    {
         self.first.next_between(items, state, spot, ix, upper)
     }
 
-    fn take_between<Q: OrdQuery<A::Key>>(
+    fn take_between(
         &mut self,
         items: &ItemSet<T>,
         state: &S,
         spot: &mut A::Spot,
         ix: ItemIndex,
         upper: Bound<Q>,
-    ) -> Option<ItemIndex> {
+    ) -> Option<ItemIndex>
+        requires live { IsLive items.now.store ix }
+        requires indexed { A.KeyIndex.indexes self.old.first state.now items.now.store
+            × B.KeyIndex.indexes self.old.second state.now items.now.store }
+        requires stands { A.OrderedAt.stands self.old.first spot.old ix }
+        ensures next { let within = is_up_to (bound_map A.OrderedAt.compare upper) in
+            IsNextHit itself A.OrderedAt.order items.now.store within ix result }
+        ensures stands { IfSome result (A.OrderedAt.stands self.new.first spot.new) }
+        ensures indexed { A.KeyIndex.indexes self.new.first state.now (removed items.now.store ix)
+            × B.KeyIndex.indexes self.new.second state.now (removed items.now.store ix) }
+        ensures capacity { min (A.KeyIndex.capacity self.new.first) (B.KeyIndex.capacity self.new.second)
+            ≡ min (A.KeyIndex.capacity self.old.first) (B.KeyIndex.capacity self.old.second) }
+        ensures cells { A.KeyIndex.cells self.new.first + B.KeyIndex.cells self.new.second
+            ≡ A.KeyIndex.cells self.old.first + B.KeyIndex.cells self.old.second }
+    {
         self.second.remove(items, state, ix);
         self.first.take_between(items, state, spot, ix, upper)
     }
 }
 
-impl<P, T, S, A, B> OrderedAt<Right<P>, T, S> for Pair<A, B>
+impl<P, Q, T, S, A, B> OrderedAt<Right<P>, Q, T, S> for Pair<A, B>
 where
-    A: Removes<T, S>,
-    B: OrderedAt<P, T, S>,
+    A: KeyIndex<T, S>,
+    B: OrderedAt<P, Q, T, S>,
 {
-    type Key = B::Key;
-
     type Spot = B::Spot;
 
-    ghost key_at = { B.OrderedAt.key_at };
+    ghost order = { B.OrderedAt.order };
+
+    ghost compare = { B.OrderedAt.compare };
 
     ghost stands = { λ x spot ix. B.OrderedAt.stands x.second spot ix };
 
-    fn first_between<Q: OrdQuery<B::Key>>(
+    ghost total = { B.OrderedAt.total };
+
+    ghost fits = { B.OrderedAt.fits };
+
+    fn first_between(
         &self,
         items: &ItemSet<T>,
         state: &S,
         lower: Bound<Q>,
         upper: Bound<Q>,
-    ) -> Option<(ItemIndex, B::Spot)> {
+    ) -> Option<(ItemIndex, B::Spot)>
+        requires indexed { A.KeyIndex.indexes self.now.first state.now items.now.store
+            × B.KeyIndex.indexes self.now.second state.now items.now.store }
+        ensures first { IsFirstHit itself B.OrderedAt.order items.now.store (is_within B.OrderedAt.compare lower upper)
+            (option_map (λ (r : ℕ × B.Spot). r.0) result) }
+        ensures stands { IfSome result (λ r. B.OrderedAt.stands self.now.second r.1 r.0) }
+    {
         self.second.first_between(items, state, lower, upper)
     }
 
-    fn next_between<Q: OrdQuery<B::Key>>(
+    fn next_between(
         &self,
         items: &ItemSet<T>,
         state: &S,
         spot: &mut B::Spot,
         ix: ItemIndex,
         upper: Bound<Q>,
-    ) -> Option<ItemIndex> {
+    ) -> Option<ItemIndex>
+        requires live { IsLive items.now.store ix }
+        requires indexed { A.KeyIndex.indexes self.now.first state.now items.now.store
+            × B.KeyIndex.indexes self.now.second state.now items.now.store }
+        requires stands { B.OrderedAt.stands self.now.second spot.old ix }
+        ensures next { let within = is_up_to (bound_map B.OrderedAt.compare upper) in
+            IsNextHit itself B.OrderedAt.order items.now.store within ix result }
+        ensures stands { IfSome result (B.OrderedAt.stands self.now.second spot.new) }
+    {
         self.second.next_between(items, state, spot, ix, upper)
     }
 
-    fn take_between<Q: OrdQuery<B::Key>>(
+    fn take_between(
         &mut self,
         items: &ItemSet<T>,
         state: &S,
         spot: &mut B::Spot,
         ix: ItemIndex,
         upper: Bound<Q>,
-    ) -> Option<ItemIndex> {
+    ) -> Option<ItemIndex>
+        requires live { IsLive items.now.store ix }
+        requires indexed { A.KeyIndex.indexes self.old.first state.now items.now.store
+            × B.KeyIndex.indexes self.old.second state.now items.now.store }
+        requires stands { B.OrderedAt.stands self.old.second spot.old ix }
+        ensures next { let within = is_up_to (bound_map B.OrderedAt.compare upper) in
+            IsNextHit itself B.OrderedAt.order items.now.store within ix result }
+        ensures stands { IfSome result (B.OrderedAt.stands self.new.second spot.new) }
+        ensures indexed { A.KeyIndex.indexes self.new.first state.now (removed items.now.store ix)
+            × B.KeyIndex.indexes self.new.second state.now (removed items.now.store ix) }
+        ensures capacity { min (A.KeyIndex.capacity self.new.first) (B.KeyIndex.capacity self.new.second)
+            ≡ min (A.KeyIndex.capacity self.old.first) (B.KeyIndex.capacity self.old.second) }
+        ensures cells { A.KeyIndex.cells self.new.first + B.KeyIndex.cells self.new.second
+            ≡ A.KeyIndex.cells self.old.first + B.KeyIndex.cells self.old.second }
+    {
         self.first.remove(items, state, ix);
         self.second.take_between(items, state, spot, ix, upper)
     }

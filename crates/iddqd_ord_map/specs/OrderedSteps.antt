@@ -1,5 +1,5 @@
--- The memory of an index in the order of a key, and the blocks that wait in it.
-use Rattle.std.specs.Prelude.{◌*◌, ◌+◌, ◌-◌, ◌≤◌, ℕ, Bool, true, false, Option, Some, None}
+-- The memory of an index in the order of a key, and the blocks that an insert or a move needs.
+use Rattle.std.specs.Prelude.{◌*◌, ◌+◌, ◌-◌, ◌≤◌, ℕ, Bool, true, false}
 use Rattle.std.specs.declared.cmp.Ordering.{Ordering}
 use Rattle.iddqd.specs.Store.{Store}
 use Rattle.iddqd_order.specs.MapBTreeTable.{Order, capacity, needed_blocks, move_blocks}
@@ -19,28 +19,23 @@ reserved_for t = capacity t - 10
 abbrev pub most_cells : ℕ → ℕ
 most_cells indexes = 30 * needed_blocks (indexes + 10)
 
--- how many blocks wait for the next insert
-abbrev pub waiting : Option ℕ → ℕ
-waiting None = 0
-waiting (Some blocks) = blocks
-
 -- whether the index moves
 abbrev pub moves : Move → Bool
 moves Stays = false
 moves Moves = true
 
--- as many blocks wait as an insert at the gap needs, if the gap is one of the table's
-abbrev pub HasBlocksAt : Order → Option ℕ → Gap → Type 0
-HasBlocksAt t blocks gap = Fits t gap → gap_blocks t gap ≤ waiting blocks
+-- there are as many blocks as an insert at the gap needs, if the gap is one of the table's
+abbrev pub HasBlocksAt : Order → ℕ → Gap → Type 0
+HasBlocksAt t blocks gap = Fits t gap → gap_blocks t gap ≤ blocks
 
--- as many blocks wait as a move to any place needs, or an insert after a removal
-abbrev pub HasBlocksAnywhere : Order → Option ℕ → Type 0
-HasBlocksAnywhere t blocks = move_blocks t ≤ waiting blocks
+-- there are as many blocks as a move to any place needs, or an insert after a removal
+abbrev pub HasBlocksAnywhere : Order → ℕ → Type 0
+HasBlocksAnywhere t blocks = move_blocks t ≤ blocks
 
--- as many blocks wait as the move needs
-abbrev pub IsReadyFor : Order → Option ℕ → Move → Type 0
-IsReadyFor t blocks Stays = Unit {0}
-IsReadyFor t blocks Moves = HasBlocksAnywhere t blocks
+-- there are as many blocks as the move needs
+abbrev pub HasBlocksFor : Order → ℕ → Move → Type 0
+HasBlocksFor t blocks Stays = Unit {0}
+HasBlocksFor t blocks Moves = HasBlocksAnywhere t blocks
 
 module _ {T K : Type 0} (key_of : T → K) (compare : K → K → Ordering) where
   -- a live index that stays has an item with the key of this one

@@ -1,20 +1,30 @@
 //! A key index in the order of one key: the items' indexes in a sorted list, no two with equal keys.
 //!
-//! An insert goes where its look-up ended, so it compares no further key. `make_room` puts the blocks of memory that it
-//! needs into `blocks`; below the capacity it needs none.
+//! An insert goes where its look-up ended, so it compares no further key. `make_room` takes the blocks of memory that it
+//! needs; below the capacity it needs none.
 //!
 //! Invariants, given the store's items:
 //! 1. The list has exactly the live indexes, each once.
 //! 2. It is sorted by the keys of their items, and no two items have equal keys.
-ghost use Rattle.std.specs.Prelude.{◌≡◌};
+ghost use Rattle.std.specs.Prelude.{◌≡◌, ℕ, IfSome};
+ghost use Rattle.iddqd.specs.{removed};
 ghost use Rattle.iddqd_order.specs.{indexes_ahead, indexes_left};
+ghost use Rattle.iddqd_order.specs.Spot.{StandsAt};
+ghost use Rattle.iddqd_order.specs.declared.btree_table.spot.Spot.{Spot as SpotInTable};
 ghost use Rattle.iddqd_order.specs.MapBTreeTable.{order_of};
 ghost use Rattle.iddqd_ord_map.specs.ByOrder.{FindsGreatest, FindsLeast, LooksPlaceUp};
 ghost use Rattle.iddqd_ord_map.specs.OrderedIndexing.{Sorts};
 ghost use Rattle.iddqd_by_order.specs.Ordered.{is_equal, IsSortedScan};
 ghost use Rattle.iddqd_by_order.specs.OrderedWalk.{SortsWithin};
 ghost use Rattle.iddqd_keys.specs.Scan.{AnswersScan, IsLive, IsKeyAt, passes_by};
-ghost use Rattle.iddqd_keys.specs.OrderedQuery.{is_within};
+ghost use Rattle.iddqd_keys.specs.KeyWalk.{IsFirstHit, IsNextHit};
+ghost use Rattle.iddqd_keys.specs.OrderedQuery.{is_up_to, is_within};
+ghost use Rattle.iddqd_map.specs.Ranges.{itself};
+ghost use Rattle.iddqd_ord_map.specs.ItemOrder.{compare_by};
+ghost use Rattle.iddqd_ord_map.specs.OrderedSteps.{reserved_for};
+ghost use Rattle.std.specs.Option.{option_map};
+ghost use Rattle.std.specs.Ordering.{on};
+ghost use Rattle.std.specs.Range.Bound.{bound_map};
 
 use crate::ordered_move::{Move, plan_move};
 use crate::ordered_query::{find_by, first_by, iter_by, last_by, range_by, take_by};
@@ -27,9 +37,7 @@ use iddqd_by_order::ordered;
 use iddqd_by_order::ordered_next::{first_between, next_between, take_between};
 use iddqd_keys::key_of::{KeyOf, KeyQuery, key_at};
 use iddqd_keys::order_query::OrdQuery;
-use iddqd_map::key_index::{
-    Checks, FindsSame, Here, Inserts, KeyIndex, Moves, OrderedAt, Removes, Sizes, TakesQuery,
-};
+use iddqd_map::key_index::{FindsSame, Here, KeyIndex, OrderedAt, UniqueAt};
 use iddqd_order::btree_table::{Asking, Blocks, Gap, Iter, MapBTreeTable, Range, Spot};
 use std::alloc::{AllocError, Global};
 use std::cmp::Ordering;
@@ -40,8 +48,6 @@ use std::ops::Bound;
 #[derive(Drop)]
 pub struct ByOrder<E> {
     pub(crate) table: MapBTreeTable,
-    // The memory of the next insert, if it needs any.
-    blocks: Option<Blocks>,
     of: PhantomData<E>,
 }
 
@@ -141,18 +147,30 @@ where
     E::Key: Ord,
 {
     ghost use Rattle.std.proofs.Common.{refl};
-    ghost use Rattle.std.specs.Prelude.{◌≢◌, Some, true};
+    ghost use Rattle.std.specs.Prelude.{◌≢◌, Some, true, Ok};
     ghost use Rattle.std.specs.Ordering.{eq_by_cmp};
     ghost use Rattle.iddqd_order.specs.MapBTreeTable.{HasSameTree};
     ghost use Rattle.iddqd_map.specs.Map.{shares};
-    ghost use Rattle.iddqd_ord_map.specs.OrderedSteps.{reserved_for, most_cells};
+    ghost use Rattle.iddqd_ord_map.specs.OrderedSteps.{reserved_for, most_cells, HasBlocksAt, HasBlocksAnywhere, HasBlocksFor, moves};
     ghost use Rattle.iddqd_map.specs.OneKeyLaws.{reported_one, few_one};
-    ghost use Rattle.iddqd_ord_map.specs.ByOrderLaws.{Sorts-same_tree, Sorts-modified, Sorts-alike};
+    ghost use Rattle.iddqd_ord_map.specs.ByOrderLaws.{Sorts-same_tree, Sorts-modified, Sorts-alike, IsGapFor-same_tree};
     ghost use Rattle.iddqd_ord_map.specs.SortedScanLaws.{shares_equivalence};
+    ghost use Rattle.iddqd_ord_map.specs.ByOrder.{IsGapFor};
+    ghost use Rattle.iddqd_ord_map.specs.OrderedIndexing.{PlansOrConflicts};
 
     type Conflict = ItemIndex;
 
     type KnownHashes = ();
+
+    type Hashes = ();
+
+    type Place = Gap;
+
+    type InsertPlan = Gap;
+
+    type MovePlan = Move;
+
+    type Spare = Blocks;
 
     ghost Keys = { E.Key };
 
@@ -169,6 +187,8 @@ where
     ghost cells = { λ x. reserved_for x.table };
 
     ghost most = { most_cells };
+
+    ghost grown = { λ count. 0 };
 
     ghost kept = { λ slots count. most_cells count };
 
@@ -210,14 +230,27 @@ where
 
     ghost few_reported = { few_one };
 
-    fn no_hashes() {}
-}
+    ghost are_hashes = { λ state item known. Unit {0} };
 
-impl<T, S, E> Sizes<T, S> for ByOrder<E>
-where
-    E: KeyOf<T>,
-    E::Key: Ord,
-{
+    ghost is_place = { λ x state s item gap. IsGapFor E.key_of E.Key.cmp s x.table item gap };
+
+    ghost is_planned = { λ x state s item gap. IsGapFor E.key_of E.Key.cmp s x.table item gap };
+
+    ghost has_room_for = { λ x gap spare. HasBlocksAt x.table spare gap };
+
+    ghost does_after = { λ x spare. HasBlocksAnywhere x.table spare };
+
+    ghost same_plans = { λ x y state s item gap same is.
+        IsGapFor-same_tree E.key_of E.Key.cmp s x.table y.table item gap same is };
+
+    ghost is_move = { λ state s ix item plan. PlansOrConflicts E.key_of E.Key.cmp s ix item (Ok plan) };
+
+    ghost moves = { moves };
+
+    ghost does_for = { λ x plan spare. HasBlocksFor x.table spare plan };
+
+    fn no_hashes() {}
+
     fn capacity(&self) -> usize {
         ordered_steps::capacity(&self.table)
     }
@@ -225,7 +258,6 @@ where
     fn new(alloc: Global) -> ByOrder<E> {
         ByOrder {
             table: MapBTreeTable::new(alloc),
-            blocks: None,
             of: PhantomData,
         }
     }
@@ -233,7 +265,6 @@ where
     fn with_capacity(alloc: Global, wanted: usize) -> Result<ByOrder<E>, AllocError> {
         Ok(ByOrder {
             table: ordered_steps::with_capacity(alloc, wanted)?,
-            blocks: None,
             of: PhantomData,
         })
     }
@@ -248,62 +279,37 @@ where
     }
 
     fn shrink_to(&mut self, items: &ItemSet<T>, state: &S, least: usize) -> Result<(), AllocError> {
-        self.blocks = None;
         ordered_steps::shrink_to(&mut self.table, items, least);
         Ok(())
     }
-}
 
-impl<T, S, E> Inserts<T, S> for ByOrder<E>
-where
-    E: KeyOf<T>,
-    E::Key: Ord,
-{
-    ghost use Rattle.iddqd_ord_map.specs.ByOrder.{IsGapFor};
-    ghost use Rattle.iddqd_ord_map.specs.OrderedSteps.{HasBlocksAt, HasBlocksAnywhere};
-    ghost use Rattle.iddqd_ord_map.specs.ByOrderLaws.{IsGapFor-same_tree};
-
-    type Known = ();
-
-    type Spot = Gap;
-
-    type Plan = Gap;
-
-    ghost is_known = { λ state item known. Unit {0} };
-
-    ghost is_spot = { λ x state s item gap. IsGapFor E.key_of E.Key.cmp s x.table item gap };
-
-    ghost is_planned = { λ x state s item gap. IsGapFor E.key_of E.Key.cmp s x.table item gap };
-
-    ghost has_room_for = { λ x gap. HasBlocksAt x.table x.blocks gap };
-
-    ghost is_ready_after = { λ x. HasBlocksAnywhere x.table x.blocks };
-
-    ghost same_plans = { λ x y state s item gap same is.
-        IsGapFor-same_tree E.key_of E.Key.cmp s x.table y.table item gap same is };
-
-    fn known(state: &S, item: &T) {}
+    fn hashes(state: &S, item: &T) {}
 
     fn look_up(
         &self,
         items: &ItemSet<T>,
         state: &S,
-        known: (),
+        hashes: (),
         item: &T,
     ) -> Result<Gap, ItemIndex> {
         place_of::<T, E>(&self.table, items, item)
     }
 
-    fn plan(&self, items: &ItemSet<T>, state: &S, spot: Gap, ix: ItemIndex, item: &T) -> Gap {
+    fn plan(&self, items: &ItemSet<T>, state: &S, place: Gap, ix: ItemIndex, item: &T) -> Gap {
         spot
     }
 
-    fn make_room(&mut self, items: &ItemSet<T>, state: &S, plan: &Gap) -> Result<(), AllocError> {
-        ordered_steps::make_room(&self.table, &mut self.blocks, items, plan)
+    fn make_room(
+        &mut self,
+        items: &ItemSet<T>,
+        state: &S,
+        plan: &Gap,
+    ) -> Result<Blocks, AllocError> {
+        ordered_steps::make_room(&self.table, items, plan)
     }
 
-    fn insert(&mut self, known: (), plan: &Gap, ix: ItemIndex) {
-        ordered_steps::insert(&mut self.table, &mut self.blocks, plan, ix);
+    fn insert(&mut self, hashes: (), plan: &Gap, spare: Blocks, ix: ItemIndex) {
+        self.table.insert_in(plan, ix, spare);
     }
 
     fn next_reported(conflict: &ItemIndex, before: Option<ItemIndex>) -> Option<ItemIndex> {
@@ -313,27 +319,17 @@ where
         }
     }
 
-    fn spot(&self, items: &ItemSet<T>, state: &S, known: (), item: &T) -> Gap {
+    fn place(&self, items: &ItemSet<T>, state: &S, hashes: (), item: &T) -> Gap {
         match place_of::<T, E>(&self.table, items, item) {
             Ok(gap) => gap,
             Err(_) => unreachable!(),
         }
     }
 
-    fn ready_after(&mut self, items: &ItemSet<T>, state: &S) -> Result<(), AllocError> {
-        ordered_steps::ready_anywhere(&self.table, &mut self.blocks, items)
+    fn spare_after(&self, items: &ItemSet<T>, state: &S) -> Result<Blocks, AllocError> {
+        ordered_steps::spare_anywhere(&self.table, items)
     }
 
-    fn give_way(&mut self, items: &ItemSet<T>, state: &S, ix: ItemIndex) {
-        ordered_steps::take_out::<T, E>(&mut self.table, items, ix);
-    }
-}
-
-impl<T, S, E> Removes<T, S> for ByOrder<E>
-where
-    E: KeyOf<T>,
-    E::Key: Ord,
-{
     fn remove(&mut self, items: &ItemSet<T>, state: &S, ix: ItemIndex) {
         ordered_steps::take_out::<T, E>(&mut self.table, items, ix);
     }
@@ -345,24 +341,6 @@ where
     fn remap(&mut self, remap: &IndexRemap) {
         ordered_steps::remap::<T>(&mut self.table, remap);
     }
-}
-
-impl<T, S, E> Moves<T, S> for ByOrder<E>
-where
-    E: KeyOf<T>,
-    E::Key: Ord,
-{
-    ghost use Rattle.std.specs.Prelude.{Ok};
-    ghost use Rattle.iddqd_ord_map.specs.OrderedSteps.{IsReadyFor, moves};
-    ghost use Rattle.iddqd_ord_map.specs.OrderedIndexing.{PlansOrConflicts};
-
-    type Move = Move;
-
-    ghost is_move = { λ state s ix item plan. PlansOrConflicts E.key_of E.Key.cmp s ix item (Ok plan) };
-
-    ghost moves = { moves };
-
-    ghost is_ready = { λ x plan. IsReadyFor x.table x.blocks plan };
 
     fn plan_move(
         &self,
@@ -374,39 +352,31 @@ where
         plan_move::<T, E>(&self.table, items, ix, item)
     }
 
-    fn ready_move(&mut self, items: &ItemSet<T>, state: &S, plan: &Move) -> Result<(), AllocError> {
-        ordered_steps::ready_move(&self.table, &mut self.blocks, items, plan)
+    fn spare_for(
+        &self,
+        items: &ItemSet<T>,
+        state: &S,
+        plan: &Move,
+    ) -> Result<Blocks, AllocError> {
+        ordered_steps::spare_for(&self.table, items, plan)
     }
 
     fn commit_move(
         &mut self,
         items: &ItemSet<T>,
         state: &S,
-        asked: (),
+        known: (),
         plan: &Move,
+        spare: Blocks,
         ix: ItemIndex,
         item: &T,
     ) {
-        ordered_steps::commit_move::<T, E>(
-            &mut self.table,
-            &mut self.blocks,
-            items,
-            plan,
-            ix,
-            item,
-        );
+        ordered_steps::commit_move::<T, E>(&mut self.table, items, plan, spare, ix, item);
     }
-}
 
-impl<T, S, E> Checks<T, S> for ByOrder<E>
-where
-    E: KeyOf<T>,
-    E::Key: Ord,
-{
     fn copied(&self) -> Result<ByOrder<E>, AllocError> {
         Ok(ByOrder {
             table: self.table.clone()?,
-            blocks: None,
             of: PhantomData,
         })
     }
@@ -437,7 +407,7 @@ where
     }
 }
 
-impl<T, S, E, Q> TakesQuery<Q, T, S> for ByOrder<E>
+impl<T, S, E, Q> UniqueAt<Here, Q, T, S> for ByOrder<E>
 where
     E: KeyOf<T>,
     E::Key: Ord,
@@ -445,55 +415,87 @@ where
 {
     ghost stands_for = { λ query. passes_by E.key_of (is_equal (Q.compare query)) };
 
-    fn take_query(&mut self, items: &ItemSet<T>, state: &S, query: Q) -> Option<ItemIndex> {
+    fn find(&self, items: &ItemSet<T>, state: &S, query: Q) -> (Option<ItemIndex>, ()) {
+        (find_by::<T, E, Q>(&self.table, items, query), ())
+    }
+
+    fn take(&mut self, items: &ItemSet<T>, state: &S, query: Q) -> Option<ItemIndex> {
         take_by::<T, E, Q>(&mut self.table, items, query)
     }
 }
 
-impl<T, S, E> OrderedAt<Here, T, S> for ByOrder<E>
+impl<T, S, E, Q> OrderedAt<Here, Q, T, S> for ByOrder<E>
 where
     E: KeyOf<T>,
     E::Key: Ord,
+    Q: OrdQuery<E::Key>,
 {
-    ghost use Rattle.iddqd_order.specs.Spot.{StandsAt};
-
-    type Key = E::Key;
+    ghost use Rattle.iddqd_keys.specs.OrderedQuery.{IsQuery-on};
+    ghost use Rattle.std.proofs.lemmas.Cmp.{on_total};
 
     type Spot = Spot;
 
-    ghost key_at = { E.key_of };
+    ghost order = { on E.key_of E.Key.cmp };
+
+    ghost compare = { compare_by E.key_of Q.compare };
 
     ghost stands = { λ x spot ix. StandsAt x.table spot ix };
 
-    fn first_between<Q: OrdQuery<E::Key>>(
+    ghost total = { on_total E.key_of E.Key.total };
+
+    ghost fits = { λ query. IsQuery-on E.key_of E.Key.cmp (Q.compare query) (Q.lawful query) };
+
+    fn first_between(
         &self,
         items: &ItemSet<T>,
         state: &S,
         lower: Bound<Q>,
         upper: Bound<Q>,
-    ) -> Option<(ItemIndex, Spot)> {
+    ) -> Option<(ItemIndex, Spot)>
+        requires indexed { Sorts E.key_of E.Key.cmp items.now.store (order_of self.now.table) }
+        ensures first { let within = is_within (compare_by E.key_of Q.compare) lower upper in
+            IsFirstHit itself (on E.key_of E.Key.cmp) items.now.store within
+            (option_map (λ (r : ℕ × SpotInTable). r.0) result) }
+        ensures stands { IfSome result (λ r. StandsAt self.now.table r.1 r.0) }
+    {
         first_between::<T, E, Q>(&self.table, items, lower, upper)
     }
 
-    fn next_between<Q: OrdQuery<E::Key>>(
+    fn next_between(
         &self,
         items: &ItemSet<T>,
         state: &S,
         spot: &mut Spot,
         ix: ItemIndex,
         upper: Bound<Q>,
-    ) -> Option<ItemIndex> {
+    ) -> Option<ItemIndex>
+        requires live { IsLive items.now.store ix }
+        requires indexed { Sorts E.key_of E.Key.cmp items.now.store (order_of self.now.table) }
+        requires stands { StandsAt self.now.table spot.old ix }
+        ensures next { let within = is_up_to (bound_map (compare_by E.key_of Q.compare) upper) in
+            IsNextHit itself (on E.key_of E.Key.cmp) items.now.store within ix result }
+        ensures stands { IfSome result (StandsAt self.now.table spot.new) }
+    {
         next_between::<T, E, Q>(&self.table, items, spot, upper)
     }
 
-    fn take_between<Q: OrdQuery<E::Key>>(
+    fn take_between(
         &mut self,
         items: &ItemSet<T>,
         state: &S,
         spot: &mut Spot,
         ix: ItemIndex,
         upper: Bound<Q>,
-    ) -> Option<ItemIndex> {
+    ) -> Option<ItemIndex>
+        requires live { IsLive items.now.store ix }
+        requires indexed { Sorts E.key_of E.Key.cmp items.now.store (order_of self.old.table) }
+        requires stands { StandsAt self.old.table spot.old ix }
+        ensures next { let within = is_up_to (bound_map (compare_by E.key_of Q.compare) upper) in
+            IsNextHit itself (on E.key_of E.Key.cmp) items.now.store within ix result }
+        ensures stands { IfSome result (StandsAt self.new.table spot.new) }
+        ensures indexed { Sorts E.key_of E.Key.cmp (removed items.now.store ix) (order_of self.new.table) }
+        ensures capacity { reserved_for self.new.table ≡ reserved_for self.old.table }
+    {
         take_between::<T, E, Q>(&mut self.table, items, spot, upper)
     }
 }

@@ -2,21 +2,30 @@
 //! keys by index.
 //!
 //! It refuses no item for its key, so an insert searches once: for the place of its index among those with an equal
-//! key. The blocks that it needs wait in the index; below the capacity it needs none.
+//! key. Below the capacity it needs no blocks.
 //!
 //! Invariants, given the store's items:
 //! 1. The list has exactly the live indexes, each once.
 //! 2. It is sorted by the keys of their items, and by index if these are equal.
-ghost use Rattle.std.specs.Prelude.{◌≡◌, ◌↔◌, false};
-ghost use Rattle.iddqd.specs.{next_index, IsValid};
+ghost use Rattle.std.specs.Prelude.{◌≡◌, ◌↔◌, ℕ, false, IfSome};
+ghost use Rattle.iddqd.specs.{next_index, removed, IsValid};
 ghost use Rattle.iddqd_order.specs.{indexes_ahead, indexes_left};
+ghost use Rattle.iddqd_order.specs.Spot.{StandsAt};
+ghost use Rattle.iddqd_order.specs.declared.btree_table.spot.Spot.{Spot as SpotInTable};
 ghost use Rattle.iddqd_order.specs.MapBTreeTable.{order_of};
 ghost use Rattle.iddqd_ord_map.specs.ByOrder.{FindsGreatest, FindsLeast};
 ghost use Rattle.iddqd_ord_map.specs.ByOrderMulti.{Counts, IsGreatestHit, IsLeastHit, IsOwnGapFor};
 ghost use Rattle.iddqd_by_order.specs.Ordered.{is_equal, IsSortedScan};
 ghost use Rattle.iddqd_by_order.specs.OrderedWalk.{SortsWithin};
 ghost use Rattle.iddqd_keys.specs.Scan.{HasNoHit, IsLive, IsKeyAt, passes_by};
-ghost use Rattle.iddqd_keys.specs.OrderedQuery.{is_within};
+ghost use Rattle.iddqd_keys.specs.KeyWalk.{IsFirstHit, IsNextHit};
+ghost use Rattle.iddqd_keys.specs.OrderedQuery.{is_up_to, is_within};
+ghost use Rattle.iddqd_map.specs.Ranges.{itself};
+ghost use Rattle.iddqd_ord_map.specs.ItemOrder.{compare_by};
+ghost use Rattle.iddqd_ord_map.specs.OrderedSteps.{reserved_for};
+ghost use Rattle.std.specs.Option.{option_map};
+ghost use Rattle.std.specs.Ordering.{on};
+ghost use Rattle.std.specs.Range.Bound.{bound_map};
 
 use crate::ordered_move::Move;
 use crate::ordered_query::{count_by, first_by, group_by, iter_by, last_by, range_by};
@@ -29,7 +38,7 @@ use iddqd_by_order::ordered;
 use iddqd_by_order::ordered_next::{first_between, next_between, take_between};
 use iddqd_keys::key_of::{KeyOf, key_at};
 use iddqd_keys::order_query::{AsComparable, OrdQuery};
-use iddqd_map::key_index::{Checks, Here, Inserts, KeyIndex, Moves, OrderedAt, Removes, Sizes};
+use iddqd_map::key_index::{Here, KeyIndex, OrderedAt};
 pub use iddqd_map::no_conflict::NoConflict;
 use iddqd_order::btree_table::{Asking, Blocks, Gap, Iter, MapBTreeTable, Range, Spot};
 use std::alloc::{AllocError, Global};
@@ -41,8 +50,6 @@ use std::ops::Bound;
 #[derive(Drop)]
 pub struct ByOrderMulti<E> {
     table: MapBTreeTable,
-    // The memory of the next insert, if it needs any.
-    blocks: Option<Blocks>,
     of: PhantomData<E>,
 }
 
@@ -201,12 +208,24 @@ where
     ghost use Rattle.iddqd_order.specs.MapBTreeTable.{HasSameTree};
     ghost use Rattle.iddqd_map.specs.Map.{shares};
     ghost use Rattle.iddqd_map.specs.NoConflict.{never_alike, never_apart, none_named};
-    ghost use Rattle.iddqd_ord_map.specs.OrderedSteps.{reserved_for, most_cells};
+    ghost use Rattle.iddqd_ord_map.specs.OrderedSteps.{reserved_for, most_cells, HasBlocksAt, HasBlocksAnywhere, HasBlocksFor, moves};
     ghost use Rattle.iddqd_ord_map.specs.SortedScanLaws.{IsSortedScan-same_tree, IsSortedScan-modified, IsSortedScan-alike, shares_equivalence};
+    ghost use Rattle.iddqd_ord_map.specs.ByOrderMulti.{IsOwnGapFor, IsMoveFor};
+    ghost use Rattle.iddqd_ord_map.specs.ByOrderMultiLaws.{IsOwnGapFor-same_tree};
 
     type Conflict = NoConflict;
 
     type KnownHashes = ();
+
+    type Hashes = ();
+
+    type Place = ();
+
+    type InsertPlan = Gap;
+
+    type MovePlan = Move;
+
+    type Spare = Blocks;
 
     ghost Keys = { E.Key };
 
@@ -223,6 +242,8 @@ where
     ghost cells = { λ x. reserved_for x.table };
 
     ghost most = { most_cells };
+
+    ghost grown = { λ count. 0 };
 
     ghost kept = { λ slots count. most_cells count };
 
@@ -265,14 +286,27 @@ where
 
     ghost few_reported = { λ at. none_named };
 
-    fn no_hashes() {}
-}
+    ghost are_hashes = { λ state item known. Unit {0} };
 
-impl<T, S, E> Sizes<T, S> for ByOrderMulti<E>
-where
-    E: KeyOf<T>,
-    E::Key: Ord,
-{
+    ghost is_place = { λ x state s item spot. Unit {0} };
+
+    ghost is_planned = { λ x state s item gap. IsOwnGapFor E.key_of E.Key.cmp s x.table item gap };
+
+    ghost has_room_for = { λ x gap spare. HasBlocksAt x.table spare gap };
+
+    ghost does_after = { λ x spare. HasBlocksAnywhere x.table spare };
+
+    ghost same_plans = { λ x y state s item gap same is.
+        IsOwnGapFor-same_tree E.key_of E.Key.cmp s x.table y.table item gap same is };
+
+    ghost is_move = { λ state s ix item plan. IsMoveFor E.key_of E.Key.cmp s ix item plan };
+
+    ghost moves = { moves };
+
+    ghost does_for = { λ x plan spare. HasBlocksFor x.table spare plan };
+
+    fn no_hashes() {}
+
     fn capacity(&self) -> usize {
         ordered_steps::capacity(&self.table)
     }
@@ -280,7 +314,6 @@ where
     fn new(alloc: Global) -> ByOrderMulti<E> {
         ByOrderMulti {
             table: MapBTreeTable::new(alloc),
-            blocks: None,
             of: PhantomData,
         }
     }
@@ -288,7 +321,6 @@ where
     fn with_capacity(alloc: Global, wanted: usize) -> Result<ByOrderMulti<E>, AllocError> {
         Ok(ByOrderMulti {
             table: ordered_steps::with_capacity(alloc, wanted)?,
-            blocks: None,
             of: PhantomData,
         })
     }
@@ -303,84 +335,49 @@ where
     }
 
     fn shrink_to(&mut self, items: &ItemSet<T>, state: &S, least: usize) -> Result<(), AllocError> {
-        self.blocks = None;
         ordered_steps::shrink_to(&mut self.table, items, least);
         Ok(())
     }
-}
 
-impl<T, S, E> Inserts<T, S> for ByOrderMulti<E>
-where
-    E: KeyOf<T>,
-    E::Key: Ord,
-{
-    ghost use Rattle.iddqd_ord_map.specs.ByOrderMulti.{IsOwnGapFor};
-    ghost use Rattle.iddqd_ord_map.specs.ByOrderMultiLaws.{IsOwnGapFor-same_tree};
-    ghost use Rattle.iddqd_ord_map.specs.OrderedSteps.{HasBlocksAt, HasBlocksAnywhere};
-
-    type Known = ();
-
-    type Spot = ();
-
-    type Plan = Gap;
-
-    ghost is_known = { λ state item known. Unit {0} };
-
-    ghost is_spot = { λ x state s item spot. Unit {0} };
-
-    ghost is_planned = { λ x state s item gap. IsOwnGapFor E.key_of E.Key.cmp s x.table item gap };
-
-    ghost has_room_for = { λ x gap. HasBlocksAt x.table x.blocks gap };
-
-    ghost is_ready_after = { λ x. HasBlocksAnywhere x.table x.blocks };
-
-    ghost same_plans = { λ x y state s item gap same is.
-        IsOwnGapFor-same_tree E.key_of E.Key.cmp s x.table y.table item gap same is };
-
-    fn known(state: &S, item: &T) {}
+    fn hashes(state: &S, item: &T) {}
 
     fn look_up(
         &self,
         items: &ItemSet<T>,
         state: &S,
-        known: (),
+        hashes: (),
         item: &T,
     ) -> Result<(), NoConflict> {
         Ok(())
     }
 
-    fn plan(&self, items: &ItemSet<T>, state: &S, spot: (), ix: ItemIndex, item: &T) -> Gap {
+    fn plan(&self, items: &ItemSet<T>, state: &S, place: (), ix: ItemIndex, item: &T) -> Gap {
         place_of::<T, E>(&self.table, items, ix, item)
     }
 
-    fn make_room(&mut self, items: &ItemSet<T>, state: &S, plan: &Gap) -> Result<(), AllocError> {
-        ordered_steps::make_room(&self.table, &mut self.blocks, items, plan)
+    fn make_room(
+        &mut self,
+        items: &ItemSet<T>,
+        state: &S,
+        plan: &Gap,
+    ) -> Result<Blocks, AllocError> {
+        ordered_steps::make_room(&self.table, items, plan)
     }
 
-    fn insert(&mut self, known: (), plan: &Gap, ix: ItemIndex) {
-        ordered_steps::insert(&mut self.table, &mut self.blocks, plan, ix);
+    fn insert(&mut self, hashes: (), plan: &Gap, spare: Blocks, ix: ItemIndex) {
+        self.table.insert_in(plan, ix, spare);
     }
 
     fn next_reported(conflict: &NoConflict, before: Option<ItemIndex>) -> Option<ItemIndex> {
         None
     }
 
-    fn spot(&self, items: &ItemSet<T>, state: &S, known: (), item: &T) {}
+    fn place(&self, items: &ItemSet<T>, state: &S, hashes: (), item: &T) {}
 
-    fn ready_after(&mut self, items: &ItemSet<T>, state: &S) -> Result<(), AllocError> {
-        ordered_steps::ready_anywhere(&self.table, &mut self.blocks, items)
+    fn spare_after(&self, items: &ItemSet<T>, state: &S) -> Result<Blocks, AllocError> {
+        ordered_steps::spare_anywhere(&self.table, items)
     }
 
-    fn give_way(&mut self, items: &ItemSet<T>, state: &S, ix: ItemIndex) {
-        ordered_steps::take_out::<T, E>(&mut self.table, items, ix);
-    }
-}
-
-impl<T, S, E> Removes<T, S> for ByOrderMulti<E>
-where
-    E: KeyOf<T>,
-    E::Key: Ord,
-{
     fn remove(&mut self, items: &ItemSet<T>, state: &S, ix: ItemIndex) {
         ordered_steps::take_out::<T, E>(&mut self.table, items, ix);
     }
@@ -392,23 +389,6 @@ where
     fn remap(&mut self, remap: &IndexRemap) {
         ordered_steps::remap::<T>(&mut self.table, remap);
     }
-}
-
-impl<T, S, E> Moves<T, S> for ByOrderMulti<E>
-where
-    E: KeyOf<T>,
-    E::Key: Ord,
-{
-    ghost use Rattle.iddqd_ord_map.specs.ByOrderMulti.{IsMoveFor};
-    ghost use Rattle.iddqd_ord_map.specs.OrderedSteps.{IsReadyFor, moves};
-
-    type Move = Move;
-
-    ghost is_move = { λ state s ix item plan. IsMoveFor E.key_of E.Key.cmp s ix item plan };
-
-    ghost moves = { moves };
-
-    ghost is_ready = { λ x plan. IsReadyFor x.table x.blocks plan };
 
     fn plan_move(
         &self,
@@ -423,39 +403,31 @@ where
         Ok(Move::Moves)
     }
 
-    fn ready_move(&mut self, items: &ItemSet<T>, state: &S, plan: &Move) -> Result<(), AllocError> {
-        ordered_steps::ready_move(&self.table, &mut self.blocks, items, plan)
+    fn spare_for(
+        &self,
+        items: &ItemSet<T>,
+        state: &S,
+        plan: &Move,
+    ) -> Result<Blocks, AllocError> {
+        ordered_steps::spare_for(&self.table, items, plan)
     }
 
     fn commit_move(
         &mut self,
         items: &ItemSet<T>,
         state: &S,
-        asked: (),
+        known: (),
         plan: &Move,
+        spare: Blocks,
         ix: ItemIndex,
         item: &T,
     ) {
-        ordered_steps::commit_move::<T, E>(
-            &mut self.table,
-            &mut self.blocks,
-            items,
-            plan,
-            ix,
-            item,
-        );
+        ordered_steps::commit_move::<T, E>(&mut self.table, items, plan, spare, ix, item);
     }
-}
 
-impl<T, S, E> Checks<T, S> for ByOrderMulti<E>
-where
-    E: KeyOf<T>,
-    E::Key: Ord,
-{
     fn copied(&self) -> Result<ByOrderMulti<E>, AllocError> {
         Ok(ByOrderMulti {
             table: self.table.clone()?,
-            blocks: None,
             of: PhantomData,
         })
     }
@@ -474,50 +446,78 @@ where
     }
 }
 
-impl<T, S, E> OrderedAt<Here, T, S> for ByOrderMulti<E>
+impl<T, S, E, Q> OrderedAt<Here, Q, T, S> for ByOrderMulti<E>
 where
     E: KeyOf<T>,
     E::Key: Ord,
+    Q: OrdQuery<E::Key>,
 {
-    ghost use Rattle.iddqd_order.specs.Spot.{StandsAt};
-
-    type Key = E::Key;
+    ghost use Rattle.iddqd_keys.specs.OrderedQuery.{IsQuery-on};
+    ghost use Rattle.std.proofs.lemmas.Cmp.{on_total};
 
     type Spot = Spot;
 
-    ghost key_at = { E.key_of };
+    ghost order = { on E.key_of E.Key.cmp };
+
+    ghost compare = { compare_by E.key_of Q.compare };
 
     ghost stands = { λ x spot ix. StandsAt x.table spot ix };
 
-    fn first_between<Q: OrdQuery<E::Key>>(
+    ghost total = { on_total E.key_of E.Key.total };
+
+    ghost fits = { λ query. IsQuery-on E.key_of E.Key.cmp (Q.compare query) (Q.lawful query) };
+
+    fn first_between(
         &self,
         items: &ItemSet<T>,
         state: &S,
         lower: Bound<Q>,
         upper: Bound<Q>,
-    ) -> Option<(ItemIndex, Spot)> {
+    ) -> Option<(ItemIndex, Spot)>
+        requires indexed { IsSortedScan E.key_of E.Key.cmp items.now.store (order_of self.now.table) }
+        ensures first { let within = is_within (compare_by E.key_of Q.compare) lower upper in
+            IsFirstHit itself (on E.key_of E.Key.cmp) items.now.store within
+            (option_map (λ (r : ℕ × SpotInTable). r.0) result) }
+        ensures stands { IfSome result (λ r. StandsAt self.now.table r.1 r.0) }
+    {
         first_between::<T, E, Q>(&self.table, items, lower, upper)
     }
 
-    fn next_between<Q: OrdQuery<E::Key>>(
+    fn next_between(
         &self,
         items: &ItemSet<T>,
         state: &S,
         spot: &mut Spot,
         ix: ItemIndex,
         upper: Bound<Q>,
-    ) -> Option<ItemIndex> {
+    ) -> Option<ItemIndex>
+        requires live { IsLive items.now.store ix }
+        requires indexed { IsSortedScan E.key_of E.Key.cmp items.now.store (order_of self.now.table) }
+        requires stands { StandsAt self.now.table spot.old ix }
+        ensures next { let within = is_up_to (bound_map (compare_by E.key_of Q.compare) upper) in
+            IsNextHit itself (on E.key_of E.Key.cmp) items.now.store within ix result }
+        ensures stands { IfSome result (StandsAt self.now.table spot.new) }
+    {
         next_between::<T, E, Q>(&self.table, items, spot, upper)
     }
 
-    fn take_between<Q: OrdQuery<E::Key>>(
+    fn take_between(
         &mut self,
         items: &ItemSet<T>,
         state: &S,
         spot: &mut Spot,
         ix: ItemIndex,
         upper: Bound<Q>,
-    ) -> Option<ItemIndex> {
+    ) -> Option<ItemIndex>
+        requires live { IsLive items.now.store ix }
+        requires indexed { IsSortedScan E.key_of E.Key.cmp items.now.store (order_of self.old.table) }
+        requires stands { StandsAt self.old.table spot.old ix }
+        ensures next { let within = is_up_to (bound_map (compare_by E.key_of Q.compare) upper) in
+            IsNextHit itself (on E.key_of E.Key.cmp) items.now.store within ix result }
+        ensures stands { IfSome result (StandsAt self.new.table spot.new) }
+        ensures indexed { IsSortedScan E.key_of E.Key.cmp (removed items.now.store ix) (order_of self.new.table) }
+        ensures capacity { reserved_for self.new.table ≡ reserved_for self.old.table }
+    {
         take_between::<T, E, Q>(&mut self.table, items, spot, upper)
     }
 }

@@ -38,6 +38,7 @@ use iddqd::item_index::ItemIndex;
 use iddqd::item_set::ItemSet;
 use iddqd_keys::key_of::KeyOf;
 use iddqd_keys::order_query::OrdQuery;
+use iddqd_map::key_index::Here;
 use iddqd_map::map::Map;
 use iddqd_map::refusal::{InsertRefusal, OverwriteRefusal};
 use iddqd_order::btree_table::MapBTreeTable;
@@ -191,7 +192,7 @@ impl<T: IdOrdItem> IdOrdMap<T> {
     /// searched once.
     pub fn insert_unique(&mut self, item: T) -> Result<ItemIndex, InsertRefusal<T, ItemIndex>>
         ensures inserts { let alike = shares T.key_of (eq_by_cmp T.Key.cmp) in
-            Inserts alike most_cells (IsReported alike) self.old item result self.new }
+            Inserts alike (λ count. 0) (IsReported alike) self.old item result self.new }
         ensures index { IfOk result (λ ix. ix ≡ next_index self.old.store) }
         ensures stored { OnOk result (self.new.store ≡ inserted self.old.store item) }
         ensures unchanged { OnErr result (self.new.store ≡ self.old.store) }
@@ -212,7 +213,7 @@ impl<T: IdOrdItem> IdOrdMap<T> {
         &mut self,
         item: T,
     ) -> Result<(ItemIndex, Option<T>), OverwriteRefusal<T>>
-        ensures inserts { OverwritesOne (shares T.key_of (eq_by_cmp T.Key.cmp)) most_cells self.old item result
+        ensures inserts { OverwritesOne (shares T.key_of (eq_by_cmp T.Key.cmp)) (λ count. 0) self.old item result
             self.new }
         ensures one_more { IfOk result (λ put. IfNone put.1
             (live_count self.new.store ≡ live_count self.old.store + 1)) }
@@ -243,7 +244,7 @@ impl<T: IdOrdItem> IdOrdMap<T> {
         ensures freed { OnSome result (live_count self.old.store ≤ capacity self.old
             → room self.new ≡ room self.old + 1) }
     {
-        self.map.remove_query(query)
+        self.map.remove_by::<Here, Q>(query)
     }
 
     /// Removes the item at an index, if there is one, and returns it. It takes no memory.

@@ -1,18 +1,18 @@
 //! The steps that key indexes in the order of a key share, whether several items may have one key or not.
 //!
 //! A table holds ten indexes without any memory. They aren't counted: the capacity of a key index is what the reserved
-//! blocks hold, and ten more indexes fit always. The blocks of the next insert wait beside the table; below the
-//! capacity it needs none.
-ghost use Rattle.std.specs.Prelude.{◌≡◌, ◌≢◌, ◌+◌, ◌<◌, ◌≤◌, [], true, min, max, length, insert, map, Contains, IsOk, IfOk, OnOk, OnErr};
-ghost use Rattle.iddqd.specs.{live_count, rebound, sentinel, IsValid, Allows, Validates};
+//! blocks hold, and ten more indexes fit always. The blocks that an insert or a move needs are a value of their own;
+//! below the capacity it needs none.
+ghost use Rattle.std.specs.Prelude.{◌≡◌, ◌+◌, ◌<◌, ◌≤◌, [], true, min, max, length, map, IsOk, IfOk, OnOk, OnErr};
+ghost use Rattle.iddqd.specs.{live_count, rebound, IsValid, Allows, Validates};
 ghost use Rattle.iddqd.specs.Compaction.{rank, IsRemapOf};
 ghost use Rattle.iddqd.specs.Store.{Store};
-ghost use Rattle.iddqd_order.specs.Gap.{Fits, gap_place, gap_blocks};
+ghost use Rattle.iddqd_order.specs.Gap.{Fits, gap_blocks};
 ghost use Rattle.iddqd_order.specs.MapBTreeTable.{HasSameTree, order_of, move_blocks, without, capacity as table_capacity};
 ghost use Rattle.iddqd_order.specs.declared.btree_table.gap.Gap.{Gap as PlaceInTable};
 ghost use Rattle.iddqd_by_order.specs.Ordered.{Holds, IsSortedScan};
 ghost use Rattle.iddqd_keys.specs.Scan.{IsLive};
-ghost use Rattle.iddqd_ord_map.specs.OrderedSteps.{reserved_for, most_cells, waiting, moves, HasBlocksAt, HasBlocksAnywhere, IsReadyFor, StaysByKey};
+ghost use Rattle.iddqd_ord_map.specs.OrderedSteps.{reserved_for, most_cells, moves, HasBlocksAt, HasBlocksAnywhere, HasBlocksFor, StaysByKey};
 
 use crate::ordered_move::{Move, relocate};
 use iddqd::index_remap::IndexRemap;
@@ -88,75 +88,43 @@ pub fn shrink_to<T>(table: &mut MapBTreeTable, items: &ItemSet<T>, least: usize)
 /// Takes the blocks of an insert at a place. If there is room it takes no memory.
 pub fn make_room<T>(
     table: &MapBTreeTable,
-    blocks: &mut Option<Blocks>,
     items: &ItemSet<T>,
     gap: &Gap,
-) -> Result<(), AllocError>
+) -> Result<Blocks, AllocError>
     requires { Holds items.now.store (order_of table.now) }
-    ensures ready { OnOk result (HasBlocksAt table.now blocks.new gap.now) }
-    ensures had_room { live_count items.now.store < reserved_for table.now
-        → IsOk result × (blocks.new ≡ blocks.old) }
+    ensures ready { IfOk result (λ blocks. HasBlocksAt table.now blocks gap.now) }
+    ensures had_room { live_count items.now.store < reserved_for table.now → IsOk result }
 {
     if table.len() < table.capacity() {
-        return Ok(());
+        return Ok(table.no_blocks());
     }
-    *blocks = Some(table.blocks_at(gap)?);
-    Ok(())
+    table.blocks_at(gap)
 }
 
 /// Takes the blocks of a move, or of an insert that comes after a removal. Up to the capacity it takes no memory.
-pub fn ready_anywhere<T>(
-    table: &MapBTreeTable,
-    blocks: &mut Option<Blocks>,
-    items: &ItemSet<T>,
-) -> Result<(), AllocError>
+pub fn spare_anywhere<T>(table: &MapBTreeTable, items: &ItemSet<T>) -> Result<Blocks, AllocError>
     requires { Holds items.now.store (order_of table.now) }
-    ensures ready { OnOk result (HasBlocksAnywhere table.now blocks.new) }
+    ensures does { IfOk result (HasBlocksAnywhere table.now) }
     ensures past { OnErr result (reserved_for table.now < live_count items.now.store) }
 {
-    *blocks = Some(table.blocks_anywhere()?);
-    Ok(())
+    table.blocks_anywhere()
 }
 
 /// Takes the blocks of a planned move. Up to the capacity it takes no memory, nor if the key stays.
-pub fn ready_move<T>(
+pub fn spare_for<T>(
     table: &MapBTreeTable,
-    blocks: &mut Option<Blocks>,
     items: &ItemSet<T>,
     plan: &Move,
-) -> Result<(), AllocError>
+) -> Result<Blocks, AllocError>
     requires { Holds items.now.store (order_of table.now) }
-    ensures ready { OnOk result (IsReadyFor table.now blocks.new plan.now) }
+    ensures does { IfOk result (λ blocks. HasBlocksFor table.now blocks plan.now) }
     ensures moves { OnErr result (moves plan.now ≡ true) }
     ensures past { OnErr result (reserved_for table.now < live_count items.now.store) }
 {
     match plan {
-        Move::Stays => Ok(()),
-        Move::Moves => ready_anywhere(table, blocks, items),
+        Move::Stays => Ok(table.no_blocks()),
+        Move::Moves => spare_anywhere(table, items),
     }
-}
-
-// The blocks that wait for the next insert.
-fn take_waiting(blocks: &mut Option<Blocks>, table: &MapBTreeTable) -> Blocks
-    ensures { result ≡ waiting blocks.old }
-{
-    match blocks.take() {
-        Some(blocks) => blocks,
-        None => table.no_blocks(),
-    }
-}
-
-/// Adds an index at a place, with the blocks that wait. It takes no memory.
-pub fn insert(table: &mut MapBTreeTable, blocks: &mut Option<Blocks>, gap: &Gap, ix: ItemIndex)
-    requires fits { Fits table.old gap.now }
-    requires room { HasBlocksAt table.old blocks.old gap.now }
-    requires absent { Contains (order_of table.old) ix → ⊥ }
-    requires assigned { ix ≢ sentinel }
-    ensures inserted { order_of table.new ≡ insert (order_of table.old) (gap_place table.old gap.now) ix }
-    ensures memory { table_capacity table.new ≡ table_capacity table.old }
-{
-    let blocks = take_waiting(blocks, table);
-    table.insert_in(gap, ix, blocks);
 }
 
 /// Removes a live index. An insert after it needs at most as many blocks as a move before it. It takes no memory.
@@ -174,13 +142,13 @@ where
     remove_index::<T, E>(table, items, ix);
 }
 
-/// Carries out the planned move of a live index to the place of the item's key, with the blocks that wait. It takes no
-/// memory.
+/// Carries out the planned move of a live index to the place of the item's key, with the blocks that it needs. It takes
+/// no memory.
 pub fn commit_move<T, E>(
     table: &mut MapBTreeTable,
-    blocks: &mut Option<Blocks>,
     items: &ItemSet<T>,
     plan: &Move,
+    blocks: Blocks,
     ix: ItemIndex,
     item: &T,
 )
@@ -190,16 +158,13 @@ where
     requires live { IsLive items.now.store ix }
     requires sorted { IsSortedScan E.key_of E.Key.cmp items.now.store (order_of table.old) }
     requires stays { StaysByKey E.key_of E.Key.cmp items.now.store ix item.now plan.now }
-    requires ready { IsReadyFor table.old blocks.old plan.now }
+    requires enough { HasBlocksFor table.old blocks plan.now }
     ensures moved { IsSortedScan E.key_of E.Key.cmp (rebound items.now.store ix item.now) (order_of table.new) }
     ensures memory { table_capacity table.new ≡ table_capacity table.old }
 {
     match plan {
         Move::Stays => (),
-        Move::Moves => {
-            let blocks = take_waiting(blocks, table);
-            relocate::<T, E>(table, items, ix, item, blocks)
-        }
+        Move::Moves => relocate::<T, E>(table, items, ix, item, blocks),
     }
 }
 

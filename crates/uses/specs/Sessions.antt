@@ -8,6 +8,10 @@ use Rattle.uses.specs.declared.sessions.Session.{Session}
 abbrev pub has_id : ℕ → Session → Bool
 has_id id session = id == session.id
 
+-- the session ends at this tick
+abbrev pub ends_at : ℕ → Session → Bool
+ends_at tick session = eq_by_cmp nat_cmp tick session.ends
+
 -- the sessions share a key
 abbrev pub share_key : Session → Session → Bool
 share_key x y = (x.id == y.id || x.token == y.token) || eq_by_cmp nat_cmp x.ends y.ends

@@ -5,7 +5,7 @@ ghost use Rattle.iddqd_maps.specs.Map.{FindsItem, Removes};
 ghost use Rattle.iddqd_maps.specs.Scan.{HasNoHit};
 ghost use Rattle.iddqd_maps.specs.Store.{inserted, live_count, next_index};
 ghost use Rattle.uses.specs.Exchanges.{ExchangesIfFound, IsKeyTaken, IsWhyNotAdded, IsWhyNotChanged};
-ghost use Rattle.uses.specs.Sessions.{ending, has_id, share_key, EndsFirst};
+ghost use Rattle.uses.specs.Sessions.{ending, ends_at, has_id, share_key, EndsFirst};
 ghost use Rattle.uses.specs.declared.sessions.Session.{Session};
 
 use iddqd_maps::by_hash::ByHash;
@@ -76,6 +76,8 @@ type ById = Left<Left<Here>>;
 
 type ByToken = Left<Right<Here>>;
 
+type ByEnd = Right<Here>;
+
 /// Sessions by their ids and tokens, and in the order in which they end.
 pub type Sessions = Map<Session, Pair<Names, ByOrder<Ends>>>;
 
@@ -105,6 +107,13 @@ pub fn with_token(sessions: &Sessions, token: u64) -> Option<Session>
     ensures { FindsItem sessions.now.store (λ session. token == session.token) result }
 {
     sessions.get_by::<ByToken, _>(&token).copied()
+}
+
+/// The session that ends at this tick.
+pub fn ending_at(sessions: &Sessions, tick: u64) -> Option<Session>
+    ensures { FindsItem sessions.now.store (ends_at tick) result }
+{
+    sessions.get_by::<ByEnd, _>(&tick).copied()
 }
 
 /// Lets the session with this id end at another tick, and returns what it was; none exactly where there is no such
@@ -151,6 +160,13 @@ pub fn close(sessions: &mut Sessions, id: u64) -> Option<Session>
     sessions.remove_by::<ById, _>(&id)
 }
 
+/// Closes the session that ends at this tick, and returns it. All others stay. It takes no memory.
+pub fn close_at(sessions: &mut Sessions, tick: u64) -> Option<Session>
+    ensures { Removes sessions.old (ends_at tick) result sessions.new }
+{
+    sessions.remove_by::<ByEnd, _>(&tick)
+}
+
 /// Removes the sessions that have ended, and returns how many they were. It takes no memory.
 pub fn expire(sessions: &mut Sessions, now: u64) -> usize
     ensures stay { live_pairs sessions.new.store
@@ -186,9 +202,14 @@ fn script(alloc: Global, sessions: &mut Sessions) -> Result<String, AllocError> 
         with_id(sessions, 1).is_some(),
         with_token(sessions, 22).is_some(),
     );
-    let closed = close(sessions, 2).is_some();
+    let ending = ending_at(sessions, 200).is_some();
+    let closed = (
+        close_at(sessions, 90).is_some(),
+        close_at(sessions, 200).is_some(),
+        close(sessions, 2).is_some(),
+    );
     format!(in alloc;
-        "sessions: {first}, {second}, {third}, {next:?}, {extended}, {after:?}, {expired}, {left:?}, {closed}"
+        "sessions: {first}, {second}, {third}, {next:?}, {extended}, {after:?}, {expired}, {left:?}, {ending}, {closed:?}"
     )
 }
 

@@ -2,13 +2,12 @@
 //!
 //! A look-up by one key goes to the table by that key, and every other call to both tables. A caller's proof sees two
 //! keys and not the tables, each of which would cost proof time in every function that calls the map.
+ghost use Rattle.iddqd_keys.specs.Scan.{passes_by};
+
 use super::clash::{BiClash, both_moves, clash_of};
 use super::item::{BiHashItem, Key1, Key2};
 use crate::by_hash::ByHash;
-use crate::key_index::{
-    Checks, FindsSame, FindsWithHashAt, First, HashedAt, Inserts, KeyIndex, Moves, Removes, Second,
-    Sizes, TakesAt,
-};
+use crate::key_index::{FindsSame, First, KeyIndex, Second, UniqueAt};
 use crate::reported::{lesser, past};
 use iddqd::index_remap::IndexRemap;
 use iddqd::internal::{ValidateCompact, ValidateRefusal, ValidationError};
@@ -34,14 +33,14 @@ pub struct BiIndex<T: BiHashItem> {
 impl<T: BiHashItem, S: BuildHasher> KeyIndex<T, S> for BiIndex<T> {
     ghost use Rattle.std.proofs.Common.{ap, refl};
     ghost use Rattle.std.proofs.lemmas.Cmp.{and_equiv};
-    ghost use Rattle.std.specs.Prelude.{◌≡◌, ◌+◌, min, false};
-    ghost use Rattle.iddqd_hash.specs.HashTable.{capacity, memory};
+    ghost use Rattle.std.specs.Prelude.{◌≡◌, ◌+◌, min, false, ◌≤◌, ◌||◌};
+    ghost use Rattle.iddqd_hash.specs.HashTable.{capacity, memory, room};
     ghost use Rattle.iddqd_hash.specs.MapHashTable.{filed};
     ghost use Rattle.iddqd_hash.specs.OpenTableSizes.{least_cells};
     ghost use Rattle.iddqd_hash.specs.Sizes.{most_cells};
     ghost use Rattle.iddqd_hash.proofs.LeastCellsLemmas.{least_cells-grows};
     ghost use Rattle.iddqd_by_hash.specs.Hashed.{hashing_of};
-    ghost use Rattle.iddqd_map.specs.Indexing.{Indexes};
+    ghost use Rattle.iddqd_map.specs.Indexing.{Indexes, Plans};
     ghost use Rattle.iddqd_map.specs.HashLaws.{shares_laws, Indexes-kept, Indexes-key_kept, Indexes-keys_shared};
     ghost use Rattle.iddqd_map.specs.KeyLaws.{IsOfTwo, reported_two, some_two, few_two};
     ghost use Rattle.iddqd_map.specs.PairLaws.{AreApart-either, HaveSameKeys-first, HaveSameKeys-second, sum_grows};
@@ -49,10 +48,21 @@ impl<T: BiHashItem, S: BuildHasher> KeyIndex<T, S> for BiIndex<T> {
     ghost use Rattle.iddqd_map.specs.Map.{shares};
     ghost use Rattle.iddqd_map.specs.Several.{either_key, both_keys};
     ghost use Rattle.iddqd_map.specs.TwoKeys.{AreReported, AreTaken};
+    ghost use Rattle.iddqd_map.specs.Hashed.{moves};
 
     type Conflict = BiClash;
 
     type KnownHashes = (Option<MapHash>, Option<MapHash>);
+
+    type Hashes = (MapHash, MapHash);
+
+    type Place = ();
+
+    type InsertPlan = ();
+
+    type MovePlan = (Move, Move);
+
+    type Spare = ();
 
     ghost Keys = { T.Key1 × T.Key2 };
 
@@ -74,6 +84,8 @@ impl<T: BiHashItem, S: BuildHasher> KeyIndex<T, S> for BiIndex<T> {
 
     ghost most = { λ n. most_cells n + most_cells n };
 
+    ghost grown = { λ n. most_cells n + most_cells n };
+
     ghost kept = { λ slots count. most_cells count + most_cells count };
 
     ghost needed = { λ slots count. least_cells count + least_cells count };
@@ -92,10 +104,6 @@ impl<T: BiHashItem, S: BuildHasher> KeyIndex<T, S> for BiIndex<T> {
     ghost taken = { AreTaken (shares T.first_key T.Key1.eq) (shares T.second_key T.Key2.eq) };
 
     ghost reports = { λ at. IsOfTwo at.key1 at.key2 };
-
-    fn no_hashes() -> (Option<MapHash>, Option<MapHash>) {
-        (None, None)
-    }
 
     ghost kept_none = { refl };
 
@@ -137,25 +145,52 @@ impl<T: BiHashItem, S: BuildHasher> KeyIndex<T, S> for BiIndex<T> {
         at.key1 at.key2 };
 
     ghost few_reported = { λ at. few_two at.key1 at.key2 };
-}
 
-impl<T: BiHashItem, S: BuildHasher> Sizes<T, S> for BiIndex<T> {
+    ghost are_hashes = { λ state item hashes.
+        (hashes.0 ≡ (hashing_of T.Key1.eq T.Key1.hash_input S.BuildHasher S.Hasher.Hasher state).hash_of
+        (T.first_key item))
+        × (hashes.1 ≡ (hashing_of T.Key2.eq T.Key2.hash_input S.BuildHasher S.Hasher.Hasher state).hash_of
+        (T.second_key item)) };
+
+    ghost is_place = { λ x state s item place. Unit {0} };
+
+    ghost is_planned = { λ x state s item plan. Unit {0} };
+
+    ghost has_room_for = { λ x plan spare. (1 ≤ room x.first.table) × (1 ≤ room x.second.table) };
+
+    ghost does_after = { λ x spare. Unit {0} };
+
+    ghost same_plans = { λ x y state s item plan same is. is };
+
+    ghost is_move = { λ state s ix item plan.
+        Plans T.first_key (hashing_of T.Key1.eq T.Key1.hash_input S.BuildHasher S.Hasher.Hasher state) s ix item plan.0
+        × Plans T.second_key (hashing_of T.Key2.eq T.Key2.hash_input S.BuildHasher S.Hasher.Hasher state) s ix item
+        plan.1 };
+
+    ghost moves = { λ plan. moves plan.0 || moves plan.1 };
+
+    ghost does_for = { λ x plan spare. Unit {0} };
+
+    fn no_hashes() -> (Option<MapHash>, Option<MapHash>) {
+        (None, None)
+    }
+
     fn capacity(&self) -> usize {
-        let first = <FirstTable<T> as Sizes<T, S>>::capacity(&self.first);
-        let second = <SecondTable<T> as Sizes<T, S>>::capacity(&self.second);
+        let first = <FirstTable<T> as KeyIndex<T, S>>::capacity(&self.first);
+        let second = <SecondTable<T> as KeyIndex<T, S>>::capacity(&self.second);
         first.min(second)
     }
 
     fn new(alloc: Global) -> BiIndex<T> {
         BiIndex {
-            first: <FirstTable<T> as Sizes<T, S>>::new(alloc),
-            second: <SecondTable<T> as Sizes<T, S>>::new(alloc),
+            first: <FirstTable<T> as KeyIndex<T, S>>::new(alloc),
+            second: <SecondTable<T> as KeyIndex<T, S>>::new(alloc),
         }
     }
 
     fn with_capacity(alloc: Global, wanted: usize) -> Result<BiIndex<T>, AllocError> {
-        let first = <FirstTable<T> as Sizes<T, S>>::with_capacity(alloc, wanted)?;
-        let second = <SecondTable<T> as Sizes<T, S>>::with_capacity(alloc, wanted)?;
+        let first = <FirstTable<T> as KeyIndex<T, S>>::with_capacity(alloc, wanted)?;
+        let second = <SecondTable<T> as KeyIndex<T, S>>::with_capacity(alloc, wanted)?;
         Ok(BiIndex { first, second })
     }
 
@@ -174,36 +209,10 @@ impl<T: BiHashItem, S: BuildHasher> Sizes<T, S> for BiIndex<T> {
         let second = self.second.shrink_to(items, state, least);
         first.and(second)
     }
-}
 
-impl<T: BiHashItem, S: BuildHasher> Inserts<T, S> for BiIndex<T> {
-    ghost use Rattle.std.specs.Prelude.{◌≡◌, ◌≤◌};
-    ghost use Rattle.iddqd_hash.specs.HashTable.{room};
-    ghost use Rattle.iddqd_by_hash.specs.Hashed.{hashing_of};
-
-    type Known = (MapHash, MapHash);
-
-    type Spot = ();
-
-    type Plan = ();
-
-    ghost is_known = { λ state item known.
-        (known.0 ≡ (hashing_of T.Key1.eq T.Key1.hash_input S.BuildHasher S.Hasher.Hasher state).hash_of
-        (T.first_key item))
-        × (known.1 ≡ (hashing_of T.Key2.eq T.Key2.hash_input S.BuildHasher S.Hasher.Hasher state).hash_of
-        (T.second_key item)) };
-
-    ghost is_spot = { λ x state s item spot. Unit {0} };
-
-    ghost is_planned = { λ x state s item plan. Unit {0} };
-
-    ghost has_room_for = { λ x plan. (1 ≤ room x.first.table) × (1 ≤ room x.second.table) };
-
-    ghost is_ready_after = { λ x. Unit {0} };
-
-    fn known(state: &S, item: &T) -> (MapHash, MapHash) {
-        let first = <FirstTable<T> as Inserts<T, S>>::known(state, item);
-        let second = <SecondTable<T> as Inserts<T, S>>::known(state, item);
+    fn hashes(state: &S, item: &T) -> (MapHash, MapHash) {
+        let first = <FirstTable<T> as KeyIndex<T, S>>::hashes(state, item);
+        let second = <SecondTable<T> as KeyIndex<T, S>>::hashes(state, item);
         (first, second)
     }
 
@@ -211,77 +220,50 @@ impl<T: BiHashItem, S: BuildHasher> Inserts<T, S> for BiIndex<T> {
         &self,
         items: &ItemSet<T>,
         state: &S,
-        known: (MapHash, MapHash),
+        hashes: (MapHash, MapHash),
         item: &T,
     ) -> Result<(), BiClash> {
-        let first = self.first.look_up(items, state, known.0, item);
-        let second = self.second.look_up(items, state, known.1, item);
+        let first = self.first.look_up(items, state, hashes.0, item);
+        let second = self.second.look_up(items, state, hashes.1, item);
         clash_of(first.err(), second.err())
     }
 
-    fn plan(&self, items: &ItemSet<T>, state: &S, spot: (), ix: ItemIndex, item: &T) {}
+    fn plan(&self, items: &ItemSet<T>, state: &S, place: (), ix: ItemIndex, item: &T) {}
 
     fn make_room(&mut self, items: &ItemSet<T>, state: &S, plan: &()) -> Result<(), AllocError> {
         self.first.make_room(items, state, plan)?;
         self.second.make_room(items, state, plan)
     }
 
-    fn insert(&mut self, known: (MapHash, MapHash), plan: &(), ix: ItemIndex) {
-        <FirstTable<T> as Inserts<T, S>>::insert(&mut self.first, known.0, plan, ix);
-        <SecondTable<T> as Inserts<T, S>>::insert(&mut self.second, known.1, plan, ix);
+    fn insert(&mut self, hashes: (MapHash, MapHash), plan: &(), spare: (), ix: ItemIndex) {
+        <FirstTable<T> as KeyIndex<T, S>>::insert(&mut self.first, hashes.0, plan, spare, ix);
+        <SecondTable<T> as KeyIndex<T, S>>::insert(&mut self.second, hashes.1, plan, spare, ix);
     }
 
     fn next_reported(conflict: &BiClash, before: Option<ItemIndex>) -> Option<ItemIndex> {
         lesser(past(&conflict.key1, &before), past(&conflict.key2, &before))
     }
 
-    fn spot(&self, items: &ItemSet<T>, state: &S, known: (MapHash, MapHash), item: &T) {}
+    fn place(&self, items: &ItemSet<T>, state: &S, hashes: (MapHash, MapHash), item: &T) {}
 
-    fn ready_after(&mut self, items: &ItemSet<T>, state: &S) -> Result<(), AllocError> {
+    fn spare_after(&self, items: &ItemSet<T>, state: &S) -> Result<(), AllocError> {
         Ok(())
     }
 
-    fn give_way(&mut self, items: &ItemSet<T>, state: &S, ix: ItemIndex) {
-        self.first.give_way(items, state, ix);
-        self.second.give_way(items, state, ix);
-    }
-
-    ghost same_plans = { λ x y state s item plan same is. is };
-}
-
-impl<T: BiHashItem, S: BuildHasher> Removes<T, S> for BiIndex<T> {
     fn remove(&mut self, items: &ItemSet<T>, state: &S, ix: ItemIndex) {
         self.first.remove(items, state, ix);
         self.second.remove(items, state, ix);
     }
 
     fn clear(&mut self) {
-        <FirstTable<T> as Removes<T, S>>::clear(&mut self.first);
-        <SecondTable<T> as Removes<T, S>>::clear(&mut self.second);
+        <FirstTable<T> as KeyIndex<T, S>>::clear(&mut self.first);
+        <SecondTable<T> as KeyIndex<T, S>>::clear(&mut self.second);
     }
 
     fn remap(&mut self, remap: &IndexRemap) {
-        <FirstTable<T> as Removes<T, S>>::remap(&mut self.first, remap);
-        <SecondTable<T> as Removes<T, S>>::remap(&mut self.second, remap);
+        <FirstTable<T> as KeyIndex<T, S>>::remap(&mut self.first, remap);
+        <SecondTable<T> as KeyIndex<T, S>>::remap(&mut self.second, remap);
     }
-}
-
-impl<T: BiHashItem, S: BuildHasher> Moves<T, S> for BiIndex<T> {
-    ghost use Rattle.std.specs.Prelude.{◌||◌};
-    ghost use Rattle.iddqd_by_hash.specs.Hashed.{hashing_of};
-    ghost use Rattle.iddqd_map.specs.Hashed.{moves};
-    ghost use Rattle.iddqd_map.specs.Indexing.{Plans};
-
-    type Move = (Move, Move);
-
-    ghost is_move = { λ state s ix item plan.
-        Plans T.first_key (hashing_of T.Key1.eq T.Key1.hash_input S.BuildHasher S.Hasher.Hasher state) s ix item plan.0
-        × Plans T.second_key (hashing_of T.Key2.eq T.Key2.hash_input S.BuildHasher S.Hasher.Hasher state) s ix item
-        plan.1 };
-
-    ghost moves = { λ plan. moves plan.0 || moves plan.1 };
-
-    ghost is_ready = { λ x plan. Unit {0} };
 
     fn plan_move(
         &self,
@@ -295,8 +277,8 @@ impl<T: BiHashItem, S: BuildHasher> Moves<T, S> for BiIndex<T> {
         both_moves(first, second)
     }
 
-    fn ready_move(
-        &mut self,
+    fn spare_for(
+        &self,
         items: &ItemSet<T>,
         state: &S,
         plan: &(Move, Move),
@@ -308,28 +290,27 @@ impl<T: BiHashItem, S: BuildHasher> Moves<T, S> for BiIndex<T> {
         &mut self,
         items: &ItemSet<T>,
         state: &S,
-        asked: (Option<MapHash>, Option<MapHash>),
+        known: (Option<MapHash>, Option<MapHash>),
         plan: &(Move, Move),
+        spare: (),
         ix: ItemIndex,
         item: &T,
     ) {
         self.first
-            .commit_move(items, state, asked.0, &plan.0, ix, item);
+            .commit_move(items, state, known.0, &plan.0, spare, ix, item);
         self.second
-            .commit_move(items, state, asked.1, &plan.1, ix, item);
+            .commit_move(items, state, known.1, &plan.1, spare, ix, item);
     }
-}
 
-impl<T: BiHashItem, S: BuildHasher> Checks<T, S> for BiIndex<T> {
     fn copied(&self) -> Result<BiIndex<T>, AllocError> {
-        let first = <FirstTable<T> as Checks<T, S>>::copied(&self.first)?;
-        let second = <SecondTable<T> as Checks<T, S>>::copied(&self.second)?;
+        let first = <FirstTable<T> as KeyIndex<T, S>>::copied(&self.first)?;
+        let second = <SecondTable<T> as KeyIndex<T, S>>::copied(&self.second)?;
         Ok(BiIndex { first, second })
     }
 
     fn is_same(item: &T, other: &T) -> bool {
-        <FirstTable<T> as Checks<T, S>>::is_same(item, other)
-            && <SecondTable<T> as Checks<T, S>>::is_same(item, other)
+        <FirstTable<T> as KeyIndex<T, S>>::is_same(item, other)
+            && <SecondTable<T> as KeyIndex<T, S>>::is_same(item, other)
     }
 
     fn validate(
@@ -349,7 +330,7 @@ impl<T: BiHashItem, S: BuildHasher> FindsSame<T, S> for BiIndex<T> {
 
     fn find_same(&self, items: &ItemSet<T>, state: &S, item: &T) -> Option<ItemIndex> {
         let ix = self.first.find_same(items, state, item)?;
-        if <SecondTable<T> as Checks<T, S>>::is_same(item, &items[ix]) {
+        if <SecondTable<T> as KeyIndex<T, S>>::is_same(item, &items[ix]) {
             Some(ix)
         } else {
             None
@@ -360,82 +341,42 @@ impl<T: BiHashItem, S: BuildHasher> FindsSame<T, S> for BiIndex<T> {
         alike_both first (shares T.second_key T.Key2.eq) first (λ x y same. same) (shares T.second_key T.Key2.eq) };
 }
 
-impl<T: BiHashItem, S: BuildHasher> HashedAt<First, T, S> for BiIndex<T> {
-    type Key = T::Key1;
+impl<T: BiHashItem, S: BuildHasher, Q: HashQuery<T::Key1>> UniqueAt<First, Q, T, S> for BiIndex<T> {
+    ghost stands_for = { λ query. passes_by T.first_key (Q.stands_for query) };
 
-    ghost key_at = { T.first_key };
-
-    fn find<Q: HashQuery<T::Key1>>(
+    fn find(
         &self,
         items: &ItemSet<T>,
         state: &S,
         query: Q,
-    ) -> Option<ItemIndex> {
-        self.first.find(items, state, query)
+    ) -> (Option<ItemIndex>, (Option<MapHash>, Option<MapHash>)) {
+        let (found, known) = self.first.find(items, state, query);
+        (found, (known, None))
     }
-}
 
-impl<T: BiHashItem, S: BuildHasher> TakesAt<First, T, S> for BiIndex<T> {
-    fn take<Q: HashQuery<T::Key1>>(
-        &mut self,
-        items: &ItemSet<T>,
-        state: &S,
-        query: Q,
-    ) -> Option<ItemIndex> {
+    fn take(&mut self, items: &ItemSet<T>, state: &S, query: Q) -> Option<ItemIndex> {
         let found = self.first.take(items, state, query)?;
         self.second.remove(items, state, found);
         Some(found)
     }
 }
 
-impl<T: BiHashItem, S: BuildHasher> FindsWithHashAt<First, T, S> for BiIndex<T> {
-    fn find_with_hash<Q: HashQuery<T::Key1>>(
+impl<T: BiHashItem, S: BuildHasher, Q: HashQuery<T::Key2>> UniqueAt<Second, Q, T, S> for BiIndex<T> {
+    ghost stands_for = { λ query. passes_by T.second_key (Q.stands_for query) };
+
+    fn find(
         &self,
         items: &ItemSet<T>,
         state: &S,
         query: Q,
     ) -> (Option<ItemIndex>, (Option<MapHash>, Option<MapHash>)) {
-        let (found, asked) = self.first.find_with_hash(items, state, query);
-        (found, (asked, None))
+        let (found, known) = self.second.find(items, state, query);
+        (found, (None, known))
     }
-}
 
-impl<T: BiHashItem, S: BuildHasher> HashedAt<Second, T, S> for BiIndex<T> {
-    type Key = T::Key2;
-
-    ghost key_at = { T.second_key };
-
-    fn find<Q: HashQuery<T::Key2>>(
-        &self,
-        items: &ItemSet<T>,
-        state: &S,
-        query: Q,
-    ) -> Option<ItemIndex> {
-        self.second.find(items, state, query)
-    }
-}
-
-impl<T: BiHashItem, S: BuildHasher> TakesAt<Second, T, S> for BiIndex<T> {
-    fn take<Q: HashQuery<T::Key2>>(
-        &mut self,
-        items: &ItemSet<T>,
-        state: &S,
-        query: Q,
-    ) -> Option<ItemIndex> {
+    fn take(&mut self, items: &ItemSet<T>, state: &S, query: Q) -> Option<ItemIndex> {
         let found = self.second.take(items, state, query)?;
         self.first.remove(items, state, found);
         Some(found)
-    }
-}
-
-impl<T: BiHashItem, S: BuildHasher> FindsWithHashAt<Second, T, S> for BiIndex<T> {
-    fn find_with_hash<Q: HashQuery<T::Key2>>(
-        &self,
-        items: &ItemSet<T>,
-        state: &S,
-        query: Q,
-    ) -> (Option<ItemIndex>, (Option<MapHash>, Option<MapHash>)) {
-        let (found, asked) = self.second.find_with_hash(items, state, query);
-        (found, (None, asked))
     }
 }

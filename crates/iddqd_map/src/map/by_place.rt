@@ -1,9 +1,9 @@
-//! Calls that name a hashed key by its place in the key index: `find_by::<Here, _>(query)`.
+//! Calls that name a unique key by its place in the key index: `find_by::<Here, _>(query)`.
 //!
 //! A map with a name of its own has the same calls under the names of its keys.
 ghost use Rattle.std.specs.Prelude.{◌≡◌, ◌↔◌, ◌≤◌, ◌+◌, false, option_copied, OnSome, IfNone};
 ghost use Rattle.iddqd.specs.{live_count};
-ghost use Rattle.iddqd_keys.specs.Scan.{HasNoHit, AnswersScan, passes_by};
+ghost use Rattle.iddqd_keys.specs.Scan.{HasNoHit, AnswersScan};
 ghost use Rattle.iddqd_keys.specs.KeyKeeping.{KeepsKey};
 ghost use Rattle.iddqd_map.specs.Map.{capacity, room, FindsItem, Removes};
 ghost use Rattle.iddqd_map.specs.Calls.{MayChange, Replaces, ChangesByCall};
@@ -12,10 +12,9 @@ ghost use Rattle.iddqd_map.specs.Modify.{Modifies};
 use super::Map;
 use super::changes::change_found;
 use super::replaces::replace_found;
-use crate::key_index::{FindsWithHashAt, HashedAt, KeyIndex, Moves, TakesAt, TakesQuery};
+use crate::key_index::{KeyIndex, UniqueAt};
 use crate::refusal::ReplaceRefusal;
 use iddqd::item_index::ItemIndex;
-use iddqd_keys::hash_query::HashQuery;
 
 impl<T, X: KeyIndex<T, S>, S> Map<T, X, S> {
     /// The index of the item that has the key for which the query stands.
@@ -24,19 +23,18 @@ impl<T, X: KeyIndex<T, S>, S> Map<T, X, S> {
     /// it.
     pub fn find_by<P, Q>(&self, query: Q) -> Option<ItemIndex>
     where
-        X: HashedAt<P, T, S>,
-        Q: HashQuery<X::Key>,
-        ensures { AnswersScan self.now.store (passes_by X.key_at (Q.stands_for query)) result }
+        X: UniqueAt<P, Q, T, S>,
+        ensures { AnswersScan self.now.store (X.stands_for query) result }
     {
-        self.indexes.find(&self.items, &self.state, query)
+        let (found, _) = self.indexes.find(&self.items, &self.state, query);
+        found
     }
 
     /// Whether an item has the key.
     pub fn contains_by<P, Q>(&self, query: Q) -> bool
     where
-        X: HashedAt<P, T, S>,
-        Q: HashQuery<X::Key>,
-        ensures { (result ≡ false) ↔ HasNoHit self.now.store (passes_by X.key_at (Q.stands_for query)) }
+        X: UniqueAt<P, Q, T, S>,
+        ensures { (result ≡ false) ↔ HasNoHit self.now.store (X.stands_for query) }
     {
         self.find_by::<P, Q>(query).is_some()
     }
@@ -44,9 +42,8 @@ impl<T, X: KeyIndex<T, S>, S> Map<T, X, S> {
     /// The item that has the key.
     pub fn get_by<P, Q>(&self, query: Q) -> Option<&T>
     where
-        X: HashedAt<P, T, S>,
-        Q: HashQuery<X::Key>,
-        ensures { FindsItem self.now.store (passes_by X.key_at (Q.stands_for query)) (option_copied result) }
+        X: UniqueAt<P, Q, T, S>,
+        ensures { FindsItem self.now.store (X.stands_for query) (option_copied result) }
     {
         self.items.get(self.find_by::<P, Q>(query)?)
     }
@@ -54,26 +51,7 @@ impl<T, X: KeyIndex<T, S>, S> Map<T, X, S> {
     /// Removes the item that has the key, and returns it. It takes no memory.
     pub fn remove_by<P, Q>(&mut self, query: Q) -> Option<T>
     where
-        X: TakesAt<P, T, S>,
-        Q: HashQuery<X::Key>,
-        ensures removes { Removes self.old (passes_by X.key_at (Q.stands_for query)) result self.new }
-        ensures gone { HasNoHit self.new.store (passes_by X.key_at (Q.stands_for query)) }
-        ensures room { room self.old ≤ room self.new }
-        ensures count { OnSome result (live_count self.old.store ≡ live_count self.new.store + 1) }
-        ensures unchanged { IfNone result (self.new ≡ self.old) }
-        ensures freed { OnSome result (live_count self.old.store ≤ capacity self.old
-            → room self.new ≡ room self.old + 1) }
-    {
-        let ix = self.indexes.take(&self.items, &self.state, query)?;
-        self.items.remove(ix)
-    }
-
-    /// Removes the item whose key the query stands for, by one search, and returns it. It takes no memory.
-    ///
-    /// Only a map whose key index is a single `ByOrder` has this call.
-    pub fn remove_query<Q>(&mut self, query: Q) -> Option<T>
-    where
-        X: TakesQuery<Q, T, S>,
+        X: UniqueAt<P, Q, T, S>,
         ensures removes { Removes self.old (X.stands_for query) result self.new }
         ensures gone { HasNoHit self.new.store (X.stands_for query) }
         ensures room { room self.old ≤ room self.new }
@@ -82,7 +60,7 @@ impl<T, X: KeyIndex<T, S>, S> Map<T, X, S> {
         ensures freed { OnSome result (live_count self.old.store ≤ capacity self.old
             → room self.new ≡ room self.old + 1) }
     {
-        let ix = self.indexes.take_query(&self.items, &self.state, query)?;
+        let ix = self.indexes.take(&self.items, &self.state, query)?;
         self.items.remove(ix)
     }
 
@@ -95,19 +73,18 @@ impl<T, X: KeyIndex<T, S>, S> Map<T, X, S> {
         item: T,
     ) -> Result<T, ReplaceRefusal<T, X::Conflict>>
     where
-        X: FindsWithHashAt<P, T, S> + Moves<T, S>,
-        Q: HashQuery<X::Key>,
+        X: UniqueAt<P, Q, T, S>,
         ensures replaces { Replaces X.alike X.same_keys X.may_need_memory X.taken self.old
-            (passes_by X.key_at (Q.stands_for query)) item result self.new }
+            (X.stands_for query) item result self.new }
         ensures room { room self.new ≡ room self.old }
         ensures count { live_count self.new.store ≡ live_count self.old.store }
     {
-        let (found, asked) = self.indexes.find_with_hash(&self.items, &self.state, query);
+        let (found, known) = self.indexes.find(&self.items, &self.state, query);
         replace_found(
             &mut self.items,
             &mut self.indexes,
             &self.state,
-            asked,
+            known,
             found,
             item,
         )
@@ -123,20 +100,19 @@ impl<T, X: KeyIndex<T, S>, S> Map<T, X, S> {
         f: F,
     ) -> Result<Option<T>, ReplaceRefusal<T, X::Conflict>>
     where
-        X: FindsWithHashAt<P, T, S> + Moves<T, S>,
-        Q: HashQuery<X::Key>,
-        requires { MayChange F.FnOnce f self.old.store (passes_by X.key_at (Q.stands_for query)) }
+        X: UniqueAt<P, Q, T, S>,
+        requires { MayChange F.FnOnce f self.old.store (X.stands_for query) }
         ensures changes { ChangesByCall X.alike X.same_keys X.may_need_memory X.taken F.FnOnce f self.old
-            (passes_by X.key_at (Q.stands_for query)) result self.new }
+            (X.stands_for query) result self.new }
         ensures room { room self.new ≡ room self.old }
         ensures count { live_count self.new.store ≡ live_count self.old.store }
     {
-        let (found, asked) = self.indexes.find_with_hash(&self.items, &self.state, query);
+        let (found, known) = self.indexes.find(&self.items, &self.state, query);
         change_found(
             &mut self.items,
             &mut self.indexes,
             &self.state,
-            asked,
+            known,
             found,
             f,
         )
@@ -146,11 +122,9 @@ impl<T, X: KeyIndex<T, S>, S> Map<T, X, S> {
     /// returns `None` and doesn't call the closure. It is one look-up.
     pub fn modify_by<P, Q, R, F: FnOnce(&mut T) -> R>(&mut self, query: Q, f: F) -> Option<R>
     where
-        X: HashedAt<P, T, S>,
-        Q: HashQuery<X::Key>,
-        requires { let named = passes_by X.key_at (Q.stands_for query) in
-            KeepsKey F.FnOnce f X.keys (λ item. FindsItem self.old.store named (Some item)) }
-        ensures modifies { Modifies F.FnOnce f self.old (passes_by X.key_at (Q.stands_for query)) result self.new }
+        X: UniqueAt<P, Q, T, S>,
+        requires { KeepsKey F.FnOnce f X.keys (λ item. FindsItem self.old.store (X.stands_for query) (Some item)) }
+        ensures modifies { Modifies F.FnOnce f self.old (X.stands_for query) result self.new }
         ensures room { room self.old ≤ room self.new }
     {
         self.modify_live(self.find_by::<P, Q>(query)?, f)

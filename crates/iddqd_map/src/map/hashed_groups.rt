@@ -6,7 +6,7 @@ ghost use Rattle.std.specs.Prelude.{◌≡◌, ◌≤◌, ◌+◌, ◌↔◌, Bo
 ghost use Rattle.iddqd.specs.{get, live_count, removed};
 ghost use Rattle.iddqd.specs.LiveItems.{live_items};
 ghost use Rattle.iddqd_hash.specs.Asks.{CanAsk};
-ghost use Rattle.iddqd_keys.specs.Scan.{HasNoHit, IsLive, passes_by};
+ghost use Rattle.iddqd_keys.specs.Scan.{HasNoHit, IsLive};
 ghost use Rattle.iddqd_map.specs.Groups.{FindsSome, GivesAt, RemovesEach};
 ghost use Rattle.iddqd_map.specs.KeyIndex.{IsIndexed};
 ghost use Rattle.iddqd_map.specs.Map.{capacity, room};
@@ -15,10 +15,9 @@ ghost use Rattle.iddqd_map.specs.Ranges.{LeavesOthers, TakesItem, GivesItem, May
 use super::Map;
 use super::steps::take_out;
 use crate::grouped_at::GroupedAt;
-use crate::key_index::{KeyIndex, Removes};
+use crate::key_index::KeyIndex;
 use iddqd::item_index::ItemIndex;
 use iddqd::item_set::ItemSet;
-use iddqd_keys::hash_query::HashQuery;
 
 impl<T, X: KeyIndex<T, S>, S> Map<T, X, S> {
     /// The index of some item that has the key for which the query stands; `None` if and only if no item has it.
@@ -27,19 +26,17 @@ impl<T, X: KeyIndex<T, S>, S> Map<T, X, S> {
     /// it.
     pub fn find_any_by<P, Q>(&self, query: Q) -> Option<ItemIndex>
     where
-        X: GroupedAt<P, T, S>,
-        Q: HashQuery<X::Key>,
-        ensures { FindsSome self.now.store (passes_by X.key_at (Q.stands_for query)) result }
+        X: GroupedAt<P, Q, T, S>,
+        ensures { FindsSome self.now.store (X.stands_for query) result }
     {
-        self.indexes.find_any_at(&self.items, &self.state, query)
+        self.indexes.find_any(&self.items, &self.state, query)
     }
 
     /// Whether any item has the key.
     pub fn contains_any_by<P, Q>(&self, query: Q) -> bool
     where
-        X: GroupedAt<P, T, S>,
-        Q: HashQuery<X::Key>,
-        ensures { (result ≡ false) ↔ HasNoHit self.now.store (passes_by X.key_at (Q.stands_for query)) }
+        X: GroupedAt<P, Q, T, S>,
+        ensures { (result ≡ false) ↔ HasNoHit self.now.store (X.stands_for query) }
     {
         self.find_any_by::<P, Q>(query).is_some()
     }
@@ -51,11 +48,11 @@ impl<T, X: KeyIndex<T, S>, S> Map<T, X, S> {
     /// look-up for each item.
     pub fn remove_hashed_group_by<P, Q, F: FnMut(T)>(&mut self, query: Q, mut f: F) -> usize
     where
-        X: GroupedAt<P, T, S> + Removes<T, S>,
-        Q: HashQuery<X::Key>,
+        X: GroupedAt<P, Q, T, S>,
+        Q: Copy,
         requires { MayGive F.FnMut f (live_items self.old.store) }
-        ensures left { LeavesOthers self.old.store (passes_by X.key_at (Q.stands_for query)) self.new.store }
-        ensures handed { (last : F) × RemovesEach (passes_by X.key_at (Q.stands_for query)) (GivesItem F.FnMut) f
+        ensures left { LeavesOthers self.old.store (X.stands_for query) self.new.store }
+        ensures handed { (last : F) × RemovesEach (X.stands_for query) (GivesItem F.FnMut) f
             self.old.store self.new.store last }
         ensures memory { self.new.memory ≡ self.old.memory }
         ensures room { room self.old ≤ room self.new }
@@ -63,7 +60,7 @@ impl<T, X: KeyIndex<T, S>, S> Map<T, X, S> {
         ensures freed { live_count self.old.store ≤ capacity self.old → room self.new ≡ room self.old + result }
     {
         let before = self.items.len();
-        remove_each::<P, T, S, X, Q, F>(
+        remove_each::<P, Q, T, S, X, F>(
             &mut self.items,
             &mut self.indexes,
             &self.state,
@@ -76,7 +73,7 @@ impl<T, X: KeyIndex<T, S>, S> Map<T, X, S> {
 
 // Removes the items that have the key, and passes each to the closure. The closure stays in the state that its last
 // call leaves.
-fn remove_each<P, T, S, X, Q, F: FnMut(T)>(
+fn remove_each<P, Q, T, S, X, F: FnMut(T)>(
     items: &mut ItemSet<T>,
     indexes: &mut X,
     state: &S,
@@ -84,14 +81,14 @@ fn remove_each<P, T, S, X, Q, F: FnMut(T)>(
     f: &mut F,
 )
 where
-    X: GroupedAt<P, T, S> + Removes<T, S>,
-    Q: HashQuery<X::Key>,
+    X: GroupedAt<P, Q, T, S>,
+    Q: Copy,
     requires indexed { IsIndexed (X.indexes indexes.old) state.now items.old.store }
     requires can_give { CanAsk (TakesItem F.FnMut) (λ p x (b : Bool) q. GivesItem F.FnMut p x q) f.old
         (live_items items.old.store) }
     ensures indexed { IsIndexed (X.indexes indexes.new) state.now items.new.store }
-    ensures left { LeavesOthers items.old.store (passes_by X.key_at (Q.stands_for query)) items.new.store }
-    ensures handed { RemovesEach (passes_by X.key_at (Q.stands_for query)) (GivesItem F.FnMut) f.old
+    ensures left { LeavesOthers items.old.store (X.stands_for query) items.new.store }
+    ensures handed { RemovesEach (X.stands_for query) (GivesItem F.FnMut) f.old
         items.old.store items.new.store f.new }
     ensures fewer { live_count items.new.store ≤ live_count items.old.store }
     ensures limit { items.new.store.limit ≡ items.old.store.limit }
@@ -99,18 +96,18 @@ where
     ensures capacity { X.capacity indexes.new ≡ X.capacity indexes.old }
     ensures cells { X.cells indexes.new ≡ X.cells indexes.old }
 {
-    let first = match indexes.find_any_at(items, state, query) {
+    let first = match indexes.find_any(items, state, query) {
         Some(ix) => ix,
         None => return,
     };
-    while let Some(ix) = indexes.find_other_at(items, state, query, first) {
+    while let Some(ix) = indexes.find_other(items, state, query, first) {
         give(items, indexes, state, ix, f);
     }
     give(items, indexes, state, first, f);
 }
 
 // Removes the item at a live index, and passes it to the closure.
-fn give<T, S, X: Removes<T, S>, F: FnMut(T)>(
+fn give<T, S, X: KeyIndex<T, S>, F: FnMut(T)>(
     items: &mut ItemSet<T>,
     indexes: &mut X,
     state: &S,

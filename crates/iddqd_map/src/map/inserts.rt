@@ -8,20 +8,20 @@ ghost use Rattle.iddqd_map.specs.Refusal.{refusal_of};
 
 use super::Map;
 use super::steps::store_in_room;
-use crate::key_index::Inserts;
+use crate::key_index::KeyIndex;
 use crate::refusal::InsertRefusal;
 use iddqd::item_index::ItemIndex;
 use iddqd::item_set::{GrowError, ItemSet};
 use std::alloc::AllocError;
 
-impl<T, X: Inserts<T, S>, S> Map<T, X, S> {
+impl<T, X: KeyIndex<T, S>, S> Map<T, X, S> {
     /// Inserts an item that shares no unique key with another, and returns its index.
     ///
     /// If there are several reasons for a refusal, the first of these is reported: duplicate, full, out of memory. A
     /// refusal returns the item, and the contents stay. If there is `room`, only a duplicate is refused. Each key is
     /// hashed once and looked up once.
     pub fn insert_unique(&mut self, item: T) -> Result<ItemIndex, InsertRefusal<T, X::Conflict>>
-        ensures inserts { Inserts X.alike X.most X.conflicts self.old item result self.new }
+        ensures inserts { Inserts X.alike X.grown X.conflicts self.old item result self.new }
         ensures index { IfOk result (λ ix. ix ≡ next_index self.old.store) }
         ensures stored { OnOk result (self.new.store ≡ inserted self.old.store item) }
         ensures unchanged { OnErr result (self.new.store ≡ self.old.store) }
@@ -30,39 +30,40 @@ impl<T, X: Inserts<T, S>, S> Map<T, X, S> {
         ensures room { OnOk result (1 ≤ room self.old → room self.old ≡ room self.new + 1) }
         ensures room_kept { OnErr result (room self.old ≤ room self.new) }
     {
-        let known = X::known(&self.state, &item);
-        insert(&mut self.items, &mut self.indexes, &self.state, known, item)
+        let hashes = X::hashes(&self.state, &item);
+        insert(&mut self.items, &mut self.indexes, &self.state, hashes, item)
     }
 }
 
 /// Stores an item that shares no key with another, and inserts its index.
-pub(super) fn insert<T, X: Inserts<T, S>, S>(
+pub(super) fn insert<T, X: KeyIndex<T, S>, S>(
     items: &mut ItemSet<T>,
     indexes: &mut X,
     state: &S,
-    known: X::Known,
+    hashes: X::Hashes,
     item: T,
 ) -> Result<ItemIndex, InsertRefusal<T, X::Conflict>>
     requires map { IsIndexed (X.indexes indexes.old) state.now items.old.store }
-    requires hashed { X.is_known state.now item known }
+    requires hashed { X.are_hashes state.now item hashes }
     ensures map { IsIndexed (X.indexes indexes.new) state.now items.new.store }
-    ensures inserts { Inserts X.alike X.most X.conflicts
+    ensures inserts { Inserts X.alike X.grown X.conflicts
         (map_with items.old (X.capacity indexes.old) (X.cells indexes.old)) item result
         (map_with items.new (X.capacity indexes.new) (X.cells indexes.new)) }
 {
-    let spot = match indexes.look_up(items, state, known, &item) {
-        Ok(spot) => spot,
+    let place = match indexes.look_up(items, state, hashes, &item) {
+        Ok(place) => place,
         Err(at) => return Err(InsertRefusal::Duplicate { item, at }),
     };
     let ix = match items.assert_can_grow() {
         Ok(handle) => handle.next_index(),
         Err(error) => return Err(refusal(error, item)),
     };
-    let plan = indexes.plan(items, state, spot, ix, &item);
-    if let Err(AllocError) = indexes.make_room(items, state, &plan) {
-        return Err(InsertRefusal::Memory(item));
-    }
-    indexes.insert(known, &plan, ix);
+    let plan = indexes.plan(items, state, place, ix, &item);
+    let spare = match indexes.make_room(items, state, &plan) {
+        Ok(spare) => spare,
+        Err(AllocError) => return Err(InsertRefusal::Memory(item)),
+    };
+    indexes.insert(hashes, &plan, spare, ix);
     Ok(store_in_room(items, item))
 }
 

@@ -6,13 +6,13 @@ ghost use Rattle.iddqd_map.specs.Memory.{ReservesItems, ShrinksItems, HasMoreTha
 ghost use Rattle.iddqd_map.specs.Calls.{Compacts};
 
 use super::Map;
-use crate::key_index::{Removes, Sizes};
+use crate::key_index::KeyIndex;
 use iddqd::hash_builder::DefaultHashBuilder;
 use iddqd::index_remap::IndexRemap;
 use iddqd::item_set::ItemSet;
 use std::alloc::{AllocError, Global};
 
-impl<T, X: Sizes<T, DefaultHashBuilder>> Map<T, X, DefaultHashBuilder> {
+impl<T, X: KeyIndex<T, DefaultHashBuilder>> Map<T, X, DefaultHashBuilder> {
     /// Empty, with the default hasher, and memory for `wanted` items. With 0 it takes no memory.
     pub fn with_capacity(
         alloc: Global,
@@ -30,7 +30,7 @@ impl<T, X: Sizes<T, DefaultHashBuilder>> Map<T, X, DefaultHashBuilder> {
     }
 }
 
-impl<T, X: Sizes<T, S>, S> Map<T, X, S> {
+impl<T, X: KeyIndex<T, S>, S> Map<T, X, S> {
     /// Empty, with memory for `wanted` items. With 0 it takes none.
     pub fn with_capacity_and_hasher(
         alloc: Global,
@@ -108,7 +108,7 @@ impl<T, X: Sizes<T, S>, S> Map<T, X, S> {
     }
 }
 
-impl<T, X: Removes<T, S>, S> Map<T, X, S> {
+impl<T, X: KeyIndex<T, S>, S> Map<T, X, S> {
     /// Forgets all items and all slots, so that the next index is 0. It keeps the memory.
     pub fn clear(&mut self)
     where

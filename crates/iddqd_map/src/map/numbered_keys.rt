@@ -3,17 +3,16 @@
 //! They are those of a map that has a key at the place `First`, and so on: of a `BiHashMap` and of a `TriHashMap`.
 ghost use Rattle.std.specs.Prelude.{◌≡◌, ◌↔◌, ◌≤◌, ◌+◌, false, option_copied, OnSome, IfNone};
 ghost use Rattle.iddqd.specs.{live_count};
-ghost use Rattle.iddqd_keys.specs.Scan.{HasNoHit, AnswersScan, passes_by};
+ghost use Rattle.iddqd_keys.specs.Scan.{HasNoHit, AnswersScan};
 ghost use Rattle.iddqd_keys.specs.KeyKeeping.{KeepsKey};
 ghost use Rattle.iddqd_map.specs.Map.{capacity, room, FindsItem, Removes};
 ghost use Rattle.iddqd_map.specs.Calls.{MayChange, Replaces, ChangesByCall};
 ghost use Rattle.iddqd_map.specs.Modify.{Modifies};
 
 use super::Map;
-use crate::key_index::{FindsWithHashAt, First, HashedAt, KeyIndex, Moves, Second, TakesAt, Third};
+use crate::key_index::{First, KeyIndex, Second, Third, UniqueAt};
 use crate::refusal::ReplaceRefusal;
 use iddqd::item_index::ItemIndex;
-use iddqd_keys::hash_query::HashQuery;
 
 impl<T, X: KeyIndex<T, S>, S> Map<T, X, S> {
     /// The index of the item that has the first key for which the query stands.
@@ -22,9 +21,8 @@ impl<T, X: KeyIndex<T, S>, S> Map<T, X, S> {
     /// with it.
     pub fn find1<Q>(&self, query: Q) -> Option<ItemIndex>
     where
-        X: HashedAt<First, T, S>,
-        Q: HashQuery<X::Key>,
-        ensures { AnswersScan self.now.store (passes_by X.key_at (Q.stands_for query)) result }
+        X: UniqueAt<First, Q, T, S>,
+        ensures { AnswersScan self.now.store (X.stands_for query) result }
     {
         self.find_by::<First, Q>(query)
     }
@@ -32,9 +30,8 @@ impl<T, X: KeyIndex<T, S>, S> Map<T, X, S> {
     /// Whether an item has the first key.
     pub fn contains_key1<Q>(&self, query: Q) -> bool
     where
-        X: HashedAt<First, T, S>,
-        Q: HashQuery<X::Key>,
-        ensures { (result ≡ false) ↔ HasNoHit self.now.store (passes_by X.key_at (Q.stands_for query)) }
+        X: UniqueAt<First, Q, T, S>,
+        ensures { (result ≡ false) ↔ HasNoHit self.now.store (X.stands_for query) }
     {
         self.contains_by::<First, Q>(query)
     }
@@ -42,9 +39,8 @@ impl<T, X: KeyIndex<T, S>, S> Map<T, X, S> {
     /// The item that has the first key.
     pub fn get1<Q>(&self, query: Q) -> Option<&T>
     where
-        X: HashedAt<First, T, S>,
-        Q: HashQuery<X::Key>,
-        ensures { FindsItem self.now.store (passes_by X.key_at (Q.stands_for query)) (option_copied result) }
+        X: UniqueAt<First, Q, T, S>,
+        ensures { FindsItem self.now.store (X.stands_for query) (option_copied result) }
     {
         self.get_by::<First, Q>(query)
     }
@@ -52,10 +48,9 @@ impl<T, X: KeyIndex<T, S>, S> Map<T, X, S> {
     /// Removes the item that has the first key, and returns it. It takes no memory.
     pub fn remove1<Q>(&mut self, query: Q) -> Option<T>
     where
-        X: TakesAt<First, T, S>,
-        Q: HashQuery<X::Key>,
-        ensures removes { Removes self.old (passes_by X.key_at (Q.stands_for query)) result self.new }
-        ensures gone { HasNoHit self.new.store (passes_by X.key_at (Q.stands_for query)) }
+        X: UniqueAt<First, Q, T, S>,
+        ensures removes { Removes self.old (X.stands_for query) result self.new }
+        ensures gone { HasNoHit self.new.store (X.stands_for query) }
         ensures room { room self.old ≤ room self.new }
         ensures count { OnSome result (live_count self.old.store ≡ live_count self.new.store + 1) }
         ensures unchanged { IfNone result (self.new ≡ self.old) }
@@ -71,10 +66,9 @@ impl<T, X: KeyIndex<T, S>, S> Map<T, X, S> {
     /// nothing changes. It touches no table whose key stays, and takes no memory if all keys go by their hashes.
     pub fn replace1<Q>(&mut self, query: Q, item: T) -> Result<T, ReplaceRefusal<T, X::Conflict>>
     where
-        X: FindsWithHashAt<First, T, S> + Moves<T, S>,
-        Q: HashQuery<X::Key>,
+        X: UniqueAt<First, Q, T, S>,
         ensures replaces { Replaces X.alike X.same_keys X.may_need_memory X.taken self.old
-            (passes_by X.key_at (Q.stands_for query)) item result self.new }
+            (X.stands_for query) item result self.new }
         ensures room { room self.new ≡ room self.old }
         ensures count { live_count self.new.store ≡ live_count self.old.store }
     {
@@ -91,11 +85,10 @@ impl<T, X: KeyIndex<T, S>, S> Map<T, X, S> {
         f: F,
     ) -> Result<Option<T>, ReplaceRefusal<T, X::Conflict>>
     where
-        X: FindsWithHashAt<First, T, S> + Moves<T, S>,
-        Q: HashQuery<X::Key>,
-        requires { MayChange F.FnOnce f self.old.store (passes_by X.key_at (Q.stands_for query)) }
+        X: UniqueAt<First, Q, T, S>,
+        requires { MayChange F.FnOnce f self.old.store (X.stands_for query) }
         ensures changes { ChangesByCall X.alike X.same_keys X.may_need_memory X.taken F.FnOnce f self.old
-            (passes_by X.key_at (Q.stands_for query)) result self.new }
+            (X.stands_for query) result self.new }
         ensures room { room self.new ≡ room self.old }
         ensures count { live_count self.new.store ≡ live_count self.old.store }
     {
@@ -106,11 +99,9 @@ impl<T, X: KeyIndex<T, S>, S> Map<T, X, S> {
     /// it returns `None` and doesn't call the closure. It is one look-up.
     pub fn modify1<Q, R, F: FnOnce(&mut T) -> R>(&mut self, query: Q, f: F) -> Option<R>
     where
-        X: HashedAt<First, T, S>,
-        Q: HashQuery<X::Key>,
-        requires { let named = passes_by X.key_at (Q.stands_for query) in
-            KeepsKey F.FnOnce f X.keys (λ item. FindsItem self.old.store named (Some item)) }
-        ensures modifies { Modifies F.FnOnce f self.old (passes_by X.key_at (Q.stands_for query)) result self.new }
+        X: UniqueAt<First, Q, T, S>,
+        requires { KeepsKey F.FnOnce f X.keys (λ item. FindsItem self.old.store (X.stands_for query) (Some item)) }
+        ensures modifies { Modifies F.FnOnce f self.old (X.stands_for query) result self.new }
         ensures room { room self.old ≤ room self.new }
     {
         self.modify_by::<First, Q, R, F>(query, f)
@@ -119,9 +110,8 @@ impl<T, X: KeyIndex<T, S>, S> Map<T, X, S> {
     /// The index of the item that has the second key for which the query stands, found as `find1` finds it.
     pub fn find2<Q>(&self, query: Q) -> Option<ItemIndex>
     where
-        X: HashedAt<Second, T, S>,
-        Q: HashQuery<X::Key>,
-        ensures { AnswersScan self.now.store (passes_by X.key_at (Q.stands_for query)) result }
+        X: UniqueAt<Second, Q, T, S>,
+        ensures { AnswersScan self.now.store (X.stands_for query) result }
     {
         self.find_by::<Second, Q>(query)
     }
@@ -129,9 +119,8 @@ impl<T, X: KeyIndex<T, S>, S> Map<T, X, S> {
     /// Whether an item has the second key.
     pub fn contains_key2<Q>(&self, query: Q) -> bool
     where
-        X: HashedAt<Second, T, S>,
-        Q: HashQuery<X::Key>,
-        ensures { (result ≡ false) ↔ HasNoHit self.now.store (passes_by X.key_at (Q.stands_for query)) }
+        X: UniqueAt<Second, Q, T, S>,
+        ensures { (result ≡ false) ↔ HasNoHit self.now.store (X.stands_for query) }
     {
         self.contains_by::<Second, Q>(query)
     }
@@ -139,9 +128,8 @@ impl<T, X: KeyIndex<T, S>, S> Map<T, X, S> {
     /// The item that has the second key.
     pub fn get2<Q>(&self, query: Q) -> Option<&T>
     where
-        X: HashedAt<Second, T, S>,
-        Q: HashQuery<X::Key>,
-        ensures { FindsItem self.now.store (passes_by X.key_at (Q.stands_for query)) (option_copied result) }
+        X: UniqueAt<Second, Q, T, S>,
+        ensures { FindsItem self.now.store (X.stands_for query) (option_copied result) }
     {
         self.get_by::<Second, Q>(query)
     }
@@ -149,10 +137,9 @@ impl<T, X: KeyIndex<T, S>, S> Map<T, X, S> {
     /// Removes the item that has the second key, and returns it. It takes no memory.
     pub fn remove2<Q>(&mut self, query: Q) -> Option<T>
     where
-        X: TakesAt<Second, T, S>,
-        Q: HashQuery<X::Key>,
-        ensures removes { Removes self.old (passes_by X.key_at (Q.stands_for query)) result self.new }
-        ensures gone { HasNoHit self.new.store (passes_by X.key_at (Q.stands_for query)) }
+        X: UniqueAt<Second, Q, T, S>,
+        ensures removes { Removes self.old (X.stands_for query) result self.new }
+        ensures gone { HasNoHit self.new.store (X.stands_for query) }
         ensures room { room self.old ≤ room self.new }
         ensures count { OnSome result (live_count self.old.store ≡ live_count self.new.store + 1) }
         ensures unchanged { IfNone result (self.new ≡ self.old) }
@@ -165,10 +152,9 @@ impl<T, X: KeyIndex<T, S>, S> Map<T, X, S> {
     /// Replaces the item that has the second key, as `replace1` does.
     pub fn replace2<Q>(&mut self, query: Q, item: T) -> Result<T, ReplaceRefusal<T, X::Conflict>>
     where
-        X: FindsWithHashAt<Second, T, S> + Moves<T, S>,
-        Q: HashQuery<X::Key>,
+        X: UniqueAt<Second, Q, T, S>,
         ensures replaces { Replaces X.alike X.same_keys X.may_need_memory X.taken self.old
-            (passes_by X.key_at (Q.stands_for query)) item result self.new }
+            (X.stands_for query) item result self.new }
         ensures room { room self.new ≡ room self.old }
         ensures count { live_count self.new.store ≡ live_count self.old.store }
     {
@@ -182,11 +168,10 @@ impl<T, X: KeyIndex<T, S>, S> Map<T, X, S> {
         f: F,
     ) -> Result<Option<T>, ReplaceRefusal<T, X::Conflict>>
     where
-        X: FindsWithHashAt<Second, T, S> + Moves<T, S>,
-        Q: HashQuery<X::Key>,
-        requires { MayChange F.FnOnce f self.old.store (passes_by X.key_at (Q.stands_for query)) }
+        X: UniqueAt<Second, Q, T, S>,
+        requires { MayChange F.FnOnce f self.old.store (X.stands_for query) }
         ensures changes { ChangesByCall X.alike X.same_keys X.may_need_memory X.taken F.FnOnce f self.old
-            (passes_by X.key_at (Q.stands_for query)) result self.new }
+            (X.stands_for query) result self.new }
         ensures room { room self.new ≡ room self.old }
         ensures count { live_count self.new.store ≡ live_count self.old.store }
     {
@@ -196,11 +181,9 @@ impl<T, X: KeyIndex<T, S>, S> Map<T, X, S> {
     /// Calls the closure with a `&mut` to the item that has the second key, as `modify1` does.
     pub fn modify2<Q, R, F: FnOnce(&mut T) -> R>(&mut self, query: Q, f: F) -> Option<R>
     where
-        X: HashedAt<Second, T, S>,
-        Q: HashQuery<X::Key>,
-        requires { let named = passes_by X.key_at (Q.stands_for query) in
-            KeepsKey F.FnOnce f X.keys (λ item. FindsItem self.old.store named (Some item)) }
-        ensures modifies { Modifies F.FnOnce f self.old (passes_by X.key_at (Q.stands_for query)) result self.new }
+        X: UniqueAt<Second, Q, T, S>,
+        requires { KeepsKey F.FnOnce f X.keys (λ item. FindsItem self.old.store (X.stands_for query) (Some item)) }
+        ensures modifies { Modifies F.FnOnce f self.old (X.stands_for query) result self.new }
         ensures room { room self.old ≤ room self.new }
     {
         self.modify_by::<Second, Q, R, F>(query, f)
@@ -209,9 +192,8 @@ impl<T, X: KeyIndex<T, S>, S> Map<T, X, S> {
     /// The index of the item that has the third key for which the query stands, found as `find1` finds it.
     pub fn find3<Q>(&self, query: Q) -> Option<ItemIndex>
     where
-        X: HashedAt<Third, T, S>,
-        Q: HashQuery<X::Key>,
-        ensures { AnswersScan self.now.store (passes_by X.key_at (Q.stands_for query)) result }
+        X: UniqueAt<Third, Q, T, S>,
+        ensures { AnswersScan self.now.store (X.stands_for query) result }
     {
         self.find_by::<Third, Q>(query)
     }
@@ -219,9 +201,8 @@ impl<T, X: KeyIndex<T, S>, S> Map<T, X, S> {
     /// Whether an item has the third key.
     pub fn contains_key3<Q>(&self, query: Q) -> bool
     where
-        X: HashedAt<Third, T, S>,
-        Q: HashQuery<X::Key>,
-        ensures { (result ≡ false) ↔ HasNoHit self.now.store (passes_by X.key_at (Q.stands_for query)) }
+        X: UniqueAt<Third, Q, T, S>,
+        ensures { (result ≡ false) ↔ HasNoHit self.now.store (X.stands_for query) }
     {
         self.contains_by::<Third, Q>(query)
     }
@@ -229,9 +210,8 @@ impl<T, X: KeyIndex<T, S>, S> Map<T, X, S> {
     /// The item that has the third key.
     pub fn get3<Q>(&self, query: Q) -> Option<&T>
     where
-        X: HashedAt<Third, T, S>,
-        Q: HashQuery<X::Key>,
-        ensures { FindsItem self.now.store (passes_by X.key_at (Q.stands_for query)) (option_copied result) }
+        X: UniqueAt<Third, Q, T, S>,
+        ensures { FindsItem self.now.store (X.stands_for query) (option_copied result) }
     {
         self.get_by::<Third, Q>(query)
     }
@@ -239,10 +219,9 @@ impl<T, X: KeyIndex<T, S>, S> Map<T, X, S> {
     /// Removes the item that has the third key, and returns it. It takes no memory.
     pub fn remove3<Q>(&mut self, query: Q) -> Option<T>
     where
-        X: TakesAt<Third, T, S>,
-        Q: HashQuery<X::Key>,
-        ensures removes { Removes self.old (passes_by X.key_at (Q.stands_for query)) result self.new }
-        ensures gone { HasNoHit self.new.store (passes_by X.key_at (Q.stands_for query)) }
+        X: UniqueAt<Third, Q, T, S>,
+        ensures removes { Removes self.old (X.stands_for query) result self.new }
+        ensures gone { HasNoHit self.new.store (X.stands_for query) }
         ensures room { room self.old ≤ room self.new }
         ensures count { OnSome result (live_count self.old.store ≡ live_count self.new.store + 1) }
         ensures unchanged { IfNone result (self.new ≡ self.old) }
@@ -255,10 +234,9 @@ impl<T, X: KeyIndex<T, S>, S> Map<T, X, S> {
     /// Replaces the item that has the third key, as `replace1` does.
     pub fn replace3<Q>(&mut self, query: Q, item: T) -> Result<T, ReplaceRefusal<T, X::Conflict>>
     where
-        X: FindsWithHashAt<Third, T, S> + Moves<T, S>,
-        Q: HashQuery<X::Key>,
+        X: UniqueAt<Third, Q, T, S>,
         ensures replaces { Replaces X.alike X.same_keys X.may_need_memory X.taken self.old
-            (passes_by X.key_at (Q.stands_for query)) item result self.new }
+            (X.stands_for query) item result self.new }
         ensures room { room self.new ≡ room self.old }
         ensures count { live_count self.new.store ≡ live_count self.old.store }
     {
@@ -272,11 +250,10 @@ impl<T, X: KeyIndex<T, S>, S> Map<T, X, S> {
         f: F,
     ) -> Result<Option<T>, ReplaceRefusal<T, X::Conflict>>
     where
-        X: FindsWithHashAt<Third, T, S> + Moves<T, S>,
-        Q: HashQuery<X::Key>,
-        requires { MayChange F.FnOnce f self.old.store (passes_by X.key_at (Q.stands_for query)) }
+        X: UniqueAt<Third, Q, T, S>,
+        requires { MayChange F.FnOnce f self.old.store (X.stands_for query) }
         ensures changes { ChangesByCall X.alike X.same_keys X.may_need_memory X.taken F.FnOnce f self.old
-            (passes_by X.key_at (Q.stands_for query)) result self.new }
+            (X.stands_for query) result self.new }
         ensures room { room self.new ≡ room self.old }
         ensures count { live_count self.new.store ≡ live_count self.old.store }
     {
@@ -286,11 +263,9 @@ impl<T, X: KeyIndex<T, S>, S> Map<T, X, S> {
     /// Calls the closure with a `&mut` to the item that has the third key, as `modify1` does.
     pub fn modify3<Q, R, F: FnOnce(&mut T) -> R>(&mut self, query: Q, f: F) -> Option<R>
     where
-        X: HashedAt<Third, T, S>,
-        Q: HashQuery<X::Key>,
-        requires { let named = passes_by X.key_at (Q.stands_for query) in
-            KeepsKey F.FnOnce f X.keys (λ item. FindsItem self.old.store named (Some item)) }
-        ensures modifies { Modifies F.FnOnce f self.old (passes_by X.key_at (Q.stands_for query)) result self.new }
+        X: UniqueAt<Third, Q, T, S>,
+        requires { KeepsKey F.FnOnce f X.keys (λ item. FindsItem self.old.store (X.stands_for query) (Some item)) }
+        ensures modifies { Modifies F.FnOnce f self.old (X.stands_for query) result self.new }
         ensures room { room self.old ≤ room self.new }
     {
         self.modify_by::<Third, Q, R, F>(query, f)

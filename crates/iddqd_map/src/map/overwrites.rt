@@ -13,14 +13,14 @@ ghost use Rattle.iddqd_keys.specs.Removals.{padded};
 
 use super::Map;
 use super::inserts::insert;
-use super::steps::{next_in_room, put_into, store_in_room};
-use crate::key_index::Inserts;
+use super::steps::{next_in_room, put_into, store_in_room, take_out};
+use crate::key_index::KeyIndex;
 use crate::refusal::{InsertRefusal, OverwriteRefusal};
 use iddqd::item_index::ItemIndex;
 use iddqd::item_set::ItemSet;
 use std::alloc::AllocError;
 
-impl<T, X: Inserts<T, S>, S> Map<T, X, S> {
+impl<T, X: KeyIndex<T, S>, S> Map<T, X, S> {
     /// Inserts an item, and returns its index. Stored items that share a key with it are first moved into `places`, by
     /// rising index.
     ///
@@ -34,7 +34,7 @@ impl<T, X: Inserts<T, S>, S> Map<T, X, S> {
     ) -> Result<ItemIndex, OverwriteRefusal<T>>
         requires enough { X.unique_keys ≤ length places.old }
         requires vacant { places.old ≡ padded (length places.old) [] }
-        ensures inserts { OverwritesInto X.alike X.most X.may_need_memory (length places.old) self.old item result
+        ensures inserts { OverwritesInto X.alike X.grown X.may_need_memory (length places.old) self.old item result
             places.new self.new }
         ensures count { OnOk result (live_count self.new.store + count_by is_some places.new
             ≡ live_count self.old.store + 1) }
@@ -43,12 +43,12 @@ impl<T, X: Inserts<T, S>, S> Map<T, X, S> {
         ensures room { OnOk result (1 ≤ map_room self.old
             → map_room self.new + 1 ≡ map_room self.old + count_by is_some places.new) }
     {
-        let known = X::known(&self.state, &item);
+        let hashes = X::hashes(&self.state, &item);
         insert_or_overwrite(
             &mut self.items,
             &mut self.indexes,
             &self.state,
-            known,
+            hashes,
             item,
             places,
         )
@@ -57,27 +57,27 @@ impl<T, X: Inserts<T, S>, S> Map<T, X, S> {
 
 // Stores the item, and inserts its index. Those that share a key with it are removed into the places.
 #[inline(always)]
-fn insert_or_overwrite<T, X: Inserts<T, S>, S>(
+fn insert_or_overwrite<T, X: KeyIndex<T, S>, S>(
     items: &mut ItemSet<T>,
     indexes: &mut X,
     state: &S,
-    known: X::Known,
+    hashes: X::Hashes,
     item: T,
     places: &mut [Option<T>],
 ) -> Result<ItemIndex, OverwriteRefusal<T>>
     requires map { IsIndexed (X.indexes indexes.old) state.now items.old.store }
-    requires hashed { X.is_known state.now item known }
+    requires hashed { X.are_hashes state.now item hashes }
     requires enough { X.unique_keys ≤ length places.old }
     requires vacant { places.old ≡ padded (length places.old) [] }
     ensures map { IsIndexed (X.indexes indexes.new) state.now items.new.store }
-    ensures overwrites { OverwritesInto X.alike X.most X.may_need_memory (length places.old)
+    ensures overwrites { OverwritesInto X.alike X.grown X.may_need_memory (length places.old)
         (map_with items.old (X.capacity indexes.old) (X.cells indexes.old)) item result places.new
         (map_with items.new (X.capacity indexes.new) (X.cells indexes.new)) }
 {
-    match insert(items, indexes, state, known, item) {
+    match insert(items, indexes, state, hashes, item) {
         Ok(ix) => Ok(ix),
         Err(InsertRefusal::Duplicate { item, at }) => {
-            overwrite(items, indexes, state, known, item, &at, places)
+            overwrite(items, indexes, state, hashes, item, &at, places)
         }
         Err(InsertRefusal::Full(item)) => Err(OverwriteRefusal::Full(item)),
         Err(InsertRefusal::Memory(item)) => Err(OverwriteRefusal::Memory(item)),
@@ -86,34 +86,35 @@ fn insert_or_overwrite<T, X: Inserts<T, S>, S>(
 
 // Removes the items that share a key with this one, stores it and inserts its index. If memory runs out, it returns the
 // item before anything is removed.
-fn overwrite<T, X: Inserts<T, S>, S>(
+fn overwrite<T, X: KeyIndex<T, S>, S>(
     items: &mut ItemSet<T>,
     indexes: &mut X,
     state: &S,
-    known: X::Known,
+    hashes: X::Hashes,
     item: T,
     at: &X::Conflict,
     places: &mut [Option<T>],
 ) -> Result<ItemIndex, OverwriteRefusal<T>>
     requires map { IsIndexed (X.indexes indexes.old) state.now items.old.store }
-    requires hashed { X.is_known state.now item known }
+    requires hashed { X.are_hashes state.now item hashes }
     requires reported { X.conflicts items.old.store item at.now }
     requires enough { X.unique_keys ≤ length places.old }
     requires vacant { places.old ≡ padded (length places.old) [] }
     ensures map { IsIndexed (X.indexes indexes.new) state.now items.new.store }
-    ensures overwrites { OverwritesInto X.alike X.most X.may_need_memory (length places.old)
+    ensures overwrites { OverwritesInto X.alike X.grown X.may_need_memory (length places.old)
         (map_with items.old (X.capacity indexes.old) (X.cells indexes.old)) item result places.new
         (map_with items.new (X.capacity indexes.new) (X.cells indexes.new)) }
 {
-    if let Err(AllocError) = indexes.ready_after(items, state) {
-        return Err(OverwriteRefusal::Memory(item));
-    }
+    let spare = match indexes.spare_after(items, state) {
+        Ok(spare) => spare,
+        Err(AllocError) => return Err(OverwriteRefusal::Memory(item)),
+    };
     remove_reported(items, indexes, state, at, places);
-    Ok(enter_in_room(items, indexes, state, known, item))
+    Ok(insert_in_room(items, indexes, state, hashes, spare, item))
 }
 
 // Removes the items that were reported, at least one, into the places, by rising index.
-fn remove_reported<T, X: Inserts<T, S>, S>(
+fn remove_reported<T, X: KeyIndex<T, S>, S>(
     items: &mut ItemSet<T>,
     indexes: &mut X,
     state: &S,
@@ -121,7 +122,6 @@ fn remove_reported<T, X: Inserts<T, S>, S>(
     places: &mut [Option<T>],
 )
     requires map { IsIndexed (X.indexes indexes.old) state.now items.old.store }
-    requires ready { X.is_ready_after indexes.old }
     requires live { (ix : ℕ) → X.reports at.now ix → IsLive items.old.store ix }
     requires some { (ix : ℕ) × X.reports at.now ix }
     requires enough { X.unique_keys ≤ length places.old }
@@ -130,65 +130,44 @@ fn remove_reported<T, X: Inserts<T, S>, S>(
     ensures taken { TakesAll (X.reports at.now) (length places.old) items.old.store places.new items.new.store }
     ensures slots { items.new.capacity ≡ items.old.capacity }
     ensures room { 1 ≤ room items.new }
-    ensures roomy { (plan : X.Plan) → X.has_room_for indexes.new plan }
+    ensures roomy { (plan : X.InsertPlan) (spare : X.Spare) → X.does_after indexes.old spare
+        → X.has_room_for indexes.new plan spare }
     ensures capacity { X.capacity indexes.new ≡ X.capacity indexes.old }
     ensures cells { X.cells indexes.new ≡ X.cells indexes.old }
 {
     let mut count = 0;
     let mut next = X::next_reported(at, None);
     while let Some(ix) = next {
-        let taken = make_way(items, indexes, state, ix);
+        let taken = take_out(items, indexes, state, ix);
         put_into(places, count, taken);
         count += 1;
         next = X::next_reported(at, Some(ix));
     }
 }
 
-// Removes the item at a live index from the store, and its index from the key index, so that there is room for the
-// insert that follows. It takes no memory.
-fn make_way<T, X: Inserts<T, S>, S>(
-    items: &mut ItemSet<T>,
-    indexes: &mut X,
-    state: &S,
-    ix: ItemIndex,
-) -> Option<T>
-    requires live { IsLive items.old.store ix }
-    requires map { IsIndexed (X.indexes indexes.old) state.now items.old.store }
-    ensures value { result ≡ get items.old.store ix }
-    ensures map { IsIndexed (X.indexes indexes.new) state.now items.new.store }
-    ensures removed { items.new ≡ record items.old { store = removed items.old.store ix } }
-    ensures items_room { room items.new ≡ room items.old + 1 }
-    ensures capacity { X.capacity indexes.new ≡ X.capacity indexes.old }
-    ensures cells { X.cells indexes.new ≡ X.cells indexes.old }
-    ensures ready { X.is_ready_after indexes.old → X.is_ready_after indexes.new }
-    ensures roomy { (plan : X.Plan) → X.is_ready_after indexes.old → X.has_room_for indexes.new plan }
-{
-    indexes.give_way(items, state, ix);
-    items.remove(ix)
-}
-
 // Stores an item that shares no key with another, and inserts its index. There is room for it.
-fn enter_in_room<T, X: Inserts<T, S>, S>(
+fn insert_in_room<T, X: KeyIndex<T, S>, S>(
     items: &mut ItemSet<T>,
     indexes: &mut X,
     state: &S,
-    known: X::Known,
+    hashes: X::Hashes,
+    spare: X::Spare,
     item: T,
 ) -> ItemIndex
     requires map { IsIndexed (X.indexes indexes.old) state.now items.old.store }
-    requires hashed { X.is_known state.now item known }
+    requires hashed { X.are_hashes state.now item hashes }
     requires apart { HasNoHit items.old.store (X.alike item) }
     requires room { 1 ≤ room items.old }
-    requires roomy { (plan : X.Plan) → X.has_room_for indexes.old plan }
+    requires roomy { (plan : X.InsertPlan) → X.has_room_for indexes.old plan spare }
     ensures index { result ≡ next_index items.old.store }
     ensures map { IsIndexed (X.indexes indexes.new) state.now items.new.store }
     ensures stored { items.new ≡ record items.old { store = inserted items.old.store item } }
     ensures capacity { X.capacity indexes.new ≡ X.capacity indexes.old }
     ensures cells { X.cells indexes.new ≡ X.cells indexes.old }
 {
-    let spot = indexes.spot(items, state, known, &item);
+    let place = indexes.place(items, state, hashes, &item);
     let ix = next_in_room(items);
-    let plan = indexes.plan(items, state, spot, ix, &item);
-    indexes.insert(known, &plan, ix);
+    let plan = indexes.plan(items, state, place, ix, &item);
+    indexes.insert(hashes, &plan, spare, ix);
     store_in_room(items, item)
 }

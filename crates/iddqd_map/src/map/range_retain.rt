@@ -8,9 +8,10 @@ ghost use Rattle.iddqd.specs.{get, live_count, removed};
 ghost use Rattle.std.specs.Range.Bound.{bound_map};
 ghost use Rattle.iddqd_keys.specs.KeyWalk.{IsNextHit};
 ghost use Rattle.iddqd_keys.specs.OrderedQuery.{is_equal, is_up_to, is_within};
-ghost use Rattle.iddqd_keys.specs.Scan.{IsLive, passes_by};
+ghost use Rattle.iddqd_keys.specs.Scan.{IsLive};
 ghost use Rattle.iddqd_map.specs.KeyIndex.{IsIndexed};
 ghost use Rattle.iddqd_map.specs.Map.{room};
+ghost use Rattle.iddqd_map.specs.Ranges.{itself};
 ghost use Rattle.iddqd_map.specs.RangeRetain.{AsksWithin, KeepsMisses, MayAskWithin, RetainsWithin};
 
 use super::Map;
@@ -18,7 +19,6 @@ use super::steps::take_out_between;
 use crate::key_index::{KeyIndex, OrderedAt};
 use iddqd::item_index::ItemIndex;
 use iddqd::item_set::ItemSet;
-use iddqd_keys::order_query::OrdQuery;
 use std::ops::Bound;
 
 impl<T, X: KeyIndex<T, S>, S> Map<T, X, S> {
@@ -36,55 +36,91 @@ impl<T, X: KeyIndex<T, S>, S> Map<T, X, S> {
     ) -> usize
     where
         T: Drop,
-        X: OrderedAt<P, T, S>,
-        Q: OrdQuery<X::Key>,
-        requires { MayAskWithin X.key_at X.Key.cmp (is_within Q.compare lower upper) (TakesAt F.FnMut)
+        X: OrderedAt<P, Q, T, S>,
+        Q: Copy,
+        requires { MayAskWithin X.order (is_within X.compare lower upper) (TakesAt F.FnMut)
             (CalledAt F.FnMut) f self.old.store }
-        ensures asked { (last : F) × RetainsWithin X.key_at X.Key.cmp (is_within Q.compare lower upper)
+        ensures asked { (last : F) × RetainsWithin X.order (is_within X.compare lower upper)
             (CalledAt F.FnMut) f self.old.store self.new.store last }
-        ensures others { KeepsMisses self.old.store (passes_by X.key_at (is_within Q.compare lower upper))
+        ensures others { KeepsMisses self.old.store (is_within X.compare lower upper)
             self.new.store }
         ensures memory { self.new.memory ≡ self.old.memory }
         ensures room { room self.old ≤ room self.new }
         ensures count { result + live_count self.new.store ≡ live_count self.old.store }
     {
-        let before = self.items.len();
-        retain_within::<P, T, S, X, Q, F>(
+        retain_counted::<P, Q, T, S, X, F>(
             &mut self.items,
             &mut self.indexes,
             &self.state,
             lower,
             upper,
             &mut f,
-        );
-        before - self.items.len()
+        )
     }
 
     /// Keeps, of the items that have the key for which the query stands, those at which the closure answers true, and
     /// returns how many it removed. The closure is called at each of them, by index. Otherwise it behaves as
     /// `retain_range_by`.
-    pub fn retain_group_by<P, Q, F: FnMut(&T) -> bool>(&mut self, query: Q, f: F) -> usize
+    pub fn retain_group_by<P, Q, F: FnMut(&T) -> bool>(&mut self, query: Q, mut f: F) -> usize
     where
         T: Drop,
-        X: OrderedAt<P, T, S>,
-        Q: OrdQuery<X::Key>,
-        requires { MayAskWithin X.key_at X.Key.cmp (is_equal (Q.compare query)) (TakesAt F.FnMut) (CalledAt F.FnMut) f
+        X: OrderedAt<P, Q, T, S>,
+        Q: Copy,
+        requires { MayAskWithin X.order (is_equal (X.compare query)) (TakesAt F.FnMut) (CalledAt F.FnMut) f
             self.old.store }
-        ensures asked { (last : F) × RetainsWithin X.key_at X.Key.cmp (is_equal (Q.compare query)) (CalledAt F.FnMut) f
+        ensures asked { (last : F) × RetainsWithin X.order (is_equal (X.compare query)) (CalledAt F.FnMut) f
             self.old.store self.new.store last }
-        ensures others { KeepsMisses self.old.store (passes_by X.key_at (is_equal (Q.compare query))) self.new.store }
+        ensures others { KeepsMisses self.old.store (is_equal (X.compare query)) self.new.store }
         ensures memory { self.new.memory ≡ self.old.memory }
         ensures room { room self.old ≤ room self.new }
         ensures count { result + live_count self.new.store ≡ live_count self.old.store }
     {
         let (from, to) = (Bound::Included(query), Bound::Included(query));
-        self.retain_range_by::<P, Q, F>(from, to, f)
+        retain_counted::<P, Q, T, S, X, F>(
+            &mut self.items,
+            &mut self.indexes,
+            &self.state,
+            from,
+            to,
+            &mut f,
+        )
     }
+}
+
+// Keeps, of the items whose keys are within the bounds, those at which the closure answers true, and returns how many it
+// removed. The closure stays in the state that its last call leaves.
+fn retain_counted<P, Q, T: Drop, S, X, F: FnMut(&T) -> bool>(
+    items: &mut ItemSet<T>,
+    indexes: &mut X,
+    state: &S,
+    lower: Bound<Q>,
+    upper: Bound<Q>,
+    f: &mut F,
+) -> usize
+where
+    X: OrderedAt<P, Q, T, S>,
+    Q: Copy,
+    requires indexed { IsIndexed (X.indexes indexes.old) state.now items.old.store }
+    requires can_ask { let within = is_within X.compare lower upper in
+        AsksWithin X.order within (TakesAt F.FnMut) (CalledAt F.FnMut) f.old items.old.store }
+    ensures indexed { IsIndexed (X.indexes indexes.new) state.now items.new.store }
+    ensures asked { let within = is_within X.compare lower upper in
+        RetainsWithin X.order within (CalledAt F.FnMut) f.old items.old.store items.new.store f.new }
+    ensures others { KeepsMisses items.old.store (is_within X.compare lower upper) items.new.store }
+    ensures count { result + live_count items.new.store ≡ live_count items.old.store }
+    ensures limit { items.new.store.limit ≡ items.old.store.limit }
+    ensures slots { items.new.capacity ≡ items.old.capacity }
+    ensures capacity { X.capacity indexes.new ≡ X.capacity indexes.old }
+    ensures cells { X.cells indexes.new ≡ X.cells indexes.old }
+{
+    let before = items.len();
+    retain_within::<P, Q, T, S, X, F>(items, indexes, state, lower, upper, f);
+    before - items.len()
 }
 
 // Keeps, of the items whose keys are within the bounds, those at which the closure answers true. The closure stays in
 // the state that its last call leaves.
-fn retain_within<P, T: Drop, S, X, Q, F: FnMut(&T) -> bool>(
+fn retain_within<P, Q, T: Drop, S, X, F: FnMut(&T) -> bool>(
     items: &mut ItemSet<T>,
     indexes: &mut X,
     state: &S,
@@ -93,16 +129,15 @@ fn retain_within<P, T: Drop, S, X, Q, F: FnMut(&T) -> bool>(
     f: &mut F,
 )
 where
-    X: OrderedAt<P, T, S>,
-    Q: OrdQuery<X::Key>,
+    X: OrderedAt<P, Q, T, S>,
+    Q: Copy,
     requires indexed { IsIndexed (X.indexes indexes.old) state.now items.old.store }
-    requires can_ask { let within = is_within Q.compare lower upper in
-        AsksWithin X.key_at X.Key.cmp within (TakesAt F.FnMut) (CalledAt F.FnMut) f.old items.old.store }
+    requires can_ask { let within = is_within X.compare lower upper in
+        AsksWithin X.order within (TakesAt F.FnMut) (CalledAt F.FnMut) f.old items.old.store }
     ensures indexed { IsIndexed (X.indexes indexes.new) state.now items.new.store }
-    ensures asked { let within = is_within Q.compare lower upper in
-        RetainsWithin X.key_at X.Key.cmp within (CalledAt F.FnMut) f.old items.old.store items.new.store f.new }
-    ensures others { let within = is_within Q.compare lower upper in
-        KeepsMisses items.old.store (passes_by X.key_at within) items.new.store }
+    ensures asked { let within = is_within X.compare lower upper in
+        RetainsWithin X.order within (CalledAt F.FnMut) f.old items.old.store items.new.store f.new }
+    ensures others { KeepsMisses items.old.store (is_within X.compare lower upper) items.new.store }
     ensures fewer { live_count items.new.store ≤ live_count items.old.store }
     ensures limit { items.new.store.limit ≡ items.old.store.limit }
     ensures slots { items.new.capacity ≡ items.old.capacity }
@@ -114,7 +149,7 @@ where
     };
     let mut next = Some(first);
     while let Some(ix) = next {
-        let (_, then) = retain_at::<P, T, S, X, Q, F>(
+        let (_, then) = retain_at::<P, Q, T, S, X, F>(
             items, indexes, state, &mut spot, ix, upper, f,
         );
         next = then;
@@ -123,7 +158,7 @@ where
 
 // Calls the closure at the item at a live index, and removes the item if the closure answers false. Returns the answer,
 // and the next index behind it whose item's key is within the bound, to which the spot is moved.
-fn retain_at<P, T: Drop, S, X, Q, F: FnMut(&T) -> bool>(
+fn retain_at<P, Q, T: Drop, S, X, F: FnMut(&T) -> bool>(
     items: &mut ItemSet<T>,
     indexes: &mut X,
     state: &S,
@@ -133,15 +168,14 @@ fn retain_at<P, T: Drop, S, X, Q, F: FnMut(&T) -> bool>(
     f: &mut F,
 ) -> (bool, Option<ItemIndex>)
 where
-    X: OrderedAt<P, T, S>,
-    Q: OrdQuery<X::Key>,
+    X: OrderedAt<P, Q, T, S>,
+    Q: Copy,
     requires live { IsLive items.old.store ix }
     requires indexed { IsIndexed (X.indexes indexes.old) state.now items.old.store }
     requires stands { X.stands indexes.old spot.old ix }
     requires takes { (item : T) → get items.old.store ix ≡ Some item → TakesAt F.FnMut f.old item }
     ensures asked { (item : T) → get items.old.store ix ≡ Some item → CalledAt F.FnMut f.old item result.0 f.new }
-    ensures next { IsNextHit X.key_at X.Key.cmp items.old.store
-        (passes_by X.key_at (is_up_to (bound_map Q.compare upper))) ix result.1 }
+    ensures next { IsNextHit itself X.order items.old.store (is_up_to (bound_map X.compare upper)) ix result.1 }
     ensures stands { IfSome result.1 (X.stands indexes.new spot.new) }
     ensures indexed { IsIndexed (X.indexes indexes.new) state.now items.new.store }
     ensures kept { result.0 ≡ true → items.new ≡ items.old }
@@ -157,7 +191,7 @@ where
     if is_kept {
         return (is_kept, indexes.next_between(items, state, spot, ix, upper));
     }
-    let (taken, next) = take_out_between::<P, T, X, S, Q>(items, indexes, state, spot, ix, upper);
+    let (taken, next) = take_out_between::<P, Q, T, X, S>(items, indexes, state, spot, ix, upper);
     drop(taken);
     (is_kept, next)
 }

@@ -7,7 +7,6 @@ ghost use Rattle.iddqd.specs.{live_count};
 ghost use Rattle.iddqd.specs.LiveItems.{live_items};
 ghost use Rattle.iddqd_hash.specs.Asks.{CanAsk};
 ghost use Rattle.iddqd_keys.specs.OrderedQuery.{is_equal, is_within};
-ghost use Rattle.iddqd_keys.specs.Scan.{passes_by};
 ghost use Rattle.iddqd_map.specs.KeyIndex.{IsIndexed};
 ghost use Rattle.iddqd_map.specs.Map.{capacity, room};
 ghost use Rattle.iddqd_map.specs.Ranges.{LeavesOthers, TakesItem, GivesItem, MayGive, RemovesAlong};
@@ -16,7 +15,6 @@ use super::Map;
 use super::steps::take_out_between;
 use crate::key_index::{KeyIndex, OrderedAt};
 use iddqd::item_set::ItemSet;
-use iddqd_keys::order_query::OrdQuery;
 use std::ops::Bound;
 
 impl<T, X: KeyIndex<T, S>, S> Map<T, X, S> {
@@ -31,12 +29,12 @@ impl<T, X: KeyIndex<T, S>, S> Map<T, X, S> {
         mut f: F,
     ) -> usize
     where
-        X: OrderedAt<P, T, S>,
-        Q: OrdQuery<X::Key>,
+        X: OrderedAt<P, Q, T, S>,
+        Q: Copy,
         requires { MayGive F.FnMut f (live_items self.old.store) }
-        ensures left { LeavesOthers self.old.store (passes_by X.key_at (is_within Q.compare lower upper))
+        ensures left { LeavesOthers self.old.store (is_within X.compare lower upper)
             self.new.store }
-        ensures handed { (last : F) × RemovesAlong X.key_at X.Key.cmp (is_within Q.compare lower upper)
+        ensures handed { (last : F) × RemovesAlong X.order (is_within X.compare lower upper)
             (GivesItem F.FnMut) f self.old.store self.new.store last }
         ensures memory { self.new.memory ≡ self.old.memory }
         ensures room { room self.old ≤ room self.new }
@@ -44,7 +42,7 @@ impl<T, X: KeyIndex<T, S>, S> Map<T, X, S> {
         ensures freed { live_count self.old.store ≤ capacity self.old → room self.new ≡ room self.old + result }
     {
         let before = self.items.len();
-        remove_within::<P, T, S, X, Q, F>(
+        remove_within::<P, Q, T, S, X, F>(
             &mut self.items,
             &mut self.indexes,
             &self.state,
@@ -59,11 +57,11 @@ impl<T, X: KeyIndex<T, S>, S> Map<T, X, S> {
     /// receives each of them, by index. Otherwise it behaves as `remove_range_by`.
     pub fn remove_group_by<P, Q, F: FnMut(T)>(&mut self, query: Q, f: F) -> usize
     where
-        X: OrderedAt<P, T, S>,
-        Q: OrdQuery<X::Key>,
+        X: OrderedAt<P, Q, T, S>,
+        Q: Copy,
         requires { MayGive F.FnMut f (live_items self.old.store) }
-        ensures left { LeavesOthers self.old.store (passes_by X.key_at (is_equal (Q.compare query))) self.new.store }
-        ensures handed { (last : F) × RemovesAlong X.key_at X.Key.cmp (is_equal (Q.compare query))
+        ensures left { LeavesOthers self.old.store (is_equal (X.compare query)) self.new.store }
+        ensures handed { (last : F) × RemovesAlong X.order (is_equal (X.compare query))
             (GivesItem F.FnMut) f self.old.store self.new.store last }
         ensures memory { self.new.memory ≡ self.old.memory }
         ensures room { room self.old ≤ room self.new }
@@ -77,7 +75,7 @@ impl<T, X: KeyIndex<T, S>, S> Map<T, X, S> {
 
 // Removes the items whose keys are within the bounds, and passes each to the closure. The closure stays in the state
 // that its last call leaves.
-fn remove_within<P, T, S, X, Q, F: FnMut(T)>(
+fn remove_within<P, Q, T, S, X, F: FnMut(T)>(
     items: &mut ItemSet<T>,
     indexes: &mut X,
     state: &S,
@@ -86,16 +84,16 @@ fn remove_within<P, T, S, X, Q, F: FnMut(T)>(
     f: &mut F,
 )
 where
-    X: OrderedAt<P, T, S>,
-    Q: OrdQuery<X::Key>,
+    X: OrderedAt<P, Q, T, S>,
+    Q: Copy,
     requires indexed { IsIndexed (X.indexes indexes.old) state.now items.old.store }
     requires can_give { CanAsk (TakesItem F.FnMut) (λ p x (b : Bool) q. GivesItem F.FnMut p x q) f.old
         (live_items items.old.store) }
     ensures indexed { IsIndexed (X.indexes indexes.new) state.now items.new.store }
-    ensures left { let within = is_within Q.compare lower upper in
-        LeavesOthers items.old.store (passes_by X.key_at within) items.new.store }
-    ensures handed { let within = is_within Q.compare lower upper in
-        RemovesAlong X.key_at X.Key.cmp within (GivesItem F.FnMut) f.old items.old.store items.new.store f.new }
+    ensures left { let within = is_within X.compare lower upper in
+        LeavesOthers items.old.store within items.new.store }
+    ensures handed { let within = is_within X.compare lower upper in
+        RemovesAlong X.order within (GivesItem F.FnMut) f.old items.old.store items.new.store f.new }
     ensures fewer { live_count items.new.store ≤ live_count items.old.store }
     ensures limit { items.new.store.limit ≡ items.old.store.limit }
     ensures slots { items.new.capacity ≡ items.old.capacity }
@@ -107,7 +105,7 @@ where
     };
     let mut next = Some(first);
     while let Some(ix) = next {
-        let (taken, then) = take_out_between::<P, T, X, S, Q>(
+        let (taken, then) = take_out_between::<P, Q, T, X, S>(
             items, indexes, state, &mut spot, ix, upper,
         );
         match taken {

@@ -7,13 +7,13 @@ ghost use Rattle.iddqd_map.specs.Calls.{ReplacesAt, ReplacesIfLive, Replaces};
 ghost use Rattle.iddqd_map.specs.KeyIndex.{IsIndexed};
 
 use super::Map;
-use crate::key_index::Moves;
+use crate::key_index::KeyIndex;
 use crate::refusal::ReplaceRefusal;
 use iddqd::item_index::ItemIndex;
 use iddqd::item_set::ItemSet;
 use std::alloc::AllocError;
 
-impl<T, X: Moves<T, S>, S> Map<T, X, S> {
+impl<T, X: KeyIndex<T, S>, S> Map<T, X, S> {
     /// Replaces the item at an index, and returns the old one; `Missing` if the index has no item.
     ///
     /// The new item may have other keys. It gets the same index. If other items have a key of it, or memory runs out,
@@ -43,11 +43,11 @@ impl<T, X: Moves<T, S>, S> Map<T, X, S> {
 }
 
 // Replaces the item at a live index. All memory is taken before anything is written.
-pub(super) fn replace<T, X: Moves<T, S>, S>(
+pub(super) fn replace<T, X: KeyIndex<T, S>, S>(
     items: &mut ItemSet<T>,
     indexes: &mut X,
     state: &S,
-    asked: X::KnownHashes,
+    known: X::KnownHashes,
     ix: ItemIndex,
     item: T,
 ) -> Result<T, ReplaceRefusal<T, X::Conflict>>
@@ -65,19 +65,20 @@ pub(super) fn replace<T, X: Moves<T, S>, S>(
         Ok(plan) => plan,
         Err(at) => return Err(ReplaceRefusal::Duplicate { item, at }),
     };
-    if let Err(AllocError) = indexes.ready_move(items, state, &plan) {
-        return Err(ReplaceRefusal::Memory(item));
-    }
-    indexes.commit_move(items, state, asked, &plan, ix, &item);
+    let spare = match indexes.spare_for(items, state, &plan) {
+        Ok(spare) => spare,
+        Err(AllocError) => return Err(ReplaceRefusal::Memory(item)),
+    };
+    indexes.commit_move(items, state, known, &plan, spare, ix, &item);
     Ok(items.replace(ix, item))
 }
 
 // Replaces the item that a look-up found.
-pub(super) fn replace_found<T, X: Moves<T, S>, S>(
+pub(super) fn replace_found<T, X: KeyIndex<T, S>, S>(
     items: &mut ItemSet<T>,
     indexes: &mut X,
     state: &S,
-    asked: X::KnownHashes,
+    known: X::KnownHashes,
     found: Option<ItemIndex>,
     item: T,
 ) -> Result<T, ReplaceRefusal<T, X::Conflict>>
@@ -93,7 +94,7 @@ pub(super) fn replace_found<T, X: Moves<T, S>, S>(
     ensures count { live_count items.new.store ≡ live_count items.old.store }
 {
     match found {
-        Some(ix) => replace(items, indexes, state, asked, ix, item),
+        Some(ix) => replace(items, indexes, state, known, ix, item),
         None => Err(ReplaceRefusal::Missing(item)),
     }
 }

@@ -4,18 +4,18 @@ ghost use Rattle.std.specs.Range.Bound.{bound_map};
 ghost use Rattle.iddqd.specs.{get, next_index, inserted, removed, room, sentinel};
 ghost use Rattle.iddqd_keys.specs.KeyWalk.{IsNextHit};
 ghost use Rattle.iddqd_keys.specs.OrderedQuery.{is_up_to};
-ghost use Rattle.iddqd_keys.specs.Scan.{IsLive, passes_by};
+ghost use Rattle.iddqd_keys.specs.Scan.{IsLive};
 ghost use Rattle.iddqd_map.specs.KeyIndex.{IsIndexed};
+ghost use Rattle.iddqd_map.specs.Ranges.{itself};
 
-use crate::key_index::{OrderedAt, Removes};
+use crate::key_index::{KeyIndex, OrderedAt};
 use iddqd::item_index::ItemIndex;
 use iddqd::item_set::ItemSet;
-use iddqd_keys::order_query::OrdQuery;
 use std::mem;
 use std::ops::Bound;
 
 /// Removes the item at a live index from the store, and its index from the key index. It takes no memory.
-pub(super) fn take_out<T, X: Removes<T, S>, S>(
+pub(super) fn take_out<T, X: KeyIndex<T, S>, S>(
     items: &mut ItemSet<T>,
     indexes: &mut X,
     state: &S,
@@ -29,6 +29,9 @@ pub(super) fn take_out<T, X: Removes<T, S>, S>(
     ensures items_room { room items.new ≡ room items.old + 1 }
     ensures capacity { X.capacity indexes.new ≡ X.capacity indexes.old }
     ensures cells { X.cells indexes.new ≡ X.cells indexes.old }
+    ensures does { (spare : X.Spare) → X.does_after indexes.old spare → X.does_after indexes.new spare }
+    ensures roomy { (plan : X.InsertPlan) (spare : X.Spare) → X.does_after indexes.old spare
+        → X.has_room_for indexes.new plan spare }
 {
     indexes.remove(items, state, ix);
     items.remove(ix)
@@ -36,7 +39,7 @@ pub(super) fn take_out<T, X: Removes<T, S>, S>(
 
 /// Removes the item at a live index as `take_out` does, and moves its spot to the next index behind it whose item's key
 /// is within the bound. Returns the item and that index.
-pub(super) fn take_out_between<P, T, X: OrderedAt<P, T, S>, S, Q: OrdQuery<X::Key>>(
+pub(super) fn take_out_between<P, Q, T, X: OrderedAt<P, Q, T, S>, S>(
     items: &mut ItemSet<T>,
     indexes: &mut X,
     state: &S,
@@ -48,8 +51,7 @@ pub(super) fn take_out_between<P, T, X: OrderedAt<P, T, S>, S, Q: OrdQuery<X::Ke
     requires map { IsIndexed (X.indexes indexes.old) state.now items.old.store }
     requires stands { X.stands indexes.old spot.old ix }
     ensures value { result.0 ≡ get items.old.store ix }
-    ensures next { IsNextHit X.key_at X.Key.cmp items.old.store
-        (passes_by X.key_at (is_up_to (bound_map Q.compare upper))) ix result.1 }
+    ensures next { IsNextHit itself X.order items.old.store (is_up_to (bound_map X.compare upper)) ix result.1 }
     ensures stands { IfSome result.1 (X.stands indexes.new spot.new) }
     ensures map { IsIndexed (X.indexes indexes.new) state.now items.new.store }
     ensures removed { items.new ≡ record items.old { store = removed items.old.store ix } }

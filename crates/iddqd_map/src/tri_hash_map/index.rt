@@ -3,15 +3,13 @@
 //! A look-up by one key goes to the table by that key, and every other call to all three tables. A caller's proof sees
 //! three keys and not the tables, each of which would cost proof time in every function that calls the map.
 ghost use Rattle.std.specs.Prelude.{◌≡◌};
+ghost use Rattle.iddqd_keys.specs.Scan.{passes_by};
 ghost use Rattle.iddqd_map.specs.Map.{shares};
 ghost use Rattle.iddqd_map.specs.Several.{both_keys};
 
 use super::clash::{TriClash, all_moves, clash_of};
 use crate::by_hash::ByHash;
-use crate::key_index::{
-    Checks, FindsSame, FindsWithHashAt, First, HashedAt, Inserts, KeyIndex, Moves, Removes, Second,
-    Sizes, TakesAt, Third,
-};
+use crate::key_index::{FindsSame, First, KeyIndex, Second, Third, UniqueAt};
 use crate::reported::{lesser, past};
 use iddqd::index_remap::IndexRemap;
 use iddqd::internal::{ValidateCompact, ValidateRefusal, ValidationError};
@@ -41,14 +39,14 @@ pub struct TriIndex<T: TriHashItem> {
 impl<T: TriHashItem, S: BuildHasher> KeyIndex<T, S> for TriIndex<T> {
     ghost use Rattle.std.proofs.Common.{ap, refl};
     ghost use Rattle.std.proofs.lemmas.Cmp.{and_equiv};
-    ghost use Rattle.std.specs.Prelude.{◌≡◌, ◌+◌, min, false};
-    ghost use Rattle.iddqd_hash.specs.HashTable.{capacity, memory};
+    ghost use Rattle.std.specs.Prelude.{◌≡◌, ◌+◌, min, false, ◌≤◌, ◌||◌};
+    ghost use Rattle.iddqd_hash.specs.HashTable.{capacity, memory, room};
     ghost use Rattle.iddqd_hash.specs.MapHashTable.{filed};
     ghost use Rattle.iddqd_hash.specs.OpenTableSizes.{least_cells};
     ghost use Rattle.iddqd_hash.specs.Sizes.{most_cells};
     ghost use Rattle.iddqd_hash.proofs.LeastCellsLemmas.{least_cells-grows};
     ghost use Rattle.iddqd_by_hash.specs.Hashed.{hashing_of};
-    ghost use Rattle.iddqd_map.specs.Indexing.{Indexes};
+    ghost use Rattle.iddqd_map.specs.Indexing.{Indexes, Plans};
     ghost use Rattle.iddqd_map.specs.HashLaws.{shares_laws, Indexes-kept, Indexes-key_kept, Indexes-keys_shared};
     ghost use Rattle.iddqd_map.specs.KeyLaws.{IsOfThree, reported_three, some_three, few_three};
     ghost use Rattle.iddqd_map.specs.PairLaws.{AreApart-either, HaveSameKeys-first, HaveSameKeys-second, sum_grows};
@@ -56,10 +54,21 @@ impl<T: TriHashItem, S: BuildHasher> KeyIndex<T, S> for TriIndex<T> {
     ghost use Rattle.iddqd_map.specs.Map.{shares};
     ghost use Rattle.iddqd_map.specs.Several.{either_key, both_keys};
     ghost use Rattle.iddqd_map.specs.ThreeKeys.{any_key, all_keys, AreReported, AreTaken};
+    ghost use Rattle.iddqd_map.specs.Hashed.{moves};
 
     type Conflict = TriClash;
 
     type KnownHashes = (Option<MapHash>, (Option<MapHash>, Option<MapHash>));
+
+    type Hashes = (MapHash, (MapHash, MapHash));
+
+    type Place = ();
+
+    type InsertPlan = ();
+
+    type MovePlan = (Move, (Move, Move));
+
+    type Spare = ();
 
     ghost Keys = { T.Key1 × (T.Key2 × T.Key3) };
 
@@ -85,6 +94,8 @@ impl<T: TriHashItem, S: BuildHasher> KeyIndex<T, S> for TriIndex<T> {
 
     ghost most = { λ n. most_cells n + (most_cells n + most_cells n) };
 
+    ghost grown = { λ n. most_cells n + (most_cells n + most_cells n) };
+
     ghost kept = { λ slots count. most_cells count + (most_cells count + most_cells count) };
 
     ghost needed = { λ slots count. least_cells count + (least_cells count + least_cells count) };
@@ -106,10 +117,6 @@ impl<T: TriHashItem, S: BuildHasher> KeyIndex<T, S> for TriIndex<T> {
         (shares T.third_key T.Key3.eq) };
 
     ghost reports = { λ at. IsOfThree at.key1 at.key2 at.key3 };
-
-    fn no_hashes() -> (Option<MapHash>, (Option<MapHash>, Option<MapHash>)) {
-        (None, (None, None))
-    }
 
     ghost kept_none = { refl };
 
@@ -171,28 +178,60 @@ impl<T: TriHashItem, S: BuildHasher> KeyIndex<T, S> for TriIndex<T> {
         (shares T.third_key T.Key3.eq) };
 
     ghost few_reported = { λ at. few_three at.key1 at.key2 at.key3 };
-}
 
-impl<T: TriHashItem, S: BuildHasher> Sizes<T, S> for TriIndex<T> {
+    ghost are_hashes = { λ state item hashes.
+        (hashes.0 ≡ (hashing_of T.Key1.eq T.Key1.hash_input S.BuildHasher S.Hasher.Hasher state).hash_of
+        (T.first_key item))
+        × ((hashes.1.0 ≡ (hashing_of T.Key2.eq T.Key2.hash_input S.BuildHasher S.Hasher.Hasher state).hash_of
+        (T.second_key item))
+        × (hashes.1.1 ≡ (hashing_of T.Key3.eq T.Key3.hash_input S.BuildHasher S.Hasher.Hasher state).hash_of
+        (T.third_key item))) };
+
+    ghost is_place = { λ x state s item place. Unit {0} };
+
+    ghost is_planned = { λ x state s item plan. Unit {0} };
+
+    ghost has_room_for = { λ x plan spare. (1 ≤ room x.first.table)
+        × ((1 ≤ room x.second.table) × (1 ≤ room x.third.table)) };
+
+    ghost does_after = { λ x spare. Unit {0} };
+
+    ghost same_plans = { λ x y state s item plan same is. is };
+
+    ghost is_move = { λ state s ix item plan.
+        Plans T.first_key (hashing_of T.Key1.eq T.Key1.hash_input S.BuildHasher S.Hasher.Hasher state) s ix item plan.0
+        × (Plans T.second_key (hashing_of T.Key2.eq T.Key2.hash_input S.BuildHasher S.Hasher.Hasher state) s ix item
+        plan.1.0
+        × Plans T.third_key (hashing_of T.Key3.eq T.Key3.hash_input S.BuildHasher S.Hasher.Hasher state) s ix item
+        plan.1.1) };
+
+    ghost moves = { λ plan. moves plan.0 || (moves plan.1.0 || moves plan.1.1) };
+
+    ghost does_for = { λ x plan spare. Unit {0} };
+
+    fn no_hashes() -> (Option<MapHash>, (Option<MapHash>, Option<MapHash>)) {
+        (None, (None, None))
+    }
+
     fn capacity(&self) -> usize {
-        let first = <FirstTable<T> as Sizes<T, S>>::capacity(&self.first);
-        let second = <SecondTable<T> as Sizes<T, S>>::capacity(&self.second);
-        let third = <ThirdTable<T> as Sizes<T, S>>::capacity(&self.third);
+        let first = <FirstTable<T> as KeyIndex<T, S>>::capacity(&self.first);
+        let second = <SecondTable<T> as KeyIndex<T, S>>::capacity(&self.second);
+        let third = <ThirdTable<T> as KeyIndex<T, S>>::capacity(&self.third);
         first.min(second.min(third))
     }
 
     fn new(alloc: Global) -> TriIndex<T> {
         TriIndex {
-            first: <FirstTable<T> as Sizes<T, S>>::new(alloc),
-            second: <SecondTable<T> as Sizes<T, S>>::new(alloc),
-            third: <ThirdTable<T> as Sizes<T, S>>::new(alloc),
+            first: <FirstTable<T> as KeyIndex<T, S>>::new(alloc),
+            second: <SecondTable<T> as KeyIndex<T, S>>::new(alloc),
+            third: <ThirdTable<T> as KeyIndex<T, S>>::new(alloc),
         }
     }
 
     fn with_capacity(alloc: Global, wanted: usize) -> Result<TriIndex<T>, AllocError> {
-        let first = <FirstTable<T> as Sizes<T, S>>::with_capacity(alloc, wanted)?;
-        let second = <SecondTable<T> as Sizes<T, S>>::with_capacity(alloc, wanted)?;
-        let third = <ThirdTable<T> as Sizes<T, S>>::with_capacity(alloc, wanted)?;
+        let first = <FirstTable<T> as KeyIndex<T, S>>::with_capacity(alloc, wanted)?;
+        let second = <SecondTable<T> as KeyIndex<T, S>>::with_capacity(alloc, wanted)?;
+        let third = <ThirdTable<T> as KeyIndex<T, S>>::with_capacity(alloc, wanted)?;
         Ok(TriIndex {
             first,
             second,
@@ -217,40 +256,11 @@ impl<T: TriHashItem, S: BuildHasher> Sizes<T, S> for TriIndex<T> {
         let third = self.third.shrink_to(items, state, least);
         first.and(second.and(third))
     }
-}
 
-impl<T: TriHashItem, S: BuildHasher> Inserts<T, S> for TriIndex<T> {
-    ghost use Rattle.std.specs.Prelude.{◌≡◌, ◌≤◌};
-    ghost use Rattle.iddqd_hash.specs.HashTable.{room};
-    ghost use Rattle.iddqd_by_hash.specs.Hashed.{hashing_of};
-
-    type Known = (MapHash, (MapHash, MapHash));
-
-    type Spot = ();
-
-    type Plan = ();
-
-    ghost is_known = { λ state item known.
-        (known.0 ≡ (hashing_of T.Key1.eq T.Key1.hash_input S.BuildHasher S.Hasher.Hasher state).hash_of
-        (T.first_key item))
-        × ((known.1.0 ≡ (hashing_of T.Key2.eq T.Key2.hash_input S.BuildHasher S.Hasher.Hasher state).hash_of
-        (T.second_key item))
-        × (known.1.1 ≡ (hashing_of T.Key3.eq T.Key3.hash_input S.BuildHasher S.Hasher.Hasher state).hash_of
-        (T.third_key item))) };
-
-    ghost is_spot = { λ x state s item spot. Unit {0} };
-
-    ghost is_planned = { λ x state s item plan. Unit {0} };
-
-    ghost has_room_for = { λ x plan. (1 ≤ room x.first.table)
-        × ((1 ≤ room x.second.table) × (1 ≤ room x.third.table)) };
-
-    ghost is_ready_after = { λ x. Unit {0} };
-
-    fn known(state: &S, item: &T) -> (MapHash, (MapHash, MapHash)) {
-        let first = <FirstTable<T> as Inserts<T, S>>::known(state, item);
-        let second = <SecondTable<T> as Inserts<T, S>>::known(state, item);
-        let third = <ThirdTable<T> as Inserts<T, S>>::known(state, item);
+    fn hashes(state: &S, item: &T) -> (MapHash, (MapHash, MapHash)) {
+        let first = <FirstTable<T> as KeyIndex<T, S>>::hashes(state, item);
+        let second = <SecondTable<T> as KeyIndex<T, S>>::hashes(state, item);
+        let third = <ThirdTable<T> as KeyIndex<T, S>>::hashes(state, item);
         (first, (second, third))
     }
 
@@ -258,16 +268,16 @@ impl<T: TriHashItem, S: BuildHasher> Inserts<T, S> for TriIndex<T> {
         &self,
         items: &ItemSet<T>,
         state: &S,
-        known: (MapHash, (MapHash, MapHash)),
+        hashes: (MapHash, (MapHash, MapHash)),
         item: &T,
     ) -> Result<(), TriClash> {
-        let first = self.first.look_up(items, state, known.0, item);
-        let second = self.second.look_up(items, state, known.1.0, item);
-        let third = self.third.look_up(items, state, known.1.1, item);
+        let first = self.first.look_up(items, state, hashes.0, item);
+        let second = self.second.look_up(items, state, hashes.1.0, item);
+        let third = self.third.look_up(items, state, hashes.1.1, item);
         clash_of(first.err(), second.err(), third.err())
     }
 
-    fn plan(&self, items: &ItemSet<T>, state: &S, spot: (), ix: ItemIndex, item: &T) {}
+    fn plan(&self, items: &ItemSet<T>, state: &S, place: (), ix: ItemIndex, item: &T) {}
 
     fn make_room(&mut self, items: &ItemSet<T>, state: &S, plan: &()) -> Result<(), AllocError> {
         self.first.make_room(items, state, plan)?;
@@ -275,10 +285,10 @@ impl<T: TriHashItem, S: BuildHasher> Inserts<T, S> for TriIndex<T> {
         self.third.make_room(items, state, plan)
     }
 
-    fn insert(&mut self, known: (MapHash, (MapHash, MapHash)), plan: &(), ix: ItemIndex) {
-        <FirstTable<T> as Inserts<T, S>>::insert(&mut self.first, known.0, plan, ix);
-        <SecondTable<T> as Inserts<T, S>>::insert(&mut self.second, known.1.0, plan, ix);
-        <ThirdTable<T> as Inserts<T, S>>::insert(&mut self.third, known.1.1, plan, ix);
+    fn insert(&mut self, hashes: (MapHash, (MapHash, MapHash)), plan: &(), spare: (), ix: ItemIndex) {
+        <FirstTable<T> as KeyIndex<T, S>>::insert(&mut self.first, hashes.0, plan, spare, ix);
+        <SecondTable<T> as KeyIndex<T, S>>::insert(&mut self.second, hashes.1.0, plan, spare, ix);
+        <ThirdTable<T> as KeyIndex<T, S>>::insert(&mut self.third, hashes.1.1, plan, spare, ix);
     }
 
     fn next_reported(conflict: &TriClash, before: Option<ItemIndex>) -> Option<ItemIndex> {
@@ -286,22 +296,12 @@ impl<T: TriHashItem, S: BuildHasher> Inserts<T, S> for TriIndex<T> {
         lesser(past(&conflict.key1, &before), last)
     }
 
-    fn spot(&self, items: &ItemSet<T>, state: &S, known: (MapHash, (MapHash, MapHash)), item: &T) {}
+    fn place(&self, items: &ItemSet<T>, state: &S, hashes: (MapHash, (MapHash, MapHash)), item: &T) {}
 
-    fn ready_after(&mut self, items: &ItemSet<T>, state: &S) -> Result<(), AllocError> {
+    fn spare_after(&self, items: &ItemSet<T>, state: &S) -> Result<(), AllocError> {
         Ok(())
     }
 
-    fn give_way(&mut self, items: &ItemSet<T>, state: &S, ix: ItemIndex) {
-        self.first.give_way(items, state, ix);
-        self.second.give_way(items, state, ix);
-        self.third.give_way(items, state, ix);
-    }
-
-    ghost same_plans = { λ x y state s item plan same is. is };
-}
-
-impl<T: TriHashItem, S: BuildHasher> Removes<T, S> for TriIndex<T> {
     fn remove(&mut self, items: &ItemSet<T>, state: &S, ix: ItemIndex) {
         self.first.remove(items, state, ix);
         self.second.remove(items, state, ix);
@@ -309,36 +309,16 @@ impl<T: TriHashItem, S: BuildHasher> Removes<T, S> for TriIndex<T> {
     }
 
     fn clear(&mut self) {
-        <FirstTable<T> as Removes<T, S>>::clear(&mut self.first);
-        <SecondTable<T> as Removes<T, S>>::clear(&mut self.second);
-        <ThirdTable<T> as Removes<T, S>>::clear(&mut self.third);
+        <FirstTable<T> as KeyIndex<T, S>>::clear(&mut self.first);
+        <SecondTable<T> as KeyIndex<T, S>>::clear(&mut self.second);
+        <ThirdTable<T> as KeyIndex<T, S>>::clear(&mut self.third);
     }
 
     fn remap(&mut self, remap: &IndexRemap) {
-        <FirstTable<T> as Removes<T, S>>::remap(&mut self.first, remap);
-        <SecondTable<T> as Removes<T, S>>::remap(&mut self.second, remap);
-        <ThirdTable<T> as Removes<T, S>>::remap(&mut self.third, remap);
+        <FirstTable<T> as KeyIndex<T, S>>::remap(&mut self.first, remap);
+        <SecondTable<T> as KeyIndex<T, S>>::remap(&mut self.second, remap);
+        <ThirdTable<T> as KeyIndex<T, S>>::remap(&mut self.third, remap);
     }
-}
-
-impl<T: TriHashItem, S: BuildHasher> Moves<T, S> for TriIndex<T> {
-    ghost use Rattle.std.specs.Prelude.{◌||◌};
-    ghost use Rattle.iddqd_by_hash.specs.Hashed.{hashing_of};
-    ghost use Rattle.iddqd_map.specs.Hashed.{moves};
-    ghost use Rattle.iddqd_map.specs.Indexing.{Plans};
-
-    type Move = (Move, (Move, Move));
-
-    ghost is_move = { λ state s ix item plan.
-        Plans T.first_key (hashing_of T.Key1.eq T.Key1.hash_input S.BuildHasher S.Hasher.Hasher state) s ix item plan.0
-        × (Plans T.second_key (hashing_of T.Key2.eq T.Key2.hash_input S.BuildHasher S.Hasher.Hasher state) s ix item
-        plan.1.0
-        × Plans T.third_key (hashing_of T.Key3.eq T.Key3.hash_input S.BuildHasher S.Hasher.Hasher state) s ix item
-        plan.1.1) };
-
-    ghost moves = { λ plan. moves plan.0 || (moves plan.1.0 || moves plan.1.1) };
-
-    ghost is_ready = { λ x plan. Unit {0} };
 
     fn plan_move(
         &self,
@@ -353,8 +333,8 @@ impl<T: TriHashItem, S: BuildHasher> Moves<T, S> for TriIndex<T> {
         all_moves(first, second, third)
     }
 
-    fn ready_move(
-        &mut self,
+    fn spare_for(
+        &self,
         items: &ItemSet<T>,
         state: &S,
         plan: &(Move, (Move, Move)),
@@ -366,25 +346,24 @@ impl<T: TriHashItem, S: BuildHasher> Moves<T, S> for TriIndex<T> {
         &mut self,
         items: &ItemSet<T>,
         state: &S,
-        asked: (Option<MapHash>, (Option<MapHash>, Option<MapHash>)),
+        known: (Option<MapHash>, (Option<MapHash>, Option<MapHash>)),
         plan: &(Move, (Move, Move)),
+        spare: (),
         ix: ItemIndex,
         item: &T,
     ) {
         self.first
-            .commit_move(items, state, asked.0, &plan.0, ix, item);
+            .commit_move(items, state, known.0, &plan.0, spare, ix, item);
         self.second
-            .commit_move(items, state, asked.1.0, &plan.1.0, ix, item);
+            .commit_move(items, state, known.1.0, &plan.1.0, spare, ix, item);
         self.third
-            .commit_move(items, state, asked.1.1, &plan.1.1, ix, item);
+            .commit_move(items, state, known.1.1, &plan.1.1, spare, ix, item);
     }
-}
 
-impl<T: TriHashItem, S: BuildHasher> Checks<T, S> for TriIndex<T> {
     fn copied(&self) -> Result<TriIndex<T>, AllocError> {
-        let first = <FirstTable<T> as Checks<T, S>>::copied(&self.first)?;
-        let second = <SecondTable<T> as Checks<T, S>>::copied(&self.second)?;
-        let third = <ThirdTable<T> as Checks<T, S>>::copied(&self.third)?;
+        let first = <FirstTable<T> as KeyIndex<T, S>>::copied(&self.first)?;
+        let second = <SecondTable<T> as KeyIndex<T, S>>::copied(&self.second)?;
+        let third = <ThirdTable<T> as KeyIndex<T, S>>::copied(&self.third)?;
         Ok(TriIndex {
             first,
             second,
@@ -393,9 +372,9 @@ impl<T: TriHashItem, S: BuildHasher> Checks<T, S> for TriIndex<T> {
     }
 
     fn is_same(item: &T, other: &T) -> bool {
-        <FirstTable<T> as Checks<T, S>>::is_same(item, other)
-            && <SecondTable<T> as Checks<T, S>>::is_same(item, other)
-            && <ThirdTable<T> as Checks<T, S>>::is_same(item, other)
+        <FirstTable<T> as KeyIndex<T, S>>::is_same(item, other)
+            && <SecondTable<T> as KeyIndex<T, S>>::is_same(item, other)
+            && <ThirdTable<T> as KeyIndex<T, S>>::is_same(item, other)
     }
 
     fn validate(
@@ -436,28 +415,20 @@ fn shares_later_keys<T: TriHashItem>(item: &T, other: &T) -> bool
     *item.key2() == *other.key2() && *item.key3() == *other.key3()
 }
 
-impl<T: TriHashItem, S: BuildHasher> HashedAt<First, T, S> for TriIndex<T> {
-    type Key = T::Key1;
+impl<T: TriHashItem, S: BuildHasher, Q: HashQuery<T::Key1>> UniqueAt<First, Q, T, S> for TriIndex<T> {
+    ghost stands_for = { λ query. passes_by T.first_key (Q.stands_for query) };
 
-    ghost key_at = { T.first_key };
-
-    fn find<Q: HashQuery<T::Key1>>(
+    fn find(
         &self,
         items: &ItemSet<T>,
         state: &S,
         query: Q,
-    ) -> Option<ItemIndex> {
-        self.first.find(items, state, query)
+    ) -> (Option<ItemIndex>, (Option<MapHash>, (Option<MapHash>, Option<MapHash>))) {
+        let (found, known) = self.first.find(items, state, query);
+        (found, (known, (None, None)))
     }
-}
 
-impl<T: TriHashItem, S: BuildHasher> TakesAt<First, T, S> for TriIndex<T> {
-    fn take<Q: HashQuery<T::Key1>>(
-        &mut self,
-        items: &ItemSet<T>,
-        state: &S,
-        query: Q,
-    ) -> Option<ItemIndex> {
+    fn take(&mut self, items: &ItemSet<T>, state: &S, query: Q) -> Option<ItemIndex> {
         let found = self.first.take(items, state, query)?;
         self.second.remove(items, state, found);
         self.third.remove(items, state, found);
@@ -465,43 +436,20 @@ impl<T: TriHashItem, S: BuildHasher> TakesAt<First, T, S> for TriIndex<T> {
     }
 }
 
-impl<T: TriHashItem, S: BuildHasher> FindsWithHashAt<First, T, S> for TriIndex<T> {
-    fn find_with_hash<Q: HashQuery<T::Key1>>(
+impl<T: TriHashItem, S: BuildHasher, Q: HashQuery<T::Key2>> UniqueAt<Second, Q, T, S> for TriIndex<T> {
+    ghost stands_for = { λ query. passes_by T.second_key (Q.stands_for query) };
+
+    fn find(
         &self,
         items: &ItemSet<T>,
         state: &S,
         query: Q,
-    ) -> (
-        Option<ItemIndex>,
-        (Option<MapHash>, (Option<MapHash>, Option<MapHash>)),
-    ) {
-        let (found, asked) = self.first.find_with_hash(items, state, query);
-        (found, (asked, (None, None)))
+    ) -> (Option<ItemIndex>, (Option<MapHash>, (Option<MapHash>, Option<MapHash>))) {
+        let (found, known) = self.second.find(items, state, query);
+        (found, (None, (known, None)))
     }
-}
 
-impl<T: TriHashItem, S: BuildHasher> HashedAt<Second, T, S> for TriIndex<T> {
-    type Key = T::Key2;
-
-    ghost key_at = { T.second_key };
-
-    fn find<Q: HashQuery<T::Key2>>(
-        &self,
-        items: &ItemSet<T>,
-        state: &S,
-        query: Q,
-    ) -> Option<ItemIndex> {
-        self.second.find(items, state, query)
-    }
-}
-
-impl<T: TriHashItem, S: BuildHasher> TakesAt<Second, T, S> for TriIndex<T> {
-    fn take<Q: HashQuery<T::Key2>>(
-        &mut self,
-        items: &ItemSet<T>,
-        state: &S,
-        query: Q,
-    ) -> Option<ItemIndex> {
+    fn take(&mut self, items: &ItemSet<T>, state: &S, query: Q) -> Option<ItemIndex> {
         let found = self.second.take(items, state, query)?;
         self.first.remove(items, state, found);
         self.third.remove(items, state, found);
@@ -509,61 +457,23 @@ impl<T: TriHashItem, S: BuildHasher> TakesAt<Second, T, S> for TriIndex<T> {
     }
 }
 
-impl<T: TriHashItem, S: BuildHasher> FindsWithHashAt<Second, T, S> for TriIndex<T> {
-    fn find_with_hash<Q: HashQuery<T::Key2>>(
+impl<T: TriHashItem, S: BuildHasher, Q: HashQuery<T::Key3>> UniqueAt<Third, Q, T, S> for TriIndex<T> {
+    ghost stands_for = { λ query. passes_by T.third_key (Q.stands_for query) };
+
+    fn find(
         &self,
         items: &ItemSet<T>,
         state: &S,
         query: Q,
-    ) -> (
-        Option<ItemIndex>,
-        (Option<MapHash>, (Option<MapHash>, Option<MapHash>)),
-    ) {
-        let (found, asked) = self.second.find_with_hash(items, state, query);
-        (found, (None, (asked, None)))
+    ) -> (Option<ItemIndex>, (Option<MapHash>, (Option<MapHash>, Option<MapHash>))) {
+        let (found, known) = self.third.find(items, state, query);
+        (found, (None, (None, known)))
     }
-}
 
-impl<T: TriHashItem, S: BuildHasher> HashedAt<Third, T, S> for TriIndex<T> {
-    type Key = T::Key3;
-
-    ghost key_at = { T.third_key };
-
-    fn find<Q: HashQuery<T::Key3>>(
-        &self,
-        items: &ItemSet<T>,
-        state: &S,
-        query: Q,
-    ) -> Option<ItemIndex> {
-        self.third.find(items, state, query)
-    }
-}
-
-impl<T: TriHashItem, S: BuildHasher> TakesAt<Third, T, S> for TriIndex<T> {
-    fn take<Q: HashQuery<T::Key3>>(
-        &mut self,
-        items: &ItemSet<T>,
-        state: &S,
-        query: Q,
-    ) -> Option<ItemIndex> {
+    fn take(&mut self, items: &ItemSet<T>, state: &S, query: Q) -> Option<ItemIndex> {
         let found = self.third.take(items, state, query)?;
         self.first.remove(items, state, found);
         self.second.remove(items, state, found);
         Some(found)
-    }
-}
-
-impl<T: TriHashItem, S: BuildHasher> FindsWithHashAt<Third, T, S> for TriIndex<T> {
-    fn find_with_hash<Q: HashQuery<T::Key3>>(
-        &self,
-        items: &ItemSet<T>,
-        state: &S,
-        query: Q,
-    ) -> (
-        Option<ItemIndex>,
-        (Option<MapHash>, (Option<MapHash>, Option<MapHash>)),
-    ) {
-        let (found, asked) = self.third.find_with_hash(items, state, query);
-        (found, (None, (None, asked)))
     }
 }

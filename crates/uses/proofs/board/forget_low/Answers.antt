@@ -17,6 +17,6 @@ returns-clause-dropped c =
     (λ (score : Score). score.points < c.args.least)
     (λ (score : Score). is_no_later c.args.hour score.hour)
     (λ (score : Score). is_less c.args.least score.points)
-    (RetainsWithin-stays _ (λ s. s.0.now ≡ c.args.least) _ (λ s x b t i asked. search rules) _ _ _ _ _ _ _ refl retains)
-    (RetainsWithin-gone _ (λ s. s.0.now ≡ c.args.least) _ (λ s x b t i asked. search rules) _ _ _ _ _ _ _ refl retains)
+    (RetainsWithin-stays _ (λ s. s.0.now ≡ c.args.least) _ (λ s x b t i asked. search rules) _ _ _ _ _ _ refl retains)
+    (RetainsWithin-gone _ (λ s. s.0.now ≡ c.args.least) _ (λ s x b t i asked. search rules) _ _ _ _ _ _ refl retains)
     c.retain_range.ensures.others

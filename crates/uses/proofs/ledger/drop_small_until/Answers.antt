@@ -17,6 +17,6 @@ returns-clause-dropped c =
     (λ (order : Order). order.amount < c.args.least)
     (λ (order : Order). is_no_later c.args.day order.day)
     (λ (order : Order). is_less c.args.least order.amount)
-    (RetainsWithin-stays _ (λ s. s.0.now ≡ c.args.least) _ (λ s x b t i asked. search rules) _ _ _ _ _ _ _ refl retains)
-    (RetainsWithin-gone _ (λ s. s.0.now ≡ c.args.least) _ (λ s x b t i asked. search rules) _ _ _ _ _ _ _ refl retains)
+    (RetainsWithin-stays _ (λ s. s.0.now ≡ c.args.least) _ (λ s x b t i asked. search rules) _ _ _ _ _ _ refl retains)
+    (RetainsWithin-gone _ (λ s. s.0.now ≡ c.args.least) _ (λ s x b t i asked. search rules) _ _ _ _ _ _ refl retains)
     c.retain_range_by.ensures.others

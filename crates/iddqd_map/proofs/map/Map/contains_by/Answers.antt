@@ -4,5 +4,5 @@ use Rattle.iddqd_map.proofs.map.Map.contains_by.Goals as goal
 
 pub returns : goal.returns
 returns g c =
-    let test = passes_by g.X.HashedAt.key_at (g.Q.HashQuery.stands_for c.args.query) in
+    let test = g.X.UniqueAt.stands_for c.args.query in
     rw c.is_some.ensures (scan_misses c.args.self.now.store test c.find_by.result c.find_by.ensures)

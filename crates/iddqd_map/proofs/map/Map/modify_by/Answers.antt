@@ -12,6 +12,6 @@ modify_live-requires-clause-keeps g c =
 
 pub returns-clause-modifies : goal.returns-clause-modifies
 returns-clause-modifies g c =
-    let test = passes_by g.X.HashedAt.key_at (g.Q.HashQuery.stands_for c.args.query) in
+    let test = g.X.UniqueAt.stands_for c.args.query in
     Modifies-found g.F.FnOnce c.args.f c.args.self.now test c.in_ok-find_by.field-0 c.modify_live.result
     c.modify_live.new.self c.in_ok-find_by.ensures c.modify_live.ensures.modifies

@@ -1,11 +1,10 @@
-use Rattle.iddqd_keys.specs.Scan.{passes_by}
 use Rattle.iddqd_map.proofs.RoomLemmas.{Removes-count, Removes-freed, Removes-unchanged}
-use Rattle.iddqd_map.proofs.TakeLemmas.{IsIndexed-taken, Removes-gone, Removes-hit, Removes-none}
+use Rattle.iddqd_map.proofs.TakeLemmas.{IsIndexed-taken, Removes-gone, Removes-hit, Removes-none, room-removes}
 use Rattle.iddqd_map.proofs.map.Map.remove_by.Goals as goal
 
 pub returns-in_err-ix-clause-removes : goal.returns-in_err-ix-clause-removes
 returns-in_err-ix-clause-removes g c =
-    let test = passes_by g.X.HashedAt.key_at (g.Q.HashQuery.stands_for c.args.query) in
+    let test = g.X.UniqueAt.stands_for c.args.query in
     let did = c.in_err-ix.ensures in
     rw (← c.self.view_is)
     (Removes-none c.self.inside.items test c.from_residual.result _ _ _ _ c.from_residual.ensures did.found
@@ -13,7 +12,7 @@ returns-in_err-ix-clause-removes g c =
 
 pub invariant_of-self-2 : goal.invariant_of-self-2
 invariant_of-self-2 g c =
-    let test = passes_by g.X.HashedAt.key_at (g.Q.HashQuery.stands_for c.args.query) in
+    let test = g.X.UniqueAt.stands_for c.args.query in
     let did = c.in_ok-ix.ensures in
     let out = c.remove.ensures in
     IsIndexed-taken c.self.inside.items c.remove.new.self test c.in_ok-ix.ix c.remove.result did.found out.value
@@ -21,7 +20,7 @@ invariant_of-self-2 g c =
 
 pub returns-clause-removes : goal.returns-clause-removes
 returns-clause-removes g c =
-    let test = passes_by g.X.HashedAt.key_at (g.Q.HashQuery.stands_for c.args.query) in
+    let test = g.X.UniqueAt.stands_for c.args.query in
     let did = c.in_ok-ix.ensures in
     let out = c.remove.ensures in
     rw (← c.self.view_is)
@@ -30,46 +29,53 @@ returns-clause-removes g c =
 
 pub returns-in_err-ix-clause-gone : goal.returns-in_err-ix-clause-gone
 returns-in_err-ix-clause-gone g c =
-    let test = passes_by g.X.HashedAt.key_at (g.Q.HashQuery.stands_for c.args.query) in
+    let test = g.X.UniqueAt.stands_for c.args.query in
     Removes-gone _ _ test c.from_residual.result (returns-in_err-ix-clause-removes g c)
 
 pub returns-clause-gone : goal.returns-clause-gone
 returns-clause-gone g c =
-    let test = passes_by g.X.HashedAt.key_at (g.Q.HashQuery.stands_for c.args.query) in
+    let test = g.X.UniqueAt.stands_for c.args.query in
     Removes-gone _ _ test c.remove.result (returns-clause-removes g c)
+
+pub returns-clause-room : goal.returns-clause-room
+returns-clause-room g c =
+    let test = g.X.UniqueAt.stands_for c.args.query in
+    let valid = c.self.invariant.valid in
+    room-removes _ _ test c.remove.result (rw (← c.self.view_is) valid) (invariant_of-self-2 g c).valid
+    (returns-clause-removes g c)
 
 pub returns-in_err-ix-clause-count : goal.returns-in_err-ix-clause-count
 returns-in_err-ix-clause-count g c =
-    let test = passes_by g.X.HashedAt.key_at (g.Q.HashQuery.stands_for c.args.query) in
+    let test = g.X.UniqueAt.stands_for c.args.query in
     let valid = c.self.invariant.valid in
     Removes-count _ _ (rw (← c.self.view_is) valid) test c.from_residual.result (returns-in_err-ix-clause-removes g c)
 
 pub returns-in_err-ix-clause-unchanged : goal.returns-in_err-ix-clause-unchanged
 returns-in_err-ix-clause-unchanged g c =
-    let test = passes_by g.X.HashedAt.key_at (g.Q.HashQuery.stands_for c.args.query) in
+    let test = g.X.UniqueAt.stands_for c.args.query in
     let valid = c.self.invariant.valid in
     Removes-unchanged _ _ (rw (← c.self.view_is) valid) test c.from_residual.result (returns-in_err-ix-clause-removes g c)
 
 pub returns-in_err-ix-clause-freed : goal.returns-in_err-ix-clause-freed
 returns-in_err-ix-clause-freed g c =
-    let test = passes_by g.X.HashedAt.key_at (g.Q.HashQuery.stands_for c.args.query) in
+    let test = g.X.UniqueAt.stands_for c.args.query in
     let valid = c.self.invariant.valid in
     Removes-freed _ _ (rw (← c.self.view_is) valid) test c.from_residual.result (returns-in_err-ix-clause-removes g c)
 
 pub returns-clause-count : goal.returns-clause-count
 returns-clause-count g c =
-    let test = passes_by g.X.HashedAt.key_at (g.Q.HashQuery.stands_for c.args.query) in
+    let test = g.X.UniqueAt.stands_for c.args.query in
     let valid = c.self.invariant.valid in
     Removes-count _ _ (rw (← c.self.view_is) valid) test c.remove.result (returns-clause-removes g c)
 
 pub returns-clause-unchanged : goal.returns-clause-unchanged
 returns-clause-unchanged g c =
-    let test = passes_by g.X.HashedAt.key_at (g.Q.HashQuery.stands_for c.args.query) in
+    let test = g.X.UniqueAt.stands_for c.args.query in
     let valid = c.self.invariant.valid in
     Removes-unchanged _ _ (rw (← c.self.view_is) valid) test c.remove.result (returns-clause-removes g c)
 
 pub returns-clause-freed : goal.returns-clause-freed
 returns-clause-freed g c =
-    let test = passes_by g.X.HashedAt.key_at (g.Q.HashQuery.stands_for c.args.query) in
+    let test = g.X.UniqueAt.stands_for c.args.query in
     let valid = c.self.invariant.valid in
     Removes-freed _ _ (rw (← c.self.view_is) valid) test c.remove.result (returns-clause-removes g c)

@@ -4,9 +4,9 @@ use Rattle.iddqd_map.proofs.map.Map.remove_group_by.Goals as goal
 
 pub returns-clause-left : goal.returns-clause-left
 returns-clause-left g c =
-    LeavesOthers-group g.X.OrderedAt.key_at (g.Q.OrdQuery.compare c.args.query) _ _ c.remove_range_by.ensures.left
+    LeavesOthers-group (g.X.OrderedAt.compare c.args.query) _ _ c.remove_range_by.ensures.left
 
 pub returns-clause-handed : goal.returns-clause-handed
 returns-clause-handed g c =
     let (last, along) = c.remove_range_by.ensures.handed in
-    (last, RemovesAlong-group g.X.OrderedAt.key_at (g.Q.OrdQuery.compare c.args.query) _ _ g.X.Key.Ord.cmp (GivesItem g.F.FnMut) _ last along)
+    (last, RemovesAlong-group (g.X.OrderedAt.compare c.args.query) _ _ g.X.OrderedAt.order (GivesItem g.F.FnMut) _ last along)

@@ -1,20 +1,39 @@
+use Rattle.std.proofs.Common.{arith}
 use Rattle.std.specs.Fn.{TakesAt, CalledAt}
 use Rattle.iddqd_keys.specs.OrderedQuery.{is_equal}
 use Rattle.iddqd_map.proofs.RangeRetainLemmas.{AsksWithin-group, MayAskWithin-asks, KeepsMisses-group, RetainsWithin-group}
+use Rattle.iddqd_map.proofs.RetainLemmas.{same_memory}
 use Rattle.iddqd_map.proofs.map.Map.retain_group_by.Goals as goal
 
-pub retain_range_by-requires : goal.retain_range_by-requires
-retain_range_by-requires g c = λ everywhere.
-    let comparing = g.Q.OrdQuery.compare c.args.query in
+pub retain_counted-requires-clause-can_ask : goal.retain_counted-requires-clause-can_ask
+retain_counted-requires-clause-can_ask g c =
+    let comparing = g.X.OrderedAt.compare c.args.query in
     let s = c.args.self.now.store in
-    let asks = MayAskWithin-asks g.X.OrderedAt.key_at g.X.Key.Ord.cmp (is_equal comparing) (TakesAt g.F.FnMut) (CalledAt g.F.FnMut) c.args.f s c.requires in
-    AsksWithin-group g.X.OrderedAt.key_at comparing s s g.X.Key.Ord.cmp (TakesAt g.F.FnMut) (CalledAt g.F.FnMut) c.args.f asks
+    let asks = MayAskWithin-asks g.X.OrderedAt.order (is_equal comparing) (TakesAt g.F.FnMut) (CalledAt g.F.FnMut) c.args.f s c.requires in
+    rw (← c.self.view_is) at (AsksWithin-group comparing s s g.X.OrderedAt.order (TakesAt g.F.FnMut) (CalledAt g.F.FnMut) c.args.f asks)
 
 pub returns-clause-asked : goal.returns-clause-asked
 returns-clause-asked g c =
-    let (last, along) = c.retain_range_by.ensures.asked in
-    (last, RetainsWithin-group g.X.OrderedAt.key_at (g.Q.OrdQuery.compare c.args.query) _ _ g.X.Key.Ord.cmp (CalledAt g.F.FnMut) _ last along)
+    let s = c.self.inside.items.store in
+    let now = c.retain_counted.new.items.store in
+    rw (← c.self.view_is)
+    (c.retain_counted.new.f, RetainsWithin-group (g.X.OrderedAt.compare c.args.query) s now g.X.OrderedAt.order (CalledAt g.F.FnMut) c.args.f c.retain_counted.new.f c.retain_counted.ensures.asked)
 
 pub returns-clause-others : goal.returns-clause-others
 returns-clause-others g c =
-    KeepsMisses-group g.X.OrderedAt.key_at (g.Q.OrdQuery.compare c.args.query) c.args.self.now.store c.retain_range_by.new.self.store c.retain_range_by.ensures.others
+    let s = c.self.inside.items.store in
+    rw (← c.self.view_is)
+    (KeepsMisses-group (g.X.OrderedAt.compare c.args.query) s c.retain_counted.new.items.store c.retain_counted.ensures.others)
+
+pub returns-clause-memory : goal.returns-clause-memory
+returns-clause-memory g c =
+    let did = c.retain_counted.ensures in
+    rw (← c.self.view_is) (same_memory did.slots did.capacity did.cells)
+
+pub returns-clause-room : goal.returns-clause-room
+returns-clause-room g c =
+    let did = c.retain_counted.ensures in
+    rw (← c.self.view_is) (omega (arith, did.count, did.limit, did.slots, did.capacity))
+
+pub returns-clause-count : goal.returns-clause-count
+returns-clause-count g c = rw (← c.self.view_is) c.retain_counted.ensures.count

@@ -6,27 +6,23 @@ use Rattle.iddqd_map.proofs.RangeRetainLemmas.{MayAskWithin-asks}
 use Rattle.iddqd_map.proofs.RetainLemmas.{same_memory}
 use Rattle.iddqd_map.proofs.map.Map.retain_range_by.Goals as goal
 
-pub retain_within-requires-clause-can_ask : goal.retain_within-requires-clause-can_ask
-retain_within-requires-clause-can_ask g c =
-    let within = is_between (bound_map g.Q.OrdQuery.compare c.args.lower) (bound_map g.Q.OrdQuery.compare c.args.upper) in
-    rw (← c.self.view_is) at (MayAskWithin-asks g.X.OrderedAt.key_at g.X.Key.Ord.cmp within (TakesAt g.F.FnMut) (CalledAt g.F.FnMut) c.args.f c.args.self.now.store c.requires)
-
-pub overflow_sub-result : goal.overflow_sub-result
-overflow_sub-result g c = omega (arith, c.retain_within.ensures.fewer, c.len.ensures, c.len-before.ensures)
+pub retain_counted-requires-clause-can_ask : goal.retain_counted-requires-clause-can_ask
+retain_counted-requires-clause-can_ask g c =
+    let within = is_between (bound_map g.X.OrderedAt.compare c.args.lower) (bound_map g.X.OrderedAt.compare c.args.upper) in
+    rw (← c.self.view_is) at (MayAskWithin-asks g.X.OrderedAt.order within (TakesAt g.F.FnMut) (CalledAt g.F.FnMut) c.args.f c.args.self.now.store c.requires)
 
 pub returns-clause-memory : goal.returns-clause-memory
 returns-clause-memory g c =
-    let did = c.retain_within.ensures in
+    let did = c.retain_counted.ensures in
     rw (← c.self.view_is) (same_memory did.slots did.capacity did.cells)
 
 pub returns-clause-room : goal.returns-clause-room
 returns-clause-room g c =
-    let did = c.retain_within.ensures in
-    rw (← c.self.view_is) (omega (arith, did.fewer, did.limit, did.slots, did.capacity))
+    let did = c.retain_counted.ensures in
+    rw (← c.self.view_is) (omega (arith, did.count, did.limit, did.slots, did.capacity))
 
 pub returns-clause-count : goal.returns-clause-count
-returns-clause-count g c =
-    rw (← c.self.view_is) (omega (arith, c.retain_within.ensures.fewer, c.len.ensures, c.len-before.ensures))
+returns-clause-count g c = rw (← c.self.view_is) c.retain_counted.ensures.count
 
 pub returns-clause-others : goal.returns-clause-others
-returns-clause-others g c = rw (← c.self.view_is) c.retain_within.ensures.others
+returns-clause-others g c = rw (← c.self.view_is) c.retain_counted.ensures.others

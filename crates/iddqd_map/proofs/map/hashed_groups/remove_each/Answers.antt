@@ -13,19 +13,19 @@ use Rattle.iddqd_map.proofs.map.hashed_groups.remove_each.Goals as goal
 
 pub returns-in-None-clause-left : goal.returns-in-None-clause-left
 returns-in-None-clause-left g c =
-    let test = passes_by g.X.GroupedAt.key_at (g.Q.HashQuery.stands_for c.args.query) in
+    let test = g.X.GroupedAt.stands_for c.args.query in
     LeavesOthers-none test c.args.items.now.store c.in-None.ensures
 
 pub returns-in-None-clause-handed : goal.returns-in-None-clause-handed
 returns-in-None-clause-handed g c =
-    let test = passes_by g.X.GroupedAt.key_at (g.Q.HashQuery.stands_for c.args.query) in
+    let test = g.X.GroupedAt.stands_for c.args.query in
     RemovesEach-none test (GivesItem g.F.FnMut) c.args.f.now c.args.items.now.store c.in-None.ensures
 
 pub give-requires-clause-can_give : goal.give-requires-clause-can_give
 give-requires-clause-can_give g c = λ item live.
     let i = c.loop-ix.invariant in
     let old = c.args.items.now.store in
-    let ix = c.in-Some-find_other_at.ix in
+    let ix = c.in-Some-find_other.ix in
     CanAsk-takes (TakesItem g.F.FnMut) (λ p x (b : Bool) q. GivesItem g.F.FnMut p x q) c.loop-ix.f (live_items old) item i.can
     (Contains-live old ix item (i.among ix item live))
 
@@ -35,12 +35,12 @@ loop-ix-preserved g c =
     let old = c.args.items.now.store in
     let now = c.loop-ix.items.store in
     let first = c.in-Some.ix in
-    let ix = c.in-Some-find_other_at.ix in
-    let (apart, hit) = c.in-Some-find_other_at.ensures in
+    let ix = c.in-Some-find_other.ix in
+    let (apart, hit) = c.in-Some-find_other.ensures in
     let did = c.give.ensures in
     let (item, live, given) = did.given in
     let gone = ap (λ (s : SizedStore _). s.store) did.removed in
-    let test = passes_by g.X.GroupedAt.key_at (g.Q.HashQuery.stands_for c.args.query) in
+    let test = g.X.GroupedAt.stands_for c.args.query in
     let other : first ≢ ix = λ same. apart (sym same) in
     record {
       kept = did.indexed;
@@ -70,7 +70,7 @@ give-requires-2-clause-can_give g c = λ item live.
 pub returns-clause-left : goal.returns-clause-left
 returns-clause-left g c =
     let i = c.loop-ix.invariant in
-    let test = passes_by g.X.GroupedAt.key_at (g.Q.HashQuery.stands_for c.args.query) in
+    let test = g.X.GroupedAt.stands_for c.args.query in
     let now = c.loop-ix.items.store in
     let new = c.give-2.new.items.store in
     let gone = ap (λ (s : SizedStore _). s.store) c.give-2.ensures.removed in
@@ -80,7 +80,7 @@ returns-clause-left g c =
 pub returns-clause-handed : goal.returns-clause-handed
 returns-clause-handed g c =
     let i = c.loop-ix.invariant in
-    let test = passes_by g.X.GroupedAt.key_at (g.Q.HashQuery.stands_for c.args.query) in
+    let test = g.X.GroupedAt.stands_for c.args.query in
     let now = c.loop-ix.items.store in
     let new = c.give-2.new.items.store in
     let last = c.give-2.new.f in

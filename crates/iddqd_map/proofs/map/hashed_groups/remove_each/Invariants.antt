@@ -11,7 +11,7 @@ use Rattle.iddqd_map.proofs.map.hashed_groups.remove_each.Given as goal
 -- what the calls that are still to come leave is what all of them leave
 abbrev pub invariant-loop-ix : goal.invariant-loop-ix
 invariant-loop-ix g l =
-    let test = passes_by g.X.GroupedAt.key_at (g.Q.HashQuery.stands_for l.fn.query) in
+    let test = g.X.GroupedAt.stands_for l.fn.query in
     record {
       kept : IsIndexed (g.X.KeyIndex.indexes l.indexes) l.fn.state l.items.store;
       held : IsHit l.items.store test l.first;

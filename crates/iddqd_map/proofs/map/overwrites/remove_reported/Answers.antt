@@ -6,7 +6,7 @@ use Rattle.iddqd_map.proofs.map.overwrites.remove_reported.Goals as goal
 pub loop-next-init : goal.loop-next-init
 loop-next-init g c = record {
   map = c.requires.map;
-  ready = c.requires.ready;
+  does = λ spare enough. enough;
   taking = Taking-none _ _ c.args.items.now.store _ _ c.next_reported-next.ensures c.requires.vacant;
   within = omega arith;
   slots = refl;
@@ -16,8 +16,8 @@ loop-next-init g c = record {
   cells = refl;
 }
 
-pub make_way-taken-requires-clause-live : goal.make_way-taken-requires-clause-live
-make_way-taken-requires-clause-live g c =
+pub take_out-taken-requires-clause-live : goal.take_out-taken-requires-clause-live
+take_out-taken-requires-clause-live g c =
     next_live _ _ c.args.items.now.store _ _ c.in-Some.ix _ (taking_at c.in-Some.is c.loop-next.invariant.taking) c.requires.live
 
 pub put_into-requires-clause-within : goal.put_into-requires-clause-within
@@ -42,18 +42,18 @@ loop-next-smaller g c =
 pub loop-next-preserved : goal.loop-next-preserved
 loop-next-preserved g c =
     let i = c.loop-next.invariant in
-    let took = c.make_way-taken.ensures in
+    let took = c.take_out-taken.ensures in
     let t = taking_at c.in-Some.is i.taking in
     let fits = next_fits _ _ c.args.items.now.store _ _ c.in-Some.ix _ (g.X.KeyIndex.unique_keys) t (g.met.X.KeyIndex.few_reported c.args.at.now) in
     let within : c.loop-next.count < length c.args.places.now = omega (arith, fits, c.requires.enough) in
     record {
       map = took.map;
-      ready = took.ready i.ready;
+      does = λ spare enough. took.does spare (i.does spare enough);
       taking = Taking-next _ _ c.args.items.now.store _ _ _ _ c.in-Some.ix _ _ _ t within c.next_reported-next-in-Some.ensures took.value c.put_into.ensures (ap (λ (s : SizedStore _). s.store) took.removed);
       within = omega (arith, within);
       slots = ap (λ (s : SizedStore _). s.capacity) took.removed ∙ i.slots;
       room = let r = i.room in let more = took.items_room in omega (arith, r, more);
-      roomy = λ _ plan. took.roomy plan i.ready;
+      roomy = λ _ plan spare enough. took.roomy plan spare (i.does spare enough);
       capacity = took.capacity ∙ i.capacity;
       cells = took.cells ∙ i.cells;
     }

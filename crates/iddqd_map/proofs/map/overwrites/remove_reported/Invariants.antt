@@ -7,13 +7,15 @@ use Rattle.iddqd_map.proofs.map.overwrites.remove_reported.Given as goal
 abbrev pub invariant-loop-next : goal.invariant-loop-next
 invariant-loop-next g l = record {
   map : IsIndexed (g.X.KeyIndex.indexes l.indexes) l.state l.items.store;
-  ready : g.X.Inserts.is_ready_after l.indexes;
+  does : (spare : g.row.X-Spare.Denot) → g.X.KeyIndex.does_after l.fn.indexes spare
+      → g.X.KeyIndex.does_after l.indexes spare;
   taking : Taking (g.X.KeyIndex.reports l.at) (length l.fn.places) l.fn.items.store l.places l.items.store l.next
       l.count;
   within : l.count ≤ length l.fn.places;
   slots : l.items.capacity ≡ l.fn.items.capacity;
   room : l.count ≤ room l.items;
-  roomy : 1 ≤ l.count → (plan : g.row.X-Plan.Denot) → g.X.Inserts.has_room_for l.indexes plan;
+  roomy : 1 ≤ l.count → (plan : g.row.X-InsertPlan.Denot) (spare : g.row.X-Spare.Denot)
+      → g.X.KeyIndex.does_after l.fn.indexes spare → g.X.KeyIndex.has_room_for l.indexes plan spare;
   capacity : g.X.KeyIndex.capacity l.indexes ≡ g.X.KeyIndex.capacity l.fn.indexes;
   cells : g.X.KeyIndex.cells l.indexes ≡ g.X.KeyIndex.cells l.fn.indexes;
 }

@@ -5,26 +5,26 @@ use Rattle.iddqd.specs.ItemSet.{SizedStore}
 use Rattle.iddqd.specs.Store.{get, removed}
 use Rattle.iddqd_keys.specs.KeyWalk.{IsFirstHit}
 use Rattle.iddqd_keys.specs.OrderedQuery.{is_between}
-use Rattle.iddqd_keys.specs.Scan.{IsHit, passes_by}
+use Rattle.iddqd_keys.specs.Scan.{IsHit}
 use Rattle.iddqd_keys.proofs.NextLemmas.{IsNextHit-between}
 use Rattle.iddqd_map.proofs.RangeRetainLemmas.{takes-at, AsksFrom-asked, RetainsFrom, RetainsFrom-none, RetainsFrom-asked, RetainsWithin-from, first_passes, limit_stays, live_then, next_passes, no_more_live, others_stay, to_ask-asked}
+use Rattle.iddqd_map.specs.Ranges.{itself}
 use Rattle.iddqd_map.proofs.map.range_retain.retain_within.Goals as goal
 
 pub loop-next-init : goal.loop-next-init
 loop-next-init g c =
     let s = c.args.items.now.store in
-    let key_at = g.X.OrderedAt.key_at in
-    let compare = g.X.Key.Ord.cmp in
-    let within = is_between (bound_map g.Q.OrdQuery.compare c.args.lower) (bound_map g.Q.OrdQuery.compare c.args.upper) in
+    let compare = g.X.OrderedAt.order in
+    let within = is_between (bound_map g.X.OrderedAt.compare c.args.lower) (bound_map g.X.OrderedAt.compare c.args.upper) in
     let ix : ℕ = c.in-Some.first-1-given.0.0.0 in
-    let first : IsFirstHit key_at compare s (passes_by key_at within) (Some ix) = c.in-Some.ensures.first in
+    let first : IsFirstHit itself compare s within (Some ix) = c.in-Some.ensures.first in
     record {
       kept = c.requires.indexed;
       stands = c.in-Some.ensures.stands;
       can = λ n. c.requires.can_ask.at n (Some ix) first;
       among = λ j x there. there;
-      passing = first_passes key_at compare s (passes_by key_at within) (Some ix) first;
-      retains = λ new last. RetainsWithin-from key_at compare g.met.X.Key.Ord.total within (CalledAt g.F.FnMut) c.args.f.now s new last (Some ix) first;
+      passing = first_passes itself compare s within (Some ix) first;
+      retains = λ new last. RetainsWithin-from compare g.met.X.OrderedAt.total within (CalledAt g.F.FnMut) c.args.f.now s new last (Some ix) first;
       others = λ j other. refl;
       fewer = omega arith;
       limit = refl;
@@ -35,10 +35,9 @@ loop-next-init g c =
 
 pub retain_at-requires-clause-takes : goal.retain_at-requires-clause-takes
 retain_at-requires-clause-takes g c = λ item live.
-    let key_at = g.X.OrderedAt.key_at in
-    let compare = g.X.Key.Ord.cmp in
-    let within = is_between (bound_map g.Q.OrdQuery.compare c.args.lower) (bound_map g.Q.OrdQuery.compare c.args.upper) in
-    takes-at key_at compare within (TakesAt g.F.FnMut) (CalledAt g.F.FnMut) c.loop-next.items.store c.loop-next.f c.loop-next.next c.in-Some-next.ix item c.loop-next.invariant.can c.in-Some-next.is live
+    let compare = g.X.OrderedAt.order in
+    let within = is_between (bound_map g.X.OrderedAt.compare c.args.lower) (bound_map g.X.OrderedAt.compare c.args.upper) in
+    takes-at compare within (TakesAt g.F.FnMut) (CalledAt g.F.FnMut) c.loop-next.items.store c.loop-next.f c.loop-next.next c.in-Some-next.ix item c.loop-next.invariant.can c.in-Some-next.is live
 
 pub loop-next-smaller : goal.loop-next-smaller
 loop-next-smaller g c =
@@ -47,14 +46,13 @@ loop-next-smaller g c =
     let now = c.retain_at.new.items.store in
     let ix = c.in-Some-next.ix in
     let did = c.retain_at.ensures in
-    let key_at = g.X.OrderedAt.key_at in
-    let compare = g.X.Key.Ord.cmp in
-    let cmp = g.Q.OrdQuery.compare in
+    let compare = g.X.OrderedAt.order in
+    let cmp = g.X.OrderedAt.compare in
     let within = is_between (bound_map cmp c.args.lower) (bound_map cmp c.args.upper) in
     let next = c.retain_at.result.1 in
-    let hit : IsHit s (passes_by key_at within) ix = i.passing ix c.in-Some-next.is in
-    let is = IsNextHit-between key_at compare cmp g.met.Q.OrdQuery.lawful s ix c.args.lower c.args.upper next hit did.next in
-    let smaller = to_ask-asked key_at compare g.met.X.Key.Ord.total within (CalledAt g.F.FnMut) c.loop-next.f c.retain_at.new.f c.retain_at.new.f s now ix hit.0 next hit.1 hit.2 is now c.retain_at.result.0
+    let hit : IsHit s within ix = i.passing ix c.in-Some-next.is in
+    let is = IsNextHit-between itself compare cmp g.met.X.OrderedAt.fits s ix c.args.lower c.args.upper next hit did.next in
+    let smaller = to_ask-asked compare g.met.X.OrderedAt.total within (CalledAt g.F.FnMut) c.loop-next.f c.retain_at.new.f c.retain_at.new.f s now ix hit.0 next hit.1 hit.2 is now c.retain_at.result.0
     (λ yes. ap (λ (z : SizedStore _). z.store) (did.kept yes)) (λ other. ap (λ (z : SizedStore _). z.store) (did.removed other)) (did.asked hit.0 hit.1) in
     rw (← c.in-Some-next.is) at smaller
 
@@ -69,16 +67,15 @@ loop-next-preserved g c =
     let ix = c.in-Some-next.ix in
     let did = c.retain_at.ensures in
     let b = c.retain_at.result.0 in
-    let key_at = g.X.OrderedAt.key_at in
-    let compare = g.X.Key.Ord.cmp in
-    let total = g.met.X.Key.Ord.total in
-    let cmp = g.Q.OrdQuery.compare in
+    let compare = g.X.OrderedAt.order in
+    let total = g.met.X.OrderedAt.total in
+    let cmp = g.X.OrderedAt.compare in
     let ask = CalledAt g.F.FnMut in
     let within = is_between (bound_map cmp c.args.lower) (bound_map cmp c.args.upper) in
     let next = c.retain_at.result.1 in
-    let hit : IsHit s (passes_by key_at within) ix = i.passing ix c.in-Some-next.is in
+    let hit : IsHit s within ix = i.passing ix c.in-Some-next.is in
     let (item, live, passes) = hit in
-    let is = IsNextHit-between key_at compare cmp g.met.Q.OrdQuery.lawful s ix c.args.lower c.args.upper next hit did.next in
+    let is = IsNextHit-between itself compare cmp g.met.X.OrderedAt.fits s ix c.args.lower c.args.upper next hit did.next in
     let kept : b ≡ true → now ≡ s = λ yes. ap (λ (z : SizedStore _). z.store) (did.kept yes) in
     let gone : b ≡ false → now ≡ removed s ix = λ other. ap (λ (z : SizedStore _). z.store) (did.removed other) in
     let asked = did.asked item live in
@@ -86,17 +83,17 @@ loop-next-preserved g c =
     record {
       kept = did.indexed;
       stands = did.stands;
-      can = AsksFrom-asked key_at compare within (TakesAt g.F.FnMut) ask total s ix item live f after c.loop-next.next next now b i.can c.in-Some-next.is asked is kept gone;
-      among = λ j x there. i.among j x (live_then key_at compare total within ask f after after s now ix item next live passes is now b kept gone asked j x there);
-      passing = next_passes key_at compare total within ask f after after s now ix item next live passes is now b kept gone asked;
+      can = AsksFrom-asked compare within (TakesAt g.F.FnMut) ask total s ix item live f after c.loop-next.next next now b i.can c.in-Some-next.is asked is kept gone;
+      among = λ j x there. i.among j x (live_then compare total within ask f after after s now ix item next live passes is now b kept gone asked j x there);
+      passing = next_passes compare total within ask f after after s now ix item next live passes is now b kept gone asked;
       retains = λ new last from.
-          let then = RetainsFrom-asked key_at compare total within ask f after last s new ix item next live passes is now b kept gone asked from in
-          i.retains new last (subst (λ n. RetainsFrom key_at compare total within ask f s n new last) (sym c.in-Some-next.is) then);
+          let then = RetainsFrom-asked compare total within ask f after last s new ix item next live passes is now b kept gone asked from in
+          i.retains new last (subst (λ n. RetainsFrom compare total within ask f s n new last) (sym c.in-Some-next.is) then);
       others = λ j other.
           let apart : j ≢ ix = λ same. other (item, ap (get old) same ∙ was, passes) in
-          others_stay key_at compare total within ask f after after s now ix item next live passes is now b kept gone asked j apart ∙ i.others j other;
-      fewer = omega (arith, i.fewer, no_more_live key_at compare total within ask f after after s now ix item next live passes is now b kept gone asked i.kept.valid);
-      limit = limit_stays key_at compare total within ask f after after s now ix item next live passes is now b kept gone asked ∙ i.limit;
+          others_stay compare total within ask f after after s now ix item next live passes is now b kept gone asked j apart ∙ i.others j other;
+      fewer = omega (arith, i.fewer, no_more_live compare total within ask f after after s now ix item next live passes is now b kept gone asked i.kept.valid);
+      limit = limit_stays compare total within ask f after after s now ix item next live passes is now b kept gone asked ∙ i.limit;
       slots = did.slots ∙ i.slots;
       capacity = did.capacity ∙ i.capacity;
       cells = did.cells ∙ i.cells;
@@ -105,18 +102,16 @@ loop-next-preserved g c =
 pub returns-clause-asked : goal.returns-clause-asked
 returns-clause-asked g c =
     let i = c.loop-next.invariant in
-    let key_at = g.X.OrderedAt.key_at in
-    let compare = g.X.Key.Ord.cmp in
-    let within = is_between (bound_map g.Q.OrdQuery.compare c.args.lower) (bound_map g.Q.OrdQuery.compare c.args.upper) in
-    let none = RetainsFrom-none key_at compare g.met.X.Key.Ord.total within (CalledAt g.F.FnMut) c.loop-next.f c.loop-next.items.store in
-    i.retains c.loop-next.items.store c.loop-next.f (subst (λ n. RetainsFrom key_at compare g.met.X.Key.Ord.total within (CalledAt g.F.FnMut) c.loop-next.f c.loop-next.items.store n c.loop-next.items.store c.loop-next.f) (sym c.in_default-next.is) none)
+    let compare = g.X.OrderedAt.order in
+    let within = is_between (bound_map g.X.OrderedAt.compare c.args.lower) (bound_map g.X.OrderedAt.compare c.args.upper) in
+    let none = RetainsFrom-none compare g.met.X.OrderedAt.total within (CalledAt g.F.FnMut) c.loop-next.f c.loop-next.items.store in
+    i.retains c.loop-next.items.store c.loop-next.f (subst (λ n. RetainsFrom compare g.met.X.OrderedAt.total within (CalledAt g.F.FnMut) c.loop-next.f c.loop-next.items.store n c.loop-next.items.store c.loop-next.f) (sym c.in_default-next.is) none)
 
 pub returns-in_default-clause-asked : goal.returns-in_default-clause-asked
 returns-in_default-clause-asked g c =
     let s = c.args.items.now.store in
-    let key_at = g.X.OrderedAt.key_at in
-    let compare = g.X.Key.Ord.cmp in
-    let total = g.met.X.Key.Ord.total in
-    let within = is_between (bound_map g.Q.OrdQuery.compare c.args.lower) (bound_map g.Q.OrdQuery.compare c.args.upper) in
+    let compare = g.X.OrderedAt.order in
+    let total = g.met.X.OrderedAt.total in
+    let within = is_between (bound_map g.X.OrderedAt.compare c.args.lower) (bound_map g.X.OrderedAt.compare c.args.upper) in
     let ask = CalledAt g.F.FnMut in
-    RetainsWithin-from key_at compare total within ask c.args.f.now s s c.args.f.now None c.in_default.ensures.first (RetainsFrom-none key_at compare total within ask c.args.f.now s)
+    RetainsWithin-from compare total within ask c.args.f.now s s c.args.f.now None c.in_default.ensures.first (RetainsFrom-none compare total within ask c.args.f.now s)

@@ -3,30 +3,30 @@ use Rattle.std.specs.Fn.{TakesAt, CalledAt}
 use Rattle.std.specs.Range.Bound.{bound_map}
 use Rattle.iddqd.specs.Store.{Store, get, live_count}
 use Rattle.iddqd_keys.specs.OrderedQuery.{is_between}
-use Rattle.iddqd_keys.specs.Scan.{IsHit, passes_by}
+use Rattle.iddqd_keys.specs.Scan.{IsHit}
 use Rattle.iddqd_map.specs.KeyIndex.{IsIndexed}
 use Rattle.iddqd_map.specs.RangeRetain.{AsksFrom, KeepsMisses, RetainsWithin}
 use Rattle.iddqd_map.proofs.RangeRetainLemmas.{RetainsFrom, to_ask}
+use Rattle.iddqd_map.specs.Ranges.{itself}
 use Rattle.iddqd_map.proofs.map.range_retain.retain_within.Given as goal
 
 -- what the asks that are still to come leave is what all of them leave
 abbrev pub invariant-loop-next : goal.invariant-loop-next
 invariant-loop-next g l =
-    let key_at = g.X.OrderedAt.key_at in
-    let compare = g.X.Key.Ord.cmp in
-    let within = is_between (bound_map g.Q.OrdQuery.compare l.fn.lower) (bound_map g.Q.OrdQuery.compare l.fn.upper) in
+    let compare = g.X.OrderedAt.order in
+    let within = is_between (bound_map g.X.OrderedAt.compare l.fn.lower) (bound_map g.X.OrderedAt.compare l.fn.upper) in
     record {
       kept : IsIndexed (g.X.KeyIndex.indexes l.indexes) l.fn.state l.items.store;
       stands : IfSome l.next (g.X.OrderedAt.stands l.indexes l.spot);
       can : (n : ℕ)
-          → AsksFrom key_at compare within (TakesAt g.F.FnMut) (CalledAt g.F.FnMut) l.items.store n l.f l.next;
+          → AsksFrom compare within (TakesAt g.F.FnMut) (CalledAt g.F.FnMut) l.items.store n l.f l.next;
       among : (j : ℕ) (x : _) → get l.items.store j ≡ Some x → get l.fn.items.store j ≡ Some x;
-      passing : (n : ℕ) → l.next ≡ Some n → IsHit l.items.store (passes_by key_at within) n;
+      passing : (n : ℕ) → l.next ≡ Some n → IsHit l.items.store within n;
       retains : (new : Store _) (last : _)
-          → RetainsFrom key_at compare g.met.X.Key.Ord.total within (CalledAt g.F.FnMut) l.f l.items.store l.next new
+          → RetainsFrom compare g.met.X.OrderedAt.total within (CalledAt g.F.FnMut) l.f l.items.store l.next new
           last
-          → RetainsWithin key_at compare within (CalledAt g.F.FnMut) l.fn.f l.fn.items.store new last;
-      others : KeepsMisses l.fn.items.store (passes_by key_at within) l.items.store;
+          → RetainsWithin compare within (CalledAt g.F.FnMut) l.fn.f l.fn.items.store new last;
+      others : KeepsMisses l.fn.items.store within l.items.store;
       fewer : live_count l.items.store ≤ live_count l.fn.items.store;
       limit : l.items.store.limit ≡ l.fn.items.store.limit;
       slots : l.items.capacity ≡ l.fn.items.capacity;
@@ -35,4 +35,4 @@ invariant-loop-next g l =
     }
 
 abbrev pub decreases-loop-next : goal.decreases-loop-next
-decreases-loop-next g l = to_ask g.X.OrderedAt.key_at g.X.Key.Ord.cmp l.items.store l.next
+decreases-loop-next g l = to_ask itself g.X.OrderedAt.order l.items.store l.next

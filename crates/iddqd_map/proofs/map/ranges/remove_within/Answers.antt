@@ -7,10 +7,9 @@ use Rattle.iddqd.proofs.LiveCountLemmas.{live_count-removed}
 use Rattle.iddqd_hash.proofs.AskLemmas.{CanAsk-takes, CanAsk-asked}
 use Rattle.iddqd_keys.specs.KeyWalk.{IsFirstHit}
 use Rattle.iddqd_keys.specs.OrderedQuery.{is_between}
-use Rattle.iddqd_keys.specs.Scan.{passes_by}
 use Rattle.iddqd_keys.proofs.NextLemmas.{IsNextHit-between}
 use Rattle.iddqd_keys.proofs.ScanLemmas.{live_before}
-use Rattle.iddqd_map.specs.Ranges.{TakesItem, GivesItem}
+use Rattle.iddqd_map.specs.Ranges.{TakesItem, GivesItem, itself}
 use Rattle.iddqd_map.proofs.GroupLemmas.{LeavesOthers-none, LeavesOthers-hit}
 use Rattle.iddqd_map.proofs.RangeLemmas.{IsFirstHit-removed, RemovesAlong-none, RemovesAlong-first}
 use Rattle.iddqd_map.proofs.RetainLemmas.{Contains-live}
@@ -19,13 +18,13 @@ use Rattle.iddqd_map.proofs.map.ranges.remove_within.Goals as goal
 -- none is within
 pub returns-in_default-clause-left : goal.returns-in_default-clause-left
 returns-in_default-clause-left g c =
-    let within = is_between (bound_map g.Q.OrdQuery.compare c.args.lower) (bound_map g.Q.OrdQuery.compare c.args.upper) in
-    LeavesOthers-none (passes_by g.X.OrderedAt.key_at within) c.args.items.now.store c.in_default.ensures.first
+    let within = is_between (bound_map g.X.OrderedAt.compare c.args.lower) (bound_map g.X.OrderedAt.compare c.args.upper) in
+    LeavesOthers-none within c.args.items.now.store c.in_default.ensures.first
 
 pub returns-in_default-clause-handed : goal.returns-in_default-clause-handed
 returns-in_default-clause-handed g c =
-    let within = is_between (bound_map g.Q.OrdQuery.compare c.args.lower) (bound_map g.Q.OrdQuery.compare c.args.upper) in
-    RemovesAlong-none g.X.OrderedAt.key_at g.X.Key.Ord.cmp g.met.X.Key.Ord.total within (GivesItem g.F.FnMut) c.args.f.now c.args.items.now.store c.in_default.ensures.first
+    let within = is_between (bound_map g.X.OrderedAt.compare c.args.lower) (bound_map g.X.OrderedAt.compare c.args.upper) in
+    RemovesAlong-none g.X.OrderedAt.order g.met.X.OrderedAt.total within (GivesItem g.F.FnMut) c.args.f.now c.args.items.now.store c.in_default.ensures.first
 
 pub f-requires : goal.f-requires
 f-requires g c =
@@ -47,18 +46,17 @@ loop-next-preserved g c =
     let did = c.take_out_between-taken.ensures in
     let live : get now ix ≡ Some item = sym did.value ∙ c.in-Some-taken.is in
     let gone = ap (λ (s : SizedStore _). s.store) did.removed in
-    let key_at = g.X.OrderedAt.key_at in
-    let compare = g.X.Key.Ord.cmp in
-    let total = g.met.X.Key.Ord.total in
-    let cmp = g.Q.OrdQuery.compare in
+    let compare = g.X.OrderedAt.order in
+    let total = g.met.X.OrderedAt.total in
+    let cmp = g.X.OrderedAt.compare in
     let within = is_between (bound_map cmp c.args.lower) (bound_map cmp c.args.upper) in
-    let hits = passes_by key_at within in
+    let hits = within in
     let then = c.take_out_between-taken.result.1 in
-    let first : IsFirstHit key_at compare now hits (Some ix) = subst (IsFirstHit key_at compare now hits) c.in-Some-next.is i.first in
-    let next = IsNextHit-between key_at compare cmp g.met.Q.OrdQuery.lawful now ix c.args.lower c.args.upper then first.0 did.next in
+    let first : IsFirstHit itself compare now hits (Some ix) = subst (IsFirstHit itself compare now hits) c.in-Some-next.is i.first in
+    let next = IsNextHit-between itself compare cmp g.met.X.OrderedAt.fits now ix c.args.lower c.args.upper then first.0 did.next in
     record {
       kept = did.map;
-      first = rw gone (IsFirstHit-removed key_at compare total now hits ix item live first then next);
+      first = rw gone (IsFirstHit-removed itself compare total now hits ix item live first then next);
       stands = did.stands;
       can = CanAsk-asked (TakesItem g.F.FnMut) (λ p x (b : Bool) q. GivesItem g.F.FnMut p x q) c.loop-next.f (live_items old) item true c.f.new.self i.can
           (Contains-live old ix item (i.among ix item live)) c.f.ensures;
@@ -66,7 +64,7 @@ loop-next-preserved g c =
       leaves = λ new left. i.leaves new (LeavesOthers-hit hits now ix first.0 _ new gone left);
       removes = λ new last along.
           i.removes new last
-          (RemovesAlong-first key_at compare total within (GivesItem g.F.FnMut) c.loop-next.f c.f.new.self last now _ new ix item first live gone c.f.ensures along);
+          (RemovesAlong-first compare total within (GivesItem g.F.FnMut) c.loop-next.f c.f.new.self last now _ new ix item first live gone c.f.ensures along);
       fewer = omega (arith, i.fewer, live_count-removed now ix item i.kept.valid live, ap live_count gone);
       limit = ap (λ (s : SizedStore _). s.store.limit) did.removed ∙ i.limit;
       slots = ap (λ (s : SizedStore _). s.capacity) did.removed ∙ i.slots;
@@ -77,16 +75,16 @@ loop-next-preserved g c =
 pub returns-clause-left : goal.returns-clause-left
 returns-clause-left g c =
     let i = c.loop-next.invariant in
-    let hits = passes_by g.X.OrderedAt.key_at (is_between (bound_map g.Q.OrdQuery.compare c.args.lower) (bound_map g.Q.OrdQuery.compare c.args.upper)) in
+    let hits = is_between (bound_map g.X.OrderedAt.compare c.args.lower) (bound_map g.X.OrderedAt.compare c.args.upper) in
     let s = c.loop-next.items.store in
-    let none = subst (IsFirstHit g.X.OrderedAt.key_at g.X.Key.Ord.cmp s hits) c.in_default-next.is i.first in
+    let none = subst (IsFirstHit itself g.X.OrderedAt.order s hits) c.in_default-next.is i.first in
     i.leaves s (LeavesOthers-none hits s none)
 
 pub returns-clause-handed : goal.returns-clause-handed
 returns-clause-handed g c =
     let i = c.loop-next.invariant in
-    let within = is_between (bound_map g.Q.OrdQuery.compare c.args.lower) (bound_map g.Q.OrdQuery.compare c.args.upper) in
+    let within = is_between (bound_map g.X.OrderedAt.compare c.args.lower) (bound_map g.X.OrderedAt.compare c.args.upper) in
     let s = c.loop-next.items.store in
-    let none = subst (IsFirstHit g.X.OrderedAt.key_at g.X.Key.Ord.cmp s (passes_by g.X.OrderedAt.key_at within)) c.in_default-next.is i.first in
+    let none = subst (IsFirstHit itself g.X.OrderedAt.order s within) c.in_default-next.is i.first in
     i.removes s c.loop-next.f
-    (RemovesAlong-none g.X.OrderedAt.key_at g.X.Key.Ord.cmp g.met.X.Key.Ord.total within (GivesItem g.F.FnMut) c.loop-next.f s none)
+    (RemovesAlong-none g.X.OrderedAt.order g.met.X.OrderedAt.total within (GivesItem g.F.FnMut) c.loop-next.f s none)

@@ -5,29 +5,27 @@ use Rattle.iddqd.specs.Store.{Store, get, live_count}
 use Rattle.iddqd_hash.specs.Asks.{CanAsk}
 use Rattle.iddqd_keys.specs.KeyWalk.{IsFirstHit}
 use Rattle.iddqd_keys.specs.OrderedQuery.{is_between}
-use Rattle.iddqd_keys.specs.Scan.{passes_by}
 use Rattle.iddqd_map.specs.KeyIndex.{IsIndexed}
-use Rattle.iddqd_map.specs.Ranges.{LeavesOthers, RemovesAlong, TakesItem, GivesItem}
+use Rattle.iddqd_map.specs.Ranges.{LeavesOthers, RemovesAlong, TakesItem, GivesItem, itself}
 use Rattle.iddqd_map.proofs.map.ranges.remove_within.Given as goal
 
 -- what the calls that are still to come leave is what all of them leave
 abbrev pub invariant-loop-next : goal.invariant-loop-next
 invariant-loop-next g l =
-    let key_at = g.X.OrderedAt.key_at in
-    let compare = g.X.Key.Ord.cmp in
-    let within = is_between (bound_map g.Q.OrdQuery.compare l.fn.lower) (bound_map g.Q.OrdQuery.compare l.fn.upper) in
+    let compare = g.X.OrderedAt.order in
+    let within = is_between (bound_map g.X.OrderedAt.compare l.fn.lower) (bound_map g.X.OrderedAt.compare l.fn.upper) in
     record {
       kept : IsIndexed (g.X.KeyIndex.indexes l.indexes) l.fn.state l.items.store;
-      first : IsFirstHit key_at compare l.items.store (passes_by key_at within) l.next;
+      first : IsFirstHit itself compare l.items.store within l.next;
       stands : IfSome l.next (g.X.OrderedAt.stands l.indexes l.spot);
       can : CanAsk (TakesItem g.F.FnMut) (λ p x (b : Bool) q. GivesItem g.F.FnMut p x q) l.f
           (live_items l.fn.items.store);
       among : (j : ℕ) (x : _) → get l.items.store j ≡ Some x → get l.fn.items.store j ≡ Some x;
-      leaves : (new : Store _) → LeavesOthers l.items.store (passes_by key_at within) new
-          → LeavesOthers l.fn.items.store (passes_by key_at within) new;
+      leaves : (new : Store _) → LeavesOthers l.items.store within new
+          → LeavesOthers l.fn.items.store within new;
       removes : (new : Store _) (last : _)
-          → RemovesAlong key_at compare within (GivesItem g.F.FnMut) l.f l.items.store new last
-          → RemovesAlong key_at compare within (GivesItem g.F.FnMut) l.fn.f l.fn.items.store new last;
+          → RemovesAlong compare within (GivesItem g.F.FnMut) l.f l.items.store new last
+          → RemovesAlong compare within (GivesItem g.F.FnMut) l.fn.f l.fn.items.store new last;
       fewer : live_count l.items.store ≤ live_count l.fn.items.store;
       limit : l.items.store.limit ≡ l.fn.items.store.limit;
       slots : l.items.capacity ≡ l.fn.items.capacity;

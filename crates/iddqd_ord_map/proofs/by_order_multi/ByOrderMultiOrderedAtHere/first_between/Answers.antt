@@ -1,0 +1,14 @@
+use Rattle.std.proofs.Common.{ℕ, Option, subst}
+use Rattle.std.specs.Option.{option_map}
+use Rattle.std.specs.Ordering.{on}
+use Rattle.iddqd_keys.specs.KeyWalk.{IsFirstHit}
+use Rattle.iddqd_map.specs.Ranges.{itself}
+use Rattle.iddqd_ord_map.proofs.ItemOrderLemmas.{IsFirstHit-items, is_within-items}
+use Rattle.iddqd_ord_map.proofs.by_order_multi.ByOrderMultiOrderedAtHere.first_between.Goals as goal
+
+pub returns-clause-first : goal.returns-clause-first
+returns-clause-first g c =
+    let s = c.args.items.now.store in
+    let order = on g.E.KeyOf.key_of g.E.Key.Ord.cmp in
+    subst (λ test. IsFirstHit itself order s test _) (is_within-items g.E.KeyOf.key_of g.Q.OrdQuery.compare c.args.lower c.args.upper)
+    (IsFirstHit-items g.E.KeyOf.key_of g.E.Key.Ord.cmp s _ _ c.first_between.ensures.first)
