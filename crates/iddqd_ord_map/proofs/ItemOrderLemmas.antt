@@ -1,15 +1,20 @@
 -- For leaves in order: what is said of keys in order is said of items that compare by these keys.
-use Rattle.std.proofs.Common.{◌≡◌, ◌∙◌, ◌≢◌, ◌&&◌, ℕ, Bool, Option, Some, None, refl, sym, ap, subst, Ordering}
+use Rattle.std.proofs.Common.{◌≡◌, ◌∙◌, ◌≢◌, ◌&&◌, ℕ, nat_eq, Bool, List, Option, Some, None, refl, sym, ap, subst, Ordering}
+use Rattle.std.specs.List.{IsDistinct}
+use Rattle.std.specs.List.Sorted.{IsStrictlySortedBy}
 use Rattle.std.specs.Option.{option_map, option_cmp}
 use Rattle.std.specs.Ordering.{nat_cmp, on, ordering_then}
 use Rattle.std.specs.Range.Bound.{bound_map}
 use Rattle.std.specs.declared.ops.Bound.{Bound}
 use Rattle.std.specs.declared.ops.Bound.TheVariants.{Included, Excluded, Unbounded}
 use Rattle.iddqd.specs.Store.{Store, get}
-use Rattle.iddqd_keys.specs.KeyWalk.{by_key_then_index, IsFirstHit, IsNextHit}
+use Rattle.iddqd_by_order.specs.Ordered.{IsSortedScan}
+use Rattle.iddqd_keys.specs.KeyWalk.{by_key_then_index, IsFirstHit, IsInPlace, IsNextHit, SortsWithin}
 use Rattle.iddqd_keys.specs.OrderedQuery.{is_from, is_up_to, is_within}
 use Rattle.iddqd_keys.specs.Scan.{passes_by}
+use Rattle.iddqd_map.specs.Groups.{AreHits}
 use Rattle.iddqd_map.specs.Ranges.{itself}
+use Rattle.iddqd_ord_map.specs.InOrder.{ListsInOrder}
 use Rattle.iddqd_ord_map.specs.ItemOrder.{compare_by}
 
 module _ {T K : Type 0} (key_of : T → K) (compare : K → K → Ordering) where
@@ -47,6 +52,30 @@ module _ {T K : Type 0} (key_of : T → K) (compare : K → K → Ordering) wher
       sym (indexes_alike after ix) ∙ is.1,
       λ j hit before apart. sym (indexes_alike ix j) ∙ is.2 j hit (indexes_alike after j ∙ before) apart,
     )
+
+    IsInPlace-items :
+        (indexes : List ℕ) → IsInPlace key_of compare s indexes → IsInPlace itself (on key_of compare) s indexes
+    IsInPlace-items indexes = subst (λ order. IsStrictlySortedBy order indexes) (λ i a b. indexes_alike a b i)
+
+    pub IsSortedScan-items :
+        (indexes : List ℕ)
+        → IsSortedScan key_of compare s indexes
+        → IsSortedScan itself (on key_of compare) s indexes
+    IsSortedScan-items indexes sorted = record {
+      holds = sorted.holds;
+      placed = IsInPlace-items indexes sorted.placed;
+    }
+
+    pub ListsInOrder-items :
+        (within : K → Bool) (test : T → Bool) (indexes : List ℕ)
+        → passes_by key_of within ≡ test
+        → SortsWithin key_of compare within s indexes
+        → IsDistinct nat_eq indexes
+        → ListsInOrder (on key_of compare) test s indexes
+    ListsInOrder-items within test indexes same sorted once = record {
+      hits = subst (λ t. AreHits s t indexes) same (record { each = sorted.each; once = once });
+      placed = IsInPlace-items indexes sorted.placed;
+    }
 
 module _ {Q T K : Type 0} (key_of : T → K) (compare : Q → K → Ordering) where
   from_alike :

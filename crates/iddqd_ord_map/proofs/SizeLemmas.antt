@@ -1,5 +1,5 @@
 -- How much memory a table in order has, as its key index counts it.
-use Rattle.std.proofs.Common.{◌≡◌, ◌+◌, ◌-◌, ◌≤◌, ℕ, length, min, max, Result, Ok, Err, OnOk, OnErr, ap, arith, inl, inr}
+use Rattle.std.proofs.Common.{◌≡◌, ◌+◌, ◌-◌, ◌≤◌, ℕ, length, min, max, Result, Ok, Err, IsOk, OnOk, OnErr, ap, arith, inl, inr}
 use Rattle.std.proofs.lemmas.Bool.{cases_lt}
 use Rattle.iddqd_order.specs.MapBTreeTable.{Order, order_of, capacity, capacity_for}
 use Rattle.iddqd_order.specs.Sizes.{Reserves, Shrinks}
@@ -13,6 +13,10 @@ on_ok (Err e) is to = tt
 pub on_err : {A E P : Type 0} (r : Result A E) → P → OnErr r P
 on_err (Ok x) is = tt
 on_err (Err e) is = is
+
+pub not_on_ok : {A E : Type 0} (P : Type 0) (r : Result A E) → IsOk r → OnErr r P
+not_on_ok P (Ok x) is = tt
+not_on_ok P (Err e) is = absurd (cc)
 
 -- blocks for so many indexes hold these, and ten more
 pub enough : (n : ℕ) → n ≤ most_cells n

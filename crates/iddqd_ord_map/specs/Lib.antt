@@ -3,6 +3,7 @@ pub mod ByOrderLaws
 pub mod ByOrderMulti
 pub mod ByOrderMultiLaws
 pub mod Equality
+pub mod InOrder
 pub mod ItemOrder
 pub mod KeyOrder
 pub mod OrdMap

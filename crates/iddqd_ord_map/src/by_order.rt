@@ -296,7 +296,7 @@ where
     }
 
     fn plan(&self, items: &ItemSet<T>, state: &S, place: Gap, ix: ItemIndex, item: &T) -> Gap {
-        spot
+        place
     }
 
     fn make_room(

@@ -49,7 +49,7 @@ use std::ops::Bound;
 /// A key index in the order of the key that `E` names, which several items may have.
 #[derive(Drop)]
 pub struct ByOrderMulti<E> {
-    table: MapBTreeTable,
+    pub(crate) table: MapBTreeTable,
     of: PhantomData<E>,
 }
 

@@ -5,7 +5,10 @@ ghost use Rattle.std.specs.Prelude.{◌≡◌, ⊤, Some, IfSome, length};
 ghost use Rattle.std.specs.Iterator.{YieldsFirstBy, YieldsLastBy, item_count, at_most, UpTo};
 ghost use Rattle.std.specs.Iterator.SizeHint.{IsWithinCount};
 ghost use Rattle.iddqd.specs.{get};
+ghost use Rattle.iddqd_by_order.specs.Ordered.{AreLive};
+ghost use Rattle.iddqd_keys.specs.KeyWalk.{pairs_at};
 ghost use Rattle.iddqd_keys.specs.Scan.{IsLive};
+ghost use Rattle.iddqd_order.specs.Iter.{indexes_left};
 
 use iddqd::item_index::ItemIndex;
 use iddqd::item_set::ItemSet;
@@ -36,6 +39,16 @@ impl<'a, T> Model for Iter<'a, T> {
     ghost view = { λ it. pairs_at it.items.now.store (indexes_left it.indexes) };
 
     ghost invariant = { λ it. AreLive it.items.now.store (indexes_left it.indexes) };
+}
+
+impl<'a, T> Iter<'a, T> {
+    /// The indexes that an iterator over a table returns, each with its item. All of them must be live.
+    pub fn new(indexes: btree_table::Iter<'a>, items: &'a ItemSet<T>) -> Iter<'a, T>
+        requires { AreLive items.now.store (indexes_left indexes) }
+        ensures { result ≡ pairs_at items.now.store (indexes_left indexes.entry) }
+    {
+        Iter { indexes, items }
+    }
 }
 
 impl<'a, T> Iterator for Iter<'a, T> {

@@ -1,6 +1,5 @@
-use Rattle.std.proofs.Common.{◌≤◌, subst, sym}
 use Rattle.iddqd.proofs.LiveLemmas.{item_at}
-use Rattle.iddqd_order.specs.MapBTreeTable.{order_of, move_blocks}
+use Rattle.iddqd_order.specs.MapBTreeTable.{order_of}
 use Rattle.iddqd_ord_map.specs.SortedScanLaws.{IsSortedScan-kept}
 use Rattle.iddqd_ord_map.proofs.ordered_steps.commit_move.Goals as goal
 
@@ -12,6 +11,4 @@ returns-in-Stays-clause-moved g c =
     IsSortedScan-kept g.E.KeyOf.key_of g.E.Key.Ord.cmp g.met.E.Key.Ord.total s (order_of c.args.table.now) c.requires.sorted c.args.ix c.args.item.now was live kept
 
 pub relocate-requires-clause-enough : goal.relocate-requires-clause-enough
-relocate-requires-clause-enough g c =
-    let ready = rw c.in-Moves.is at c.requires.ready in
-    subst (λ blocks. move_blocks c.args.table.now ≤ blocks) (sym c.take_waiting-blocks.ensures) ready
+relocate-requires-clause-enough g c = rw c.in-Moves.is at c.requires.enough

@@ -9,11 +9,6 @@ returns-then-len-capacity-clause-ready g c = λ fits.
     let none = none-below c.args.table.now c.args.gap.now fits (omega arith) in
     omega (arith, none)
 
-pub returns-in_err-blocks_at-clause-had_room : goal.returns-in_err-blocks_at-clause-had_room
-returns-in_err-blocks_at-clause-had_room g c = λ fits.
-    let held = length-held c.args.items.now.store (order_of c.args.table.now) c.requires in
-    absurd (omega (arith, fits, held))
-
 pub returns-clause-had_room : goal.returns-clause-had_room
 returns-clause-had_room g c = λ fits.
     let held = length-held c.args.items.now.store (order_of c.args.table.now) c.requires in

@@ -7,11 +7,11 @@ use Rattle.iddqd_by_order.proofs.OrderedPlaceLemmas.{AddsInPlace-placed}
 use Rattle.iddqd_ord_map.proofs.OrderedIndexingLemmas.{Sorts-inserted}
 use Rattle.iddqd_ord_map.proofs.by_order.ByOrderKeyIndex.insert.Goals as goal
 
-pub insert-requires-clause-fits : goal.insert-requires-clause-fits
-insert-requires-clause-fits g c = let (state, (s, (item, planned))) = c.requires.planned in planned.fits
+pub insert_in-requires-clause-fits : goal.insert_in-requires-clause-fits
+insert_in-requires-clause-fits g c = let (state, (s, (item, planned))) = c.requires.planned in planned.fits
 
-pub insert-requires-clause-absent : goal.insert-requires-clause-absent
-insert-requires-clause-absent g c = λ here.
+pub insert_in-requires-clause-absent : goal.insert_in-requires-clause-absent
+insert_in-requires-clause-absent g c = λ here.
     let (state, (s, is, valid, next)) = c.requires.next in
     next_absent s (order_of c.args.self.now.table) is.held valid (subst (Contains (order_of c.args.self.now.table)) next here)
 
@@ -23,4 +23,4 @@ returns-clause-indexed g c = λ state s item is valid not_full next none known p
     let order = order_of c.args.self.now.table in
     let place = gap_place c.args.self.now.table c.args.plan.now in
     Sorts-inserted key_of compare s order is total item _ valid none
-    (AddsInPlace-placed key_of compare total s item order (compare (key_of item)) valid is.held (λ k. refl) place _ planned.vacant (c.insert.ensures.inserted ∙ ap (λ ix. insert order place ix) next))
+    (AddsInPlace-placed key_of compare total s item order (compare (key_of item)) valid is.held (λ k. refl) place _ planned.vacant (c.insert_in.ensures.inserted ∙ ap (λ ix. insert order place ix) next))

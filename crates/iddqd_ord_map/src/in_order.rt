@@ -1,0 +1,132 @@
+//! Reads of a map in the order of a key at a place: `ledger.range_by::<ByDay, _>(lower, upper)`.
+//!
+//! They are calls of one trait, `InOrder`, which every `Map` has, since the ordered table stands above the crate of the
+//! maps. No memory is taken.
+ghost use Rattle.std.specs.Prelude.{◌≡◌, length};
+ghost use Rattle.std.specs.Option.{option_map};
+ghost use Rattle.iddqd.specs.{live_count};
+ghost use Rattle.iddqd_keys.specs.OrderedQuery.{is_equal, is_within};
+ghost use Rattle.iddqd_map.specs.Groups.{CountsHits};
+ghost use Rattle.iddqd_ord_map.specs.InOrder.{shown, FindsFirst, FindsLast, WalksInOrder};
+
+use crate::id_ord_map::Iter;
+use crate::ranges_at::{RangesAt, SortedAt};
+use iddqd::item_index::ItemIndex;
+use iddqd_by_order::ordered_walk::Range;
+use iddqd_map::key_index::KeyIndex;
+use iddqd_map::map::{Map, Parts};
+use std::ops::Bound;
+
+/// Reads in the order of the key at the place `P`. Items with equal keys come by index.
+pub trait InOrder<T, X: KeyIndex<T, S>, S> {
+    ghost use Rattle.std.specs.Prelude.{true};
+    ghost use Rattle.iddqd.specs.Store.{Store};
+
+    ghost store: { Self → Store T };
+
+    /// All items with their indexes, in order, from both ends.
+    fn iter_by<P>(&self) -> Iter<'_, T>
+    where
+        X: SortedAt<P, T, S>,
+        ensures walk { WalksInOrder X.sorts_by (λ item. true) (store self.now) result }
+        ensures len { length result ≡ live_count (store self.now) };
+
+    /// The first item in order, with its index.
+    fn first_by<P>(&self) -> Option<(ItemIndex, &T)>
+    where
+        X: SortedAt<P, T, S>,
+        ensures { FindsFirst X.sorts_by (store self.now) (option_map shown result) };
+
+    /// The last item in order, with its index.
+    fn last_by<P>(&self) -> Option<(ItemIndex, &T)>
+    where
+        X: SortedAt<P, T, S>,
+        ensures { FindsLast X.sorts_by (store self.now) (option_map shown result) };
+
+    /// The items whose keys are within the bounds with their indexes, in order, from both ends: none if the lower bound
+    /// is above the upper one.
+    ///
+    /// It is one search for each bound that there is.
+    fn range_by<P, Q>(&self, lower: Bound<Q>, upper: Bound<Q>) -> Range<'_, T>
+    where
+        X: RangesAt<P, Q, T, S>,
+        ensures { let within = is_within X.compare lower upper in
+            WalksInOrder X.order within (store self.now) result };
+
+    /// The items that have the key for which the query stands with their indexes, in order, from both ends.
+    ///
+    /// It is two searches.
+    fn group_by<P, Q>(&self, query: Q) -> Range<'_, T>
+    where
+        X: RangesAt<P, Q, T, S>,
+        Q: Copy,
+        ensures { WalksInOrder X.order (is_equal (X.compare query)) (store self.now) result };
+
+    /// How many items have the key for which the query stands. It costs one step for each of them more than `group_by`.
+    fn count_by<P, Q>(&self, query: Q) -> usize
+    where
+        X: RangesAt<P, Q, T, S>,
+        ensures { CountsHits (store self.now) (is_equal (X.compare query)) result };
+}
+
+impl<T, X: KeyIndex<T, S>, S> InOrder<T, X, S> for Map<T, X, S> {
+    ghost store = { λ m. m.store };
+
+    fn iter_by<P>(&self) -> Iter<'_, T>
+    where
+        X: SortedAt<P, T, S>,
+    {
+        let Parts {
+            items,
+            indexes,
+            state,
+        } = self.parts();
+        Iter::new(indexes.table_at(items, state).iter(), items)
+    }
+
+    fn first_by<P>(&self) -> Option<(ItemIndex, &T)>
+    where
+        X: SortedAt<P, T, S>,
+    {
+        self.iter_by::<P>().next()
+    }
+
+    fn last_by<P>(&self) -> Option<(ItemIndex, &T)>
+    where
+        X: SortedAt<P, T, S>,
+    {
+        self.iter_by::<P>().next_back()
+    }
+
+    fn range_by<P, Q>(&self, lower: Bound<Q>, upper: Bound<Q>) -> Range<'_, T>
+    where
+        X: RangesAt<P, Q, T, S>,
+    {
+        let Parts {
+            items,
+            indexes,
+            state,
+        } = self.parts();
+        Range::new(indexes.range_at(items, state, lower, upper), items)
+    }
+
+    fn group_by<P, Q>(&self, query: Q) -> Range<'_, T>
+    where
+        X: RangesAt<P, Q, T, S>,
+        Q: Copy,
+    {
+        self.range_by::<P, Q>(Bound::Included(query), Bound::Included(query))
+    }
+
+    fn count_by<P, Q>(&self, query: Q) -> usize
+    where
+        X: RangesAt<P, Q, T, S>,
+    {
+        let Parts {
+            items,
+            indexes,
+            state,
+        } = self.parts();
+        indexes.count_at(items, state, query)
+    }
+}

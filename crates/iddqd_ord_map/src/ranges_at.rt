@@ -1,0 +1,223 @@
+//! The order of a key at a place of a key index: the table in that order, and ranges of it.
+//!
+//! What these traits return borrows the table alone. A look-up searches it once for each bound that there is.
+ghost use Rattle.std.specs.Range.Bound.{bound_map};
+ghost use Rattle.std.specs.Ordering.{on};
+ghost use Rattle.iddqd_by_order.specs.Ordered.{IsSortedScan};
+ghost use Rattle.iddqd_keys.specs.OrderedQuery.{is_equal, is_within};
+ghost use Rattle.iddqd_keys.specs.Scan.{passes_by};
+ghost use Rattle.iddqd_map.specs.Groups.{CountsHits};
+ghost use Rattle.iddqd_map.specs.Ranges.{itself};
+ghost use Rattle.iddqd_ord_map.specs.InOrder.{ListsInOrder};
+ghost use Rattle.iddqd_ord_map.specs.ItemOrder.{compare_by};
+ghost use Rattle.iddqd_ord_map.specs.OrderedIndexing.{Sorts};
+ghost use Rattle.iddqd_order.specs.{indexes_ahead};
+ghost use Rattle.iddqd_order.specs.MapBTreeTable.{order_of};
+
+use crate::by_order::ByOrder;
+use crate::by_order_multi::ByOrderMulti;
+use iddqd::item_set::ItemSet;
+use iddqd_by_order::ordered;
+use iddqd_keys::key_of::KeyOf;
+use iddqd_keys::order_query::OrdQuery;
+use iddqd_map::key_index::{Here, KeyIndex, Left, OrderedAt, Right};
+use iddqd_map::pair::Pair;
+use iddqd_order::btree_table::{MapBTreeTable, Range};
+use std::ops::Bound;
+
+/// A key index with a key by its order at the place `P`.
+pub trait SortedAt<P, T, S>: KeyIndex<T, S> {
+    ghost use Rattle.std.specs.declared.cmp.Ordering.{Ordering};
+
+    // How two items compare by that key.
+    ghost sorts_by: { T → T → Ordering };
+
+    /// The table in the order of that key.
+    fn table_at(&self, items: &ItemSet<T>, state: &S) -> &MapBTreeTable
+        requires indexed { Self.KeyIndex.indexes self.now state.now items.now.store }
+        ensures { IsSortedScan itself sorts_by items.now.store (order_of result.now) };
+}
+
+/// A key index whose ranges in the order of the key at the place `P` are found by queries `Q`.
+pub trait RangesAt<P, Q, T, S>: OrderedAt<P, Q, T, S> {
+    /// The indexes whose items have keys between two bounds, by key and then by index: none if the lower bound is above
+    /// the upper one. It is one search for each bound that there is, and takes no memory.
+    fn range_at(
+        &self,
+        items: &ItemSet<T>,
+        state: &S,
+        lower: Bound<Q>,
+        upper: Bound<Q>,
+    ) -> Range<'_>
+        requires indexed { Self.KeyIndex.indexes self.now state.now items.now.store }
+        ensures { let within = is_within Self.OrderedAt.compare lower upper in
+            ListsInOrder Self.OrderedAt.order within items.now.store (indexes_ahead result) };
+
+    /// How many items have the key for which the query stands. It is two searches, and a step for each of them.
+    fn count_at(&self, items: &ItemSet<T>, state: &S, query: Q) -> usize
+        requires indexed { Self.KeyIndex.indexes self.now state.now items.now.store }
+        ensures { CountsHits items.now.store (is_equal (Self.OrderedAt.compare query)) result };
+}
+
+impl<T, S, E> SortedAt<Here, T, S> for ByOrder<E>
+where
+    E: KeyOf<T>,
+    E::Key: Ord,
+{
+    ghost sorts_by = { on E.key_of E.Key.cmp };
+
+    fn table_at(&self, items: &ItemSet<T>, state: &S) -> &MapBTreeTable {
+        &self.table
+    }
+}
+
+impl<T, S, E> SortedAt<Here, T, S> for ByOrderMulti<E>
+where
+    E: KeyOf<T>,
+    E::Key: Ord,
+{
+    ghost sorts_by = { on E.key_of E.Key.cmp };
+
+    fn table_at(&self, items: &ItemSet<T>, state: &S) -> &MapBTreeTable {
+        &self.table
+    }
+}
+
+impl<P, T, S, A, B> SortedAt<Left<P>, T, S> for Pair<A, B>
+where
+    A: SortedAt<P, T, S>,
+    B: KeyIndex<T, S>,
+{
+    ghost sorts_by = { A.SortedAt.sorts_by };
+
+    fn table_at(&self, items: &ItemSet<T>, state: &S) -> &MapBTreeTable {
+        self.first.table_at(items, state)
+    }
+}
+
+impl<P, T, S, A, B> SortedAt<Right<P>, T, S> for Pair<A, B>
+where
+    A: KeyIndex<T, S>,
+    B: SortedAt<P, T, S>,
+{
+    ghost sorts_by = { B.SortedAt.sorts_by };
+
+    fn table_at(&self, items: &ItemSet<T>, state: &S) -> &MapBTreeTable {
+        self.second.table_at(items, state)
+    }
+}
+
+impl<T, S, E, Q> RangesAt<Here, Q, T, S> for ByOrder<E>
+where
+    E: KeyOf<T>,
+    E::Key: Ord,
+    Q: OrdQuery<E::Key>,
+{
+    fn range_at(
+        &self,
+        items: &ItemSet<T>,
+        state: &S,
+        lower: Bound<Q>,
+        upper: Bound<Q>,
+    ) -> Range<'_>
+        requires indexed { Sorts E.key_of E.Key.cmp items.now.store (order_of self.now.table) }
+        ensures { let within = is_within (compare_by E.key_of Q.compare) lower upper in
+            ListsInOrder (on E.key_of E.Key.cmp) within items.now.store (indexes_ahead result) }
+    {
+        ordered::range::<T, E, Q>(&self.table, items, lower, upper)
+    }
+
+    fn count_at(&self, items: &ItemSet<T>, state: &S, query: Q) -> usize {
+        count_in::<T, E, Q>(&self.table, items, query)
+    }
+}
+
+impl<T, S, E, Q> RangesAt<Here, Q, T, S> for ByOrderMulti<E>
+where
+    E: KeyOf<T>,
+    E::Key: Ord,
+    Q: OrdQuery<E::Key>,
+{
+    fn range_at(
+        &self,
+        items: &ItemSet<T>,
+        state: &S,
+        lower: Bound<Q>,
+        upper: Bound<Q>,
+    ) -> Range<'_>
+        requires indexed { IsSortedScan E.key_of E.Key.cmp items.now.store (order_of self.now.table) }
+        ensures { let within = is_within (compare_by E.key_of Q.compare) lower upper in
+            ListsInOrder (on E.key_of E.Key.cmp) within items.now.store (indexes_ahead result) }
+    {
+        ordered::range::<T, E, Q>(&self.table, items, lower, upper)
+    }
+
+    fn count_at(&self, items: &ItemSet<T>, state: &S, query: Q) -> usize {
+        count_in::<T, E, Q>(&self.table, items, query)
+    }
+}
+
+impl<P, Q, T, S, A, B> RangesAt<Left<P>, Q, T, S> for Pair<A, B>
+where
+    A: RangesAt<P, Q, T, S>,
+    B: KeyIndex<T, S>,
+{
+    fn range_at(
+        &self,
+        items: &ItemSet<T>,
+        state: &S,
+        lower: Bound<Q>,
+        upper: Bound<Q>,
+    ) -> Range<'_>
+        requires indexed { A.KeyIndex.indexes self.now.first state.now items.now.store
+            × B.KeyIndex.indexes self.now.second state.now items.now.store }
+        ensures { let within = is_within A.OrderedAt.compare lower upper in
+            ListsInOrder A.OrderedAt.order within items.now.store (indexes_ahead result) }
+    {
+        self.first.range_at(items, state, lower, upper)
+    }
+
+    fn count_at(&self, items: &ItemSet<T>, state: &S, query: Q) -> usize {
+        self.first.count_at(items, state, query)
+    }
+}
+
+impl<P, Q, T, S, A, B> RangesAt<Right<P>, Q, T, S> for Pair<A, B>
+where
+    A: KeyIndex<T, S>,
+    B: RangesAt<P, Q, T, S>,
+{
+    fn range_at(
+        &self,
+        items: &ItemSet<T>,
+        state: &S,
+        lower: Bound<Q>,
+        upper: Bound<Q>,
+    ) -> Range<'_>
+        requires indexed { A.KeyIndex.indexes self.now.first state.now items.now.store
+            × B.KeyIndex.indexes self.now.second state.now items.now.store }
+        ensures { let within = is_within B.OrderedAt.compare lower upper in
+            ListsInOrder B.OrderedAt.order within items.now.store (indexes_ahead result) }
+    {
+        self.second.range_at(items, state, lower, upper)
+    }
+
+    fn count_at(&self, items: &ItemSet<T>, state: &S, query: Q) -> usize {
+        self.second.count_at(items, state, query)
+    }
+}
+
+// How many items have the key for which the query stands.
+fn count_in<T, E, Q>(table: &MapBTreeTable, items: &ItemSet<T>, query: Q) -> usize
+where
+    E: KeyOf<T>,
+    E::Key: Ord,
+    Q: OrdQuery<E::Key>,
+    requires { IsSortedScan E.key_of E.Key.cmp items.now.store (order_of table.now) }
+    ensures { CountsHits items.now.store (passes_by E.key_of (is_equal (Q.compare query))) result }
+{
+    // The table counts its indexes in 64 bits.
+    let _len = table.len();
+    let (from, to) = (Bound::Included(query), Bound::Included(query));
+    ordered::range::<T, E, Q>(table, items, from, to).count()
+}
