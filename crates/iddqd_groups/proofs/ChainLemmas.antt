@@ -1,5 +1,5 @@
 -- The walk along a chain of indexes, and that the chain from the head of a hash has exactly the indexes under it.
-use Rattle.std.proofs.Common.{◌≡◌, ◌≢◌, ◌∙◌, inl, inr, ◌+◌, ◌<◌, ◌≤◌, ℕ, zero, suc, List, [], ◌∷◌, length, get_or, slice_index_or, false, nat_eq, Some, IsSome, Contains, refl, sym, ap, subst, arith, eq-eqb}
+use Rattle.std.proofs.Common.{◌≡◌, ◌≢◌, ◌∙◌, inl, inr, ◌+◌, ◌-◌, ◌<◌, ◌≤◌, ℕ, zero, suc, List, [], ◌∷◌, length, get_or, slice_index_or, false, nat_eq, Some, IsSome, Contains, refl, sym, ap, subst, arith, eq-eqb}
 use Rattle.std.specs.List.{IsDistinct}
 use Rattle.std.specs.Ordering.{nat_cmp}
 use Rattle.std.specs.FinMap as finite
@@ -13,10 +13,10 @@ use Rattle.std.proofs.lemmas.Map.Steps.{length-le_from_distinct_below}
 use Rattle.iddqd.specs.Store.{sentinel}
 use Rattle.iddqd.proofs.StoreLemmas.{contains_head, contains_tail, contains_cases, contains_none, differs}
 use Rattle.iddqd_hash.proofs.MemberLemmas.{filed_at}
-use Rattle.iddqd_groups.specs.Links.{chain, EndsWithin, IsChained, AreHeads, AreUnder, filed_by, next_of, prev_of}
-use Rattle.iddqd_groups.specs.LinkedTable.{AreHeadsOf}
+use Rattle.iddqd_groups.specs.Links.{chain, EndsWithin, IsChained, IsWalk, AreHeads, AreUnder, filed_by, next_of, prev_of}
+use Rattle.iddqd_groups.specs.LinkedTable.{AreHeadsOf, IsLinkedTable}
 use Rattle.iddqd_groups.specs.declared.linked_table.links.Link.{Link}
-use Rattle.iddqd_groups.proofs.LinksLemmas.{below-filed_by, link_read}
+use Rattle.iddqd_groups.proofs.LinksLemmas.{below-filed_by, length-filed, length-filed_by, link_read}
 
 -- the chain from an index, a step of the walk at a time
 module _ (next : ℕ → ℕ) where
@@ -26,16 +26,6 @@ module _ (next : ℕ → ℕ) where
 
   chain-go : (most ix : ℕ) → ix ≢ sentinel → chain next (suc most) ix ≡ ix ∷ chain next most (next ix)
   chain-go most ix there = rw (differs ix sentinel there) refl
-
-  pub length-chain : (most ix : ℕ) → length (chain next most ix) ≤ most
-  length-chain zero ix = omega arith
-  length-chain (suc most) ix =
-      elim (cases_eq ix sentinel) [
-        | inl same ↦ rw (chain-stop (suc most) ix same) (omega arith)
-        | inr there ↦
-            let rest = length-chain most (next ix) in
-            rw (chain-go most ix there) (omega (arith, rest))
-      ]
 
   module _ (bound : ℕ) where
     pub EndsWithin-stop : (most ix : ℕ) → ix ≡ sentinel → EndsWithin next bound most ix
@@ -294,37 +284,97 @@ module _
           once = tt;
         })
 
--- the walk over a list of links from the head of a hash
-module _ (heads : FinMap nat_cmp ℕ) (links : List Link) (is : AreHeadsOf heads links) where
-  pub EndsWithin-head :
-      (head hash : ℕ)
-      → finite.get heads head ≡ Some hash
-      → EndsWithin (next_of links) (length links) (length links) head
-  EndsWithin-head head hash led =
+-- the indexes under a hash are no more than the table has
+length-under :
+    (filed : FinMap nat_cmp ℕ) (hash : ℕ) (indexes : List ℕ)
+    → AreUnder filed hash indexes
+    → length indexes ≤ finite.len filed
+length-under filed hash indexes under =
+    length-filed indexes filed under.once (λ ix listed.
+    filed_at _ hash ((under.each ix).0 ((is_member-Decides Decides-eqb indexes ix).0 listed)))
+
+-- Where an iterator over the indexes under a hash begins.
+pub record IsStart (links : List Link) (hash at : ℕ) : Type 0 where
+  pub ends : EndsWithin (next_of links) (length links) (length links) at
+  pub under : AreUnder (filed_by links) hash (chain (next_of links) (length links) at)
+
+-- it begins at the head of the hash, or has ended if there is none
+module _ (heads : FinMap nat_cmp ℕ) (links : List Link) (is : AreHeadsOf heads links) (hash : ℕ) where
+  pub IsStart-head : (head : ℕ) → finite.get heads head ≡ Some hash → IsStart links hash head
+  IsStart-head head led =
       let here = ((is.firsts head hash).0 led).0 in
+      let ends =
       EndsWithin-filed (filed_by links) (next_of links) (prev_of links) is.chained (length links)
-      (below-filed_by links) head hash here
+      (below-filed_by links) head hash here in
+      record {
+        ends = ends;
+        under = AreUnder-chain heads (filed_by links) (next_of links) (prev_of links) is (length links) hash head
+            (length links) led ends;
+      }
+
+  pub IsStart-none :
+      (at : ℕ)
+      → ((head : ℕ) → finite.get heads head ≡ Some hash → ⊥)
+      → at ≡ sentinel
+      → IsStart links hash at
+  IsStart-none at none last = record {
+    ends = EndsWithin-stop (next_of links) (length links) (length links) at last;
+    under = AreUnder-none heads (filed_by links) (next_of links) (prev_of links) is (length links) hash (length links)
+        at none last;
+  }
+
+-- from there it goes over at most the indexes of the table
+pub IsWalk-start :
+    {heads : FinMap nat_cmp ℕ} {most : ℕ} {links : List Link} {len : ℕ} (hash at : ℕ)
+    → IsLinkedTable heads most links len
+    → IsStart links hash at
+    → IsWalk links at len
+IsWalk-start {links = links} hash at table start =
+    let within = length-filed_by links in
+    let under = length-under (filed_by links) hash _ start.under in
+    record {
+      ends = start.ends;
+      counted = omega (arith, under, table.counted);
+      few = omega (arith, within, table.counted, table.small);
+    }
+
+-- where an index comes next, one is left at least
+pub some_left :
+    (links : List Link) (at most : ℕ)
+    → IsWalk links at most
+    → at ≢ sentinel
+    → 1 ≤ most
+some_left links at most walk there =
+    let next = next_of links in
+    let size = length links in
+    let one : length (chain next size at) ≡ suc (length (chain next size (next at))) =
+    ap length (chain-step next size size at walk.ends there) in
+    omega (arith, walk.counted, one)
 
 -- a step of the walk, where the link of its index was read
 module _
     (links : List Link) (place ix : ℕ) (link : Link) (same : place ≡ ix)
-    (read : link ≡ slice_index_or links place link)
-    (ends : EndsWithin (next_of links) (length links) (length links) ix) (there : ix ≢ sentinel)
+    (read : link ≡ slice_index_or links place link) (most : ℕ) (walk : IsWalk links ix most) (there : ix ≢ sentinel)
   where
     next_read : next_of links ix ≡ (slice_index_or links place link).next
     next_read =
-        let below = (EndsWithin-step (next_of links) (length links) (length links) ix ends there).0 in
+        let below = (EndsWithin-step (next_of links) (length links) (length links) ix walk.ends there).0 in
         ap (λ (l : Link). l.next) (sym (link_read links place ix link same below read) ∙ read)
-
-    pub EndsWithin-read :
-        EndsWithin (next_of links) (length links) (length links) (slice_index_or links place link).next
-    EndsWithin-read =
-        subst (λ j. EndsWithin (next_of links) (length links) (length links) j) next_read
-        (EndsWithin-step (next_of links) (length links) (length links) ix ends there).1
 
     pub chain-read :
         chain (next_of links) (length links) ix
         ≡ ix ∷ chain (next_of links) (length links) (slice_index_or links place link).next
     chain-read =
-        chain-step (next_of links) (length links) (length links) ix ends there
+        chain-step (next_of links) (length links) (length links) ix walk.ends there
         ∙ ap (λ j. ix ∷ chain (next_of links) (length links) j) next_read
+
+    pub IsWalk-read : IsWalk links (slice_index_or links place link).next (most - 1)
+    IsWalk-read =
+        let rest = chain (next_of links) (length links) (slice_index_or links place link).next in
+        let one : length (chain (next_of links) (length links) ix) ≡ suc (length rest) = ap length chain-read in
+        record {
+          ends = subst (λ j. EndsWithin (next_of links) (length links) (length links) j) next_read
+              (EndsWithin-step (next_of links) (length links) (length links) ix walk.ends there).1;
+          counted = omega (arith, walk.counted, one);
+          few = omega (arith, walk.few);
+        }

@@ -3,7 +3,7 @@ use Rattle.std.proofs.Common.{◌≡◌, ◌≢◌, ◌<◌, ◌≤◌, ◌+◌,
 use Rattle.std.specs.Ordering.{nat_cmp, eq_by_cmp, is_lt}
 use Rattle.std.specs.declared.cmp.Ordering.TheVariants.{Less}
 use Rattle.std.specs.Cmp.{nat_cmp_is, nat_eq_equiv, unsigned_tied}
-use Rattle.std.specs.List.{list_any}
+use Rattle.std.specs.List.{list_any, IsDistinct}
 use Rattle.std.specs.Map.{lookup}
 use Rattle.std.specs.FinMap as finite
 use Rattle.std.specs.FinMap.{FinMap}
@@ -331,6 +331,25 @@ looked_up : (q : ℕ) (es : List (ℕ × ℕ)) → find nat_cmp q es ≡ lookup 
 looked_up q [] = refl
 looked_up q (e ∷ es) = ap (cond (eq_by_cmp nat_cmp q e.0) (Some e.1)) (looked_up q es)
 
+-- distinct indexes of a map are no more than it has
+pub length-filed :
+    (indexes : List ℕ) (m : FinMap nat_cmp ℕ)
+    → IsDistinct nat_eq indexes
+    → ((ix : ℕ) → list_any (nat_eq ix) indexes ≡ true → IsSome (finite.get m ix))
+    → length indexes ≤ finite.len m
+length-filed indexes m apart within =
+    let entries = finite.entries m in
+    let fewer : length indexes ≤ length entries = length-le_from_keys nat_eq_equiv indexes entries apart has in
+    omega (arith, fewer, finite.len-entries m)
+  where
+    has : (q : ℕ) → list_any (nat_eq q) indexes ≡ true → IsSome (lookup (nat_eq q) (finite.entries m))
+    has q listed =
+        let found =
+        finite.get-entries m q
+        ∙ looked_up q (finite.entries m)
+        ∙ ap (λ test. lookup test (finite.entries m)) (one_test q) in
+        subst IsSome found (within q listed)
+
 -- a map whose indexes another one has has no more of them
 pub len-within :
     (m n : FinMap nat_cmp ℕ)
@@ -338,20 +357,7 @@ pub len-within :
     → finite.len m ≤ finite.len n
 len-within m n within =
     let keys = map (λ (e : ℕ × ℕ). e.0) (finite.entries m) in
-    let others = finite.entries n in
-    let apart = sorted_apart (finite.entries m) (finite.entries_sorted m) in
-    let fewer : length keys ≤ length others = length-le_from_keys nat_eq_equiv keys others apart has in
-    omega (arith, fewer, finite.len-entries m, finite.len-entries n, length-map (finite.entries m) (λ (e : ℕ × ℕ). e.0))
-  where
-    has :
-        (q : ℕ)
-        → list_any (nat_eq q) (map (λ (e : ℕ × ℕ). e.0) (finite.entries m)) ≡ true
-        → IsSome (lookup (nat_eq q) (finite.entries n))
-    has q listed =
-        let keys = map (λ (e : ℕ × ℕ). e.0) (finite.entries m) in
-        let here = finite.contains_key-keys m q ∙ ap (λ test. list_any test keys) (one_test q) ∙ listed in
-        let found =
-        finite.get-entries n q
-        ∙ looked_up q (finite.entries n)
-        ∙ ap (λ test. lookup test (finite.entries n)) (one_test q) in
-        subst IsSome found (within q here)
+    let fewer : length keys ≤ finite.len n =
+    length-filed keys n (sorted_apart (finite.entries m) (finite.entries_sorted m))
+    (λ q listed. within q (finite.contains_key-keys m q ∙ ap (λ test. list_any test keys) (one_test q) ∙ listed)) in
+    omega (arith, fewer, finite.len-entries m, length-map (finite.entries m) (λ (e : ℕ × ℕ). e.0))

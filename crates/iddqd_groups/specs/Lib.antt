@@ -3,3 +3,4 @@ pub mod ByHashMultiLaws
 pub mod HashedGroup
 pub mod LinkedTable
 pub mod Links
+pub mod Upcoming

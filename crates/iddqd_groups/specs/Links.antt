@@ -104,10 +104,11 @@ pub record RenamesLinks (name : ℕ → ℕ) (old new : List Link) : Type 0 wher
   pub prevs :
       (ix : ℕ) → IsSome (finite.get (filed_by old) ix) → prev_of new (name ix) ≡ renamed name (prev_of old ix)
 
--- an iterator along the links that goes on at `at` comes to an end, and there are no more links than indexes
-pub record IsWalk (links : List Link) (at : ℕ) : Type 0 where
+-- an iterator along the links that goes on at `at` comes to an end, and at most `most` indexes are left
+pub record IsWalk (links : List Link) (at most : ℕ) : Type 0 where
   pub ends : EndsWithin (next_of links) (length links) (length links) at
-  pub small : length links ≤ sentinel
+  pub counted : length (chain (next_of links) (length links) at) ≤ most
+  pub few : most ≤ sentinel
 
 -- the list has exactly the indexes under the hash, each once, in any order
 pub record AreUnder (filed : FinMap nat_cmp ℕ) (hash : ℕ) (indexes : List ℕ) : Type 0 where

@@ -16,6 +16,7 @@
 //! One index of each hash stands in a hash table, and the others under that hash are linked behind it. So an insert and
 //! a removal cost the same however many items have the key, and the links take 16 bytes for each slot.
 ghost use Rattle.std.specs.Prelude.{◌≡◌, ◌↔◌, false};
+ghost use Rattle.iddqd.specs.{live_count};
 ghost use Rattle.iddqd_by_hash.specs.Hashed.{hashing_of};
 ghost use Rattle.iddqd_map.specs.Groups.{AreHits, CountsHits};
 ghost use Rattle.iddqd_keys.specs.Scan.{HasNoHit, passes_by};
@@ -71,7 +72,8 @@ impl<E, K> ByHashMulti<E, K> {
         S: BuildHasher,
         Q: HashQuery<K>,
         requires { ⟦<ByHashMulti<E, K> as KeyIndex<T, S>>⟧.indexes self.now state.now items.now.store }
-        ensures { AreHits items.now.store (passes_by E.key_of (Q.stands_for query)) result }
+        ensures hits { AreHits items.now.store (passes_by E.key_of (Q.stands_for query)) result.rest }
+        ensures bound { result.bound ≡ live_count items.now.store }
     {
         group_by::<T, E, S, Q>(&self.table, items, state, query)
     }

@@ -1,4 +1,6 @@
 //! Look-ups by any query in a linked table that indexes a store: several items may have the key.
+ghost use Rattle.std.specs.Prelude.{◌≡◌};
+ghost use Rattle.iddqd.specs.{live_count};
 ghost use Rattle.iddqd_keys.specs.Scan.{IsHit, passes_by};
 ghost use Rattle.iddqd_by_hash.specs.Hashed.{hashing_of};
 ghost use Rattle.iddqd_map.specs.Files.{Files};
@@ -88,7 +90,8 @@ where
     Q: HashQuery<E::Key>,
     requires { Files E.key_of (hashing_of E.Key.eq E.Key.hash_input S.BuildHasher S.Hasher.Hasher state.now)
         items.now.store table.now.filed }
-    ensures { AreHits items.now.store (passes_by E.key_of (Q.stands_for query)) result }
+    ensures hits { AreHits items.now.store (passes_by E.key_of (Q.stands_for query)) result.rest }
+    ensures bound { result.bound ≡ live_count items.now.store }
 {
     let hash = query_hash(state, query);
     group_of::<T, E, AsEquivalent<Q>>(table, items, hash, AsEquivalent(query))

@@ -1,13 +1,15 @@
 //! Iterates over the indexes of the items whose keys match a query, where several items may have one key.
 //!
 //! A linked table has the indexes under each hash as one chain. So the iterator reads no index under another hash.
-ghost use Rattle.std.specs.Prelude.{◌≡◌, ◌≤◌, ℕ, Contains, IfSome, IsSome, length};
-ghost use Rattle.std.specs.Iterator.{YieldsFirst, item_count, at_most, UpTo};
+ghost use Rattle.std.specs.Prelude.{◌≡◌, ◌≤◌, ⊤, ℕ, Contains, Some, IfSome, length};
+ghost use Rattle.std.specs.FinMap as finite;
+ghost use Rattle.std.specs.Iterator.{YieldsFirst, MakesProgress, item_count, at_most, UpTo};
 ghost use Rattle.std.specs.Iterator.SizeHint.{IsWithinCount};
 ghost use Rattle.iddqd.specs.Store.{sentinel};
 ghost use Rattle.iddqd_keys.specs.Scan.{IsLive, passes_by};
 ghost use Rattle.iddqd_by_hash.specs.Hashed.{AreLive};
 ghost use Rattle.iddqd_groups.specs.HashedGroup.{FindsFirst, IsGroupOf};
+ghost use Rattle.iddqd_groups.specs.Upcoming.{rest_of, LowersBoundFurther};
 
 use crate::linked_table::{LinkedIndexes, LinkedTable};
 use iddqd::item_index::ItemIndex;
@@ -21,7 +23,9 @@ use std::marker::{Model, PhantomData};
 /// An iterator over the indexes that are filed under a hash and whose items' keys match a query: each once, in no order
 /// that a caller can rely on. It is fused.
 ///
-/// It takes no memory, and reads only keys of indexes under that hash, each once.
+/// A contract sees the indexes that are left, `rest`, and the upper bound of its `size_hint`, `bound`. The bound is the
+/// number of indexes in the table, less those whose keys were read. It takes no memory, and reads only keys of indexes
+/// under that hash, each once.
 #[derive(Drop)]
 pub struct Group<'a, T, E: KeyOf<T>, Q: Equivalent<E::Key>> {
     indexes: LinkedIndexes<'a>,
@@ -31,15 +35,19 @@ pub struct Group<'a, T, E: KeyOf<T>, Q: Equivalent<E::Key>> {
 }
 
 impl<'a, T, E: KeyOf<T>, Q: Equivalent<E::Key>> Model for Group<'a, T, E, Q> {
-    ghost use Rattle.std.specs.Prelude.{ℕ, List, Contains};
+    ghost use Rattle.std.specs.Prelude.{ℕ, Contains};
     ghost use Rattle.iddqd_keys.specs.Scan.{IsLive, passes_by};
     ghost use Rattle.iddqd_groups.specs.HashedGroup.{hits_among};
+    ghost use Rattle.iddqd_groups.specs.Upcoming.{Upcoming};
 
-    ghost Value = { List ℕ };
+    ghost Value = { Upcoming };
 
-    ghost view = { λ it. hits_among it.items.now.store (passes_by E.key_of (Q.equivalent it.query)) it.indexes };
+    ghost view = { λ it. record {
+      rest = hits_among it.items.now.store (passes_by E.key_of (Q.equivalent it.query)) it.indexes.rest;
+      bound = it.indexes.bound;
+    } };
 
-    ghost invariant = { λ it. (ix : ℕ) → Contains it.indexes ix → IsLive it.items.now.store ix };
+    ghost invariant = { λ it. (ix : ℕ) → Contains it.indexes.rest ix → IsLive it.items.now.store ix };
 }
 
 /// The indexes that are filed under `hash` and whose items' keys match the query, each once.
@@ -55,7 +63,8 @@ where
     E: KeyOf<T>,
     Q: Equivalent<E::Key>,
     requires { AreLive items.now.store table.now.filed }
-    ensures { IsGroupOf E.key_of items.now.store table.now.filed hash (Q.equivalent query) result }
+    ensures group { IsGroupOf E.key_of items.now.store table.now.filed hash (Q.equivalent query) result.rest }
+    ensures bound { result.bound ≡ finite.len table.now.filed }
 {
     Group {
         indexes: table.indexes_under(hash),
@@ -68,19 +77,22 @@ where
 impl<'a, T, E: KeyOf<T>, Q: Equivalent<E::Key> + Drop> Iterator for Group<'a, T, E, Q> {
     type Item = ItemIndex;
 
-    ghost next_gives = { YieldsFirst (λ rest. rest) };
+    ghost next_gives = { YieldsFirst rest_of };
 
-    ghost remaining = { item_count (λ rest. rest) };
+    ghost remaining = { item_count rest_of };
 
-    fn next(&mut self) -> Option<ItemIndex> {
+    fn next(&mut self) -> Option<ItemIndex>
+        ensures steps { YieldsFirst rest_of self.old result self.new }
+        ensures goes { MakesProgress (λ _. ⊤) (item_count rest_of) self.old result self.new }
+        ensures bound { LowersBoundFurther self.old result self.new }
+    {
         next_hit::<T, E, Q>(&mut self.indexes, self.items, &self.query)
     }
 
     fn size_hint(&self) -> (usize, Option<usize>)
-        ensures lower { IsWithinCount result.0 (at_most (length self.now)) }
-        ensures upper { IfSome result.1 (UpTo (at_most (length self.now))) }
-        ensures least { result.0 ≡ 0 }
-        ensures bounded { IsSome result.1 }
+        ensures lower { IsWithinCount result.0 (at_most (length self.now.rest)) }
+        ensures upper { IfSome result.1 (UpTo (at_most (length self.now.rest))) }
+        ensures bound { result ≡ (0, Some self.now.bound) }
 
         // There are no more indexes than that.
         ensures few { IfSome result.1 (λ most. most ≤ sentinel) }
@@ -106,10 +118,11 @@ fn next_hit<T, E, Q>(
 where
     E: KeyOf<T>,
     Q: Equivalent<E::Key>,
-    requires { (ix : ℕ) → Contains indexes.old ix → IsLive items.now.store ix }
-    ensures live { (ix : ℕ) → Contains indexes.new ix → IsLive items.now.store ix }
+    requires { (ix : ℕ) → Contains indexes.old.rest ix → IsLive items.now.store ix }
+    ensures live { (ix : ℕ) → Contains indexes.new.rest ix → IsLive items.now.store ix }
     ensures first { FindsFirst items.now.store (passes_by E.key_of (Q.equivalent query.now))
-        indexes.old result indexes.new }
+        indexes.old.rest result indexes.new.rest }
+    ensures bound { LowersBoundFurther indexes.old result indexes.new }
 {
     'passing: while let Some(ix) = indexes.next() {
         if query.equivalent(key_at::<T, E>(items, ix)) {

@@ -114,7 +114,7 @@ pub fn orders_of<'a>(
     ledger: &'a Ledger,
     customer: &'a u32,
 ) -> Group<'a, Order, Customer, AsEquivalent<&'a u32>>
-    ensures { AreHits ledger.now.store (λ order. customer.now == order.customer) result }
+    ensures { AreHits ledger.now.store (λ order. customer.now == order.customer) result.rest }
 {
     let Parts {
         items,

@@ -4,5 +4,5 @@ use Rattle.iddqd_groups.proofs.group_query.find_any.Goals as goal
 
 pub returns : goal.returns
 returns g c =
-    FindsSome-first (passes_by g.E.KeyOf.key_of (g.Q.HashQuery.stands_for c.args.query)) c.args.items.now.store c.group_by-group.result c.next.result c.next.new.self
-    c.group_by-group.ensures c.next.ensures.steps
+    FindsSome-first (passes_by g.E.KeyOf.key_of (g.Q.HashQuery.stands_for c.args.query)) c.args.items.now.store c.group_by-group.result.rest c.next.result c.next.new.self.rest
+    c.group_by-group.ensures.hits c.next.ensures.steps

@@ -17,19 +17,19 @@ returns-in-None g c =
 pub returns-then-eq : goal.returns-then-eq
 returns-then-eq g c =
     let test = passes_by g.E.KeyOf.key_of (g.Q.HashQuery.stands_for c.args.query) in
-    let behind = c.next.new.self in
+    let behind = c.next.new.self.rest in
     let same = eqb-true c.in-Some-next.first c.args.ix (sym c.eq.ensures ∙ c.if-eq.true) in
-    FindsOther-second test c.args.items.now.store c.group_by-group.result c.group_by-group.ensures c.args.ix behind c.next-then-eq.result c.next-then-eq.new.self
+    FindsOther-second test c.args.items.now.store c.group_by-group.result.rest c.group_by-group.ensures.hits c.args.ix behind c.next-then-eq.result c.next-then-eq.new.self.rest
     (c.in-Some-next.ensures.steps ∙ ap (λ j. j ∷ behind) same) c.next-then-eq.ensures.steps
 
 pub returns-else-eq : goal.returns-else-eq
 returns-else-eq g c =
     let test = passes_by g.E.KeyOf.key_of (g.Q.HashQuery.stands_for c.args.query) in
-    FindsOther-first test c.args.items.now.store c.group_by-group.result c.group_by-group.ensures c.args.ix c.in-Some-next.first c.next.new.self
+    FindsOther-first test c.args.items.now.store c.group_by-group.result.rest c.group_by-group.ensures.hits c.args.ix c.in-Some-next.first c.next.new.self.rest
     c.in-Some-next.ensures.steps
     (λ same. (let never : true ≡ false = sym (eq-eqb c.in-Some-next.first c.args.ix same) ∙ sym c.eq.ensures ∙ c.if-eq.false in cc))
 
 pub returns-in-None-next : goal.returns-in-None-next
 returns-in-None-next g c =
     let test = passes_by g.E.KeyOf.key_of (g.Q.HashQuery.stands_for c.args.query) in
-    FindsOther-none test c.args.items.now.store c.group_by-group.result c.group_by-group.ensures c.args.ix c.in-None-next.ensures.steps.0
+    FindsOther-none test c.args.items.now.store c.group_by-group.result.rest c.group_by-group.ensures.hits c.args.ix c.in-None-next.ensures.steps.0

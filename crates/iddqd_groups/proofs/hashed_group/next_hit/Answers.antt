@@ -1,4 +1,4 @@
-use Rattle.std.proofs.Common.{◌≡◌, ◌∙◌, false, sym, ap}
+use Rattle.std.proofs.Common.{◌≡◌, ◌∙◌, false, sym, ap, arith}
 use Rattle.iddqd.proofs.StoreLemmas.{contains_tail}
 use Rattle.iddqd_keys.specs.Scan.{passes_by}
 use Rattle.iddqd_by_hash.specs.Hashed.{passes}
@@ -21,4 +21,5 @@ passing-preserved g c =
       λ ix here. c.passing.invariant.0 ix (rw c.in-Some.ensures.steps (contains_tail _ ix _ here)),
       c.passing.invariant.1 ∙ ap (hits_among s passing) c.in-Some.ensures.steps
           ∙ filter-refused (passes s passing) c.in-Some.ix _ refused,
+      omega (arith, c.passing.invariant.2, c.in-Some.ensures.bound),
     )

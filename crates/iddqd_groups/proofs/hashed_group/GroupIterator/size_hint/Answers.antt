@@ -4,5 +4,5 @@ use Rattle.iddqd_groups.proofs.hashed_group.GroupIterator.size_hint.Goals as goa
 
 pub returns-clause-upper : goal.returns-clause-upper
 returns-clause-upper g c =
-    rw (← c.self.view_is) (bounds-fewer c.size_hint.result.1 (length c.self.inside.indexes) _
-    (length-kept _ c.self.inside.indexes) c.size_hint.ensures.upper)
+    rw (← c.self.view_is) (bounds-fewer c.size_hint.result.1 (length c.self.inside.indexes.rest) _
+    (length-kept _ c.self.inside.indexes.rest) c.size_hint.ensures.upper)
