@@ -34,3 +34,5 @@ pub use Rattle.iddqd_ord_map.specs.ByOrder
 pub use Rattle.iddqd_ord_map.specs.ByOrderMulti
 pub use Rattle.iddqd_ord_map.specs.OrdMap
 pub use Rattle.iddqd_ord_map.specs.KeyOrder
+pub use Rattle.iddqd_ord_map.specs.ItemOrder
+pub use Rattle.iddqd_ord_map.specs.InOrder

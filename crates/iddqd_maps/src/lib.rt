@@ -25,7 +25,9 @@ pub use iddqd_map::{
     id_hash_map as id_hash_map, key_index as key_index, map as map, no_conflict as no_conflict,
     pair as pair, pair_conflict as pair_conflict, refusal as refusal, tri_hash_map as tri_hash_map,
 };
+pub use iddqd_by_order::ordered_walk as ordered_walk;
 pub use iddqd_ord_map::{
     by_order as by_order, by_order_multi as by_order_multi, id_ord_map as id_ord_map,
+    in_order as in_order, ranges_at as ranges_at,
 };
 pub use iddqd_order::btree_table as btree_table;

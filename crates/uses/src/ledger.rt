@@ -1,28 +1,29 @@
 //! Orders by their numbers, by their customers, and in the order of their days. Many orders may have one customer, and
 //! many may be due on one day.
-ghost use Rattle.std.specs.Prelude.{◌≡◌, ◌==◌, ◌≤◌, ◌<◌, ◌+◌, ◌↔◌, false, IfOk, IfErr, OnOk, OnErr};
-ghost use Rattle.std.specs.List.Sorted.{IsStrictlySortedBy};
-ghost use Rattle.std.specs.Ordering.{nat_cmp};
+ghost use Rattle.std.specs.Prelude.{◌≡◌, ◌==◌, ◌≤◌, ◌<◌, ◌+◌, ◌↔◌, true, false, length, IfOk, IfErr, OnOk, OnErr};
+ghost use Rattle.std.specs.Option.{option_map};
 ghost use Rattle.iddqd_maps.specs.Groups.{AreHits, CountsHits, FindsSome};
 ghost use Rattle.iddqd_maps.specs.Map.{FindsItem};
-ghost use Rattle.iddqd_maps.specs.Range.{indexes_ahead};
+ghost use Rattle.iddqd_maps.specs.InOrder.{shown, FindsFirst, FindsLast, WalksInOrder};
 ghost use Rattle.iddqd_maps.specs.Scan.{HasNoHit};
 ghost use Rattle.iddqd_maps.specs.Store.{inserted, live_count, next_index};
 ghost use Rattle.iddqd_maps.specs.Drops.{Drops};
 ghost use Rattle.uses.specs.Exchanges.{IsWhyNotAdded};
-ghost use Rattle.uses.specs.Ledger.{shares_number};
+ghost use Rattle.uses.specs.Ledger.{by_day, is_due_from, is_due_on, shares_number};
 ghost use Rattle.uses.specs.declared.ledger.Order.{Order};
 
-use iddqd_maps::btree_table::Range;
 use iddqd_maps::by_hash::ByHash;
 use iddqd_maps::by_hash_multi::{ByHashMulti, Group};
 use iddqd_maps::by_order_multi::ByOrderMulti;
 use iddqd_maps::hash_query::AsEquivalent;
+use iddqd_maps::id_ord_map::Iter;
+use iddqd_maps::in_order::InOrder;
 use iddqd_maps::item_index::ItemIndex;
 use iddqd_maps::key_index::{Here, Left, Right};
 use iddqd_maps::key_of::KeyOf;
 use iddqd_maps::map::{Map, Parts};
 use iddqd_maps::no_conflict::NoConflict;
+use iddqd_maps::ordered_walk::Range;
 use iddqd_maps::pair::Pair;
 use iddqd_maps::pair_conflict::PairConflict;
 use iddqd_maps::refusal::InsertRefusal;
@@ -159,29 +160,47 @@ pub fn forget(ledger: &mut Ledger, customer: u32) -> usize
     ledger.remove_hashed_group_by::<ByCustomer, _, _>(&customer, |_order| ())
 }
 
-/// The indexes of the orders of a day, each once, the least first.
-pub fn orders_of_day(ledger: &Ledger, day: u32) -> Range<'_>
-    ensures hits { AreHits ledger.now.store (λ order. day == order.day) (indexes_ahead result) }
-    ensures rising { IsStrictlySortedBy nat_cmp (indexes_ahead result) }
+/// The orders of a day with their indexes, the least index first.
+pub fn orders_of_day(ledger: &Ledger, day: u32) -> Range<'_, Order>
+    ensures { WalksInOrder by_day (is_due_on day) ledger.now.store result }
 {
-    let Parts {
-        items,
-        indexes,
-        state,
-    } = ledger.parts();
-    indexes.second.second.group(items, state, &day)
+    ledger.group_by::<ByDay, _>(&day)
+}
+
+/// The orders of a day and of later ones with their indexes, by day and then by index.
+pub fn orders_from(ledger: &Ledger, day: u32) -> Range<'_, Order>
+    ensures { WalksInOrder by_day (is_due_from day) ledger.now.store result }
+{
+    ledger.range_by::<ByDay, _>(Bound::Included(&day), Bound::Unbounded)
+}
+
+/// All orders with their indexes, by day and then by index.
+pub fn orders_by_day(ledger: &Ledger) -> Iter<'_, Order>
+    ensures walk { WalksInOrder by_day (λ order. true) ledger.now.store result }
+    ensures len { length result ≡ live_count ledger.now.store }
+{
+    ledger.iter_by::<ByDay>()
+}
+
+/// The order that is due first with its index; of those of one day, the one with the least index.
+pub fn first_due(ledger: &Ledger) -> Option<(ItemIndex, &Order)>
+    ensures { FindsFirst by_day ledger.now.store (option_map shown result) }
+{
+    ledger.first_by::<ByDay>()
+}
+
+/// The order that is due last with its index; of those of one day, the one with the greatest index.
+pub fn last_due(ledger: &Ledger) -> Option<(ItemIndex, &Order)>
+    ensures { FindsLast by_day ledger.now.store (option_map shown result) }
+{
+    ledger.last_by::<ByDay>()
 }
 
 /// How many orders are due on a day.
 pub fn count_of_day(ledger: &Ledger, day: u32) -> usize
-    ensures { CountsHits ledger.now.store (λ order. day == order.day) result }
+    ensures { CountsHits ledger.now.store (is_due_on day) result }
 {
-    let Parts {
-        items,
-        indexes,
-        state,
-    } = ledger.parts();
-    indexes.second.second.count_of(items, state, &day)
+    ledger.count_by::<ByDay, _>(&day)
 }
 
 /// Removes the orders of earlier days, and returns how many they were. It takes no memory.
@@ -253,7 +272,12 @@ fn added_all(ledger: &mut Ledger) -> (bool, bool, bool, bool, bool, bool) {
 fn script(alloc: Global, ledger: &mut Ledger) -> Result<String, AllocError> {
     let added = added_all(ledger);
     let counts = (count_of(ledger, 7), count_of_day(ledger, 20));
-    let first = orders_of_day(ledger, 20).next();
+    let walks = (
+        orders_of_day(ledger, 20).next().is_some(),
+        orders_from(ledger, 20).next_back().is_some(),
+        orders_by_day(ledger).len(),
+    );
+    let ends = (first_due(ledger).is_some(), last_due(ledger).is_some());
     let early = close_before(ledger, 20);
     let left = (
         with_number(ledger, 2).is_some(),
@@ -263,7 +287,7 @@ fn script(alloc: Global, ledger: &mut Ledger) -> Result<String, AllocError> {
     let small = (drop_small(ledger, 20, 20), drop_small_until(ledger, 20, 40));
     let gone = (forget(ledger, 7), close_day(ledger, 30));
     format!(in alloc;
-        "ledger: {added:?}, {counts:?}, {first:?}, {early}, {left:?}, {small:?}, {gone:?}, {}",
+        "ledger: {added:?}, {counts:?}, {walks:?}, {ends:?}, {early}, {left:?}, {small:?}, {gone:?}, {}",
         ledger.len()
     )
 }
