@@ -1,5 +1,5 @@
 -- What stands at a place of a sorted list, and behind it.
-use Rattle.std.proofs.Common.{◌≡◌, ◌∙◌, ◌+◌, ◌<◌, ◌≤◌, inl, inr, ℕ, Bool, true, suc, List, drop, get_or, length, Some, None, refl, sym, ap, subst, Ordering, arith, slice_index}
+use Rattle.std.proofs.Common.{◌≡◌, ◌∙◌, ◌+◌, ◌<◌, ◌≤◌, inl, inr, ℕ, Bool, true, suc, List, drop, get_or, length, Option, Some, None, IfSome, refl, sym, ap, subst, Ordering, arith, slice_index}
 use Rattle.std.specs.Cmp.{IsTotalOrder}
 use Rattle.std.specs.List.{slice_get}
 use Rattle.std.proofs.Math.Seq.{drop-cons}
@@ -7,7 +7,7 @@ use Rattle.std.proofs.lemmas.Bool.{cases_eq, cases_lt}
 use Rattle.std.proofs.lemmas.List.{drop_all, get_or_default}
 use Rattle.std.proofs.lemmas.List.Elements.{Contains-get_or}
 use Rattle.std.proofs.lemmas.Map.Keys.{Less-from_sorted}
-use Rattle.std.proofs.lemmas.Option.{slice_get-get_or, slice_get_past, slice_get_within}
+use Rattle.std.proofs.lemmas.Option.{slice_get-get_or, slice_get_past}
 use Rattle.iddqd.specs.Store.{Store}
 use Rattle.iddqd.proofs.LiveLemmas.{item_at, live_at}
 use Rattle.iddqd_by_order.specs.Ordered.{IsSortedScan}
@@ -26,6 +26,15 @@ first-at key_of compare s order within place sorts = elim (cases_lt place (lengt
   | inl lt ↦ subst (IsFirstHit key_of compare s (passes_by key_of within)) (sym (slice_get-get_or order place 0 lt)) (IsFirstHit-head key_of compare s within (get_or order place 0) (drop (suc place) order) (drop place order) sorts (drop-cons order place 0 lt))
   | inr le ↦ subst (IsFirstHit key_of compare s (passes_by key_of within)) (sym (slice_get_past order place le)) (IsFirstHit-none key_of compare s within (drop place order) sorts (drop_all place order le))
 ]
+
+-- `some` is `all` or None, so what holds of the value of `all` holds of that of `some`
+pub IfSome-same :
+    {A : Type 0} (P : A → Type 0) (all some : Option A)
+    → IfSome some (λ a. all ≡ Some a)
+    → IfSome all P
+    → IfSome some P
+IfSome-same P all None same holds = tt
+IfSome-same P all (Some a) same holds = subst (λ o. IfSome o P) same holds
 
 module _
     {T K : Type 0} (key_of : T → K) (compare : K → K → Ordering) (total : IsTotalOrder compare) (s : Store T)
@@ -85,17 +94,21 @@ module _
         let behind = stands-behind k less (subst (ComesBefore key_of compare s here) (sym same) before) in
         absurd (omega arith)
 
-    -- the next behind a place
-    pub next-at : IsNextHit key_of compare s (λ _. true) here (slice_get order (place + 1))
+    live-next : (next : Option ℕ) → IsNextHit key_of compare s (λ _. true) here next → IfSome next (IsLive s)
+    live-next None is = tt
+    live-next (Some n) ((item, live, _), _, _) = live_at s n item live
+
+    next-at : IsNextHit key_of compare s (λ _. true) here (slice_get order (place + 1))
     next-at = elim (cases_lt (place + 1) (length order)) [
       | inl more ↦ subst (IsNextHit key_of compare s (λ _. true) here) (sym (slice_get-get_or order (place + 1) 0 more)) (next-some more)
       | inr last ↦ subst (IsNextHit key_of compare s (λ _. true) here) (sym (slice_get_past order (place + 1) last)) (next-none last)
     ]
 
-    -- the next behind it is live
-    pub next-live : (n : ℕ) → slice_get order (place + 1) ≡ Some n → IsLive s n
-    next-live n is =
-        let less = slice_get_within order (place + 1) n is in
-        let same : Some (get_or order (place + 1) 0) ≡ Some n = sym (slice_get-get_or order (place + 1) 0 less) ∙ is in
-        let own : get_or order (place + 1) 0 ≡ n = cc in
-        subst (IsLive s) own ((o.holds.each (get_or order (place + 1) 0)).0 (Contains-get_or order (place + 1) 0 less))
+    module _ (next : Option ℕ) (is : next ≡ slice_get order (place + 1)) where
+      -- the index behind a place is the next hit, where every item passes
+      pub IsNextHit-behind : IsNextHit key_of compare s (λ _. true) here next
+      IsNextHit-behind = subst (IsNextHit key_of compare s (λ _. true) here) (sym is) next-at
+
+      -- and if there is one, it is live
+      pub IsLive-behind : IfSome next (IsLive s)
+      IsLive-behind = live-next next IsNextHit-behind

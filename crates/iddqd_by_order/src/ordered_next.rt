@@ -4,7 +4,7 @@
 //! It is for a caller that goes along the table and changes or removes items as it goes. An iterator would borrow the
 //! table and the store all the while; here nothing is borrowed between two steps. A spot of the table says how far the
 //! caller has come, so that only the first step searches.
-ghost use Rattle.std.specs.Prelude.{◌≡◌, IfSome};
+ghost use Rattle.std.specs.Prelude.{◌≡◌, ℕ, true, IfSome};
 ghost use Rattle.std.specs.Range.Bound.{bound_map};
 ghost use Rattle.std.specs.declared.ops.Bound.{Bound};
 ghost use Rattle.iddqd_order.specs.{capacity, order_of, without};
@@ -97,12 +97,8 @@ where
         (passes_by E.key_of (is_up_to (bound_map Q.compare upper))) (spot_index table.now spot.old) result }
     ensures spot { IfSome result (λ next. StandsAt table.now spot.new next) }
 {
-    let next = table.step(spot)?;
-    if is_up_to::<E::Key, Q>(upper, key_at::<T, E>(items, next)) {
-        Some(next)
-    } else {
-        None
-    }
+    let next = table.step(spot);
+    if_up_to::<T, E, Q>(items, next, upper)
 }
 
 /// Removes the index at the spot from the table, and moves the spot as `next_between` does. The store still has the
@@ -127,9 +123,30 @@ where
     ensures taken { order_of table.new ≡ without (order_of table.old) (spot_index table.old spot.old) }
     ensures memory { capacity table.new ≡ capacity table.old }
 {
-    let next = table.take_at(spot)?;
-    if is_up_to::<E::Key, Q>(upper, key_at::<T, E>(items, next)) {
-        Some(next)
+    let next = table.take_at(spot);
+    if_up_to::<T, E, Q>(items, next, upper)
+}
+
+// The next index, if there is one and its item's key is within the upper bound.
+#[inline(always)]
+fn if_up_to<T, E, Q>(
+    items: &ItemSet<T>,
+    next: Option<ItemIndex>,
+    upper: Bound<Q>,
+) -> Option<ItemIndex>
+where
+    E: KeyOf<T>,
+    E::Key: Ord,
+    Q: OrdQuery<E::Key>,
+    requires { IfSome next (IsLive items.now.store) }
+    ensures next { (after : ℕ) → IsNextHit E.key_of E.Key.cmp items.now.store (λ _. true) after next →
+        IsNextHit E.key_of E.Key.cmp items.now.store (passes_by E.key_of (is_up_to (bound_map Q.compare upper)))
+        after result }
+    ensures same { IfSome result (λ ix. next ≡ Some ix) }
+{
+    let ix = next?;
+    if is_up_to::<E::Key, Q>(upper, key_at::<T, E>(items, ix)) {
+        Some(ix)
     } else {
         None
     }
