@@ -8,6 +8,8 @@ TOP = os.path.realpath(os.path.join(os.path.dirname(os.path.abspath(__file__)), 
 
 # The types that callers hold; `Map` is what the three names after it stand for, each with its own mix of keys.
 MAPS = ["Map", "IdHashMap", "BiHashMap", "TriHashMap", "IdOrdMap", "KeyedItems", "TriItems"]
+# The traits of crates above that add calls to such a type.
+ADDED = {"Map": ["InOrder"]}
 
 
 def read(path):
@@ -44,7 +46,7 @@ def sources_of(crate):
 def file_of(name):
     """The one file of the crates that defines this public struct, or this name for another one."""
     found = [path for path in glob.glob(f"{TOP}/crates/*/src/**/*.rt", recursive=True)
-             if re.search(rf"^pub (struct|type) {name}\b", read(path), re.M)]
+             if re.search(rf"^pub (struct|type|trait) {name}\b", read(path), re.M)]
     if len(found) != 1:
         raise SystemExit(f"{len(found)} files define a public type {name}")
     return found[0]
