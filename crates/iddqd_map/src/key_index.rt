@@ -6,16 +6,16 @@
 //!
 //! A call that takes memory does so before anything is written.
 //!
-//! - To insert: `look_up` finds the place for the item, or the items that share a key with it; `plan` adds what depends
-//!   on its index; `make_room` takes the memory; then `insert` can't fail.
-//! - To overwrite: `spare_after` takes the memory, if any is needed; `remove` removes the index of each item that shares
-//!   a key; then `place`, `plan` and `insert` can't fail.
+//! - To insert: `look_up` finds the place for the item, or the items that share a key with it; `plan` adds what
+//!   depends on its index; `make_room` takes the memory; then `insert` can't fail.
+//! - To overwrite: `spare_after` takes the memory, if any is needed; `remove` removes the index of each item that
+//!   shares a key; then `place`, `plan` and `insert` can't fail.
 //! - To move: `plan_move` finds how the index must move, or the other items that share a key; `spare_for` takes the
 //!   memory, if any is needed; then `commit_move` can't fail.
 //!
-//! What is planned is plain data: it borrows nothing, and owns no memory. The memory that an ordered table needs for one
-//! index is a value of its own, the spare, which the insert or the move consumes. So no key index holds memory that
-//! waits for a call.
+//! What is planned is plain data: it borrows nothing, and owns no memory. The memory that an ordered table needs for
+//! one index is a value of its own, the spare, which the insert or the move consumes. So no key index holds memory
+//! that waits for a call.
 ghost use Rattle.std.specs.Prelude.{◌≡◌, ◌≢◌, ◌≤◌, ◌+◌, ◌<◌, true, false, min, max, length, IsOk, IfOk, OnOk, OnErr, IfSome};
 ghost use Rattle.std.specs.Option.{option_map};
 ghost use Rattle.std.specs.Range.Bound.{bound_map};

@@ -1,7 +1,7 @@
 //! A key index in the order of one key: the items' indexes in a sorted list, no two with equal keys.
 //!
-//! An insert goes where its look-up ended, so it compares no further key. `make_room` takes the blocks of memory that it
-//! needs; below the capacity it needs none.
+//! An insert goes where its look-up ended, so it compares no further key. `make_room` takes the blocks of memory that
+//! it needs; below the capacity it needs none.
 //!
 //! Invariants, given the store's items:
 //! 1. The list has exactly the live indexes, each once.
@@ -352,12 +352,7 @@ where
         plan_move::<T, E>(&self.table, items, ix, item)
     }
 
-    fn spare_for(
-        &self,
-        items: &ItemSet<T>,
-        state: &S,
-        plan: &Move,
-    ) -> Result<Blocks, AllocError> {
+    fn spare_for(&self, items: &ItemSet<T>, state: &S, plan: &Move) -> Result<Blocks, AllocError> {
         ordered_steps::spare_for(&self.table, items, plan)
     }
 

@@ -403,12 +403,7 @@ where
         Ok(Move::Moves)
     }
 
-    fn spare_for(
-        &self,
-        items: &ItemSet<T>,
-        state: &S,
-        plan: &Move,
-    ) -> Result<Blocks, AllocError> {
+    fn spare_for(&self, items: &ItemSet<T>, state: &S, plan: &Move) -> Result<Blocks, AllocError> {
         ordered_steps::spare_for(&self.table, items, plan)
     }
 

@@ -42,13 +42,7 @@ pub trait SortedAt<P, T, S>: KeyIndex<T, S> {
 pub trait RangesAt<P, Q, T, S>: OrderedAt<P, Q, T, S> {
     /// The indexes whose items have keys between two bounds, by key and then by index: none if the lower bound is above
     /// the upper one. It is one search for each bound that there is, and takes no memory.
-    fn range_at(
-        &self,
-        items: &ItemSet<T>,
-        state: &S,
-        lower: Bound<Q>,
-        upper: Bound<Q>,
-    ) -> Range<'_>
+    fn range_at(&self, items: &ItemSet<T>, state: &S, lower: Bound<Q>, upper: Bound<Q>) -> Range<'_>
         requires indexed { Self.KeyIndex.indexes self.now state.now items.now.store }
         ensures { let within = is_within Self.OrderedAt.compare lower upper in
             ListsInOrder Self.OrderedAt.order within items.now.store (indexes_ahead result) };
@@ -113,13 +107,7 @@ where
     E::Key: Ord,
     Q: OrdQuery<E::Key>,
 {
-    fn range_at(
-        &self,
-        items: &ItemSet<T>,
-        state: &S,
-        lower: Bound<Q>,
-        upper: Bound<Q>,
-    ) -> Range<'_>
+    fn range_at(&self, items: &ItemSet<T>, state: &S, lower: Bound<Q>, upper: Bound<Q>) -> Range<'_>
         requires indexed { Sorts E.key_of E.Key.cmp items.now.store (order_of self.now.table) }
         ensures { let within = is_within (compare_by E.key_of Q.compare) lower upper in
             ListsInOrder (on E.key_of E.Key.cmp) within items.now.store (indexes_ahead result) }
@@ -138,13 +126,7 @@ where
     E::Key: Ord,
     Q: OrdQuery<E::Key>,
 {
-    fn range_at(
-        &self,
-        items: &ItemSet<T>,
-        state: &S,
-        lower: Bound<Q>,
-        upper: Bound<Q>,
-    ) -> Range<'_>
+    fn range_at(&self, items: &ItemSet<T>, state: &S, lower: Bound<Q>, upper: Bound<Q>) -> Range<'_>
         requires indexed { IsSortedScan E.key_of E.Key.cmp items.now.store (order_of self.now.table) }
         ensures { let within = is_within (compare_by E.key_of Q.compare) lower upper in
             ListsInOrder (on E.key_of E.Key.cmp) within items.now.store (indexes_ahead result) }
@@ -162,13 +144,7 @@ where
     A: RangesAt<P, Q, T, S>,
     B: KeyIndex<T, S>,
 {
-    fn range_at(
-        &self,
-        items: &ItemSet<T>,
-        state: &S,
-        lower: Bound<Q>,
-        upper: Bound<Q>,
-    ) -> Range<'_>
+    fn range_at(&self, items: &ItemSet<T>, state: &S, lower: Bound<Q>, upper: Bound<Q>) -> Range<'_>
         requires indexed { A.KeyIndex.indexes self.now.first state.now items.now.store
             × B.KeyIndex.indexes self.now.second state.now items.now.store }
         ensures { let within = is_within A.OrderedAt.compare lower upper in
@@ -187,13 +163,7 @@ where
     A: KeyIndex<T, S>,
     B: RangesAt<P, Q, T, S>,
 {
-    fn range_at(
-        &self,
-        items: &ItemSet<T>,
-        state: &S,
-        lower: Bound<Q>,
-        upper: Bound<Q>,
-    ) -> Range<'_>
+    fn range_at(&self, items: &ItemSet<T>, state: &S, lower: Bound<Q>, upper: Bound<Q>) -> Range<'_>
         requires indexed { A.KeyIndex.indexes self.now.first state.now items.now.store
             × B.KeyIndex.indexes self.now.second state.now items.now.store }
         ensures { let within = is_within B.OrderedAt.compare lower upper in

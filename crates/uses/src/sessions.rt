@@ -202,14 +202,14 @@ fn script(alloc: Global, sessions: &mut Sessions) -> Result<String, AllocError> 
         with_id(sessions, 1).is_some(),
         with_token(sessions, 22).is_some(),
     );
-    let ending = ending_at(sessions, 200).is_some();
     let closed = (
+        ending_at(sessions, 200).is_some(),
         close_at(sessions, 90).is_some(),
         close_at(sessions, 200).is_some(),
         close(sessions, 2).is_some(),
     );
     format!(in alloc;
-        "sessions: {first}, {second}, {third}, {next:?}, {extended}, {after:?}, {expired}, {left:?}, {ending}, {closed:?}"
+        "sessions: {first}, {second}, {third}, {next:?}, {extended}, {after:?}, {expired}, {left:?}, {closed:?}"
     )
 }
 

@@ -361,7 +361,8 @@ impl<T: BiHashItem, S: BuildHasher, Q: HashQuery<T::Key1>> UniqueAt<First, Q, T,
     }
 }
 
-impl<T: BiHashItem, S: BuildHasher, Q: HashQuery<T::Key2>> UniqueAt<Second, Q, T, S> for BiIndex<T> {
+impl<T: BiHashItem, S: BuildHasher, Q: HashQuery<T::Key2>> UniqueAt<Second, Q, T, S>
+    for BiIndex<T> {
     ghost stands_for = { λ query. passes_by T.second_key (Q.stands_for query) };
 
     fn find(

@@ -31,7 +31,13 @@ impl<T, X: KeyIndex<T, S>, S> Map<T, X, S> {
         ensures room_kept { OnErr result (room self.old ≤ room self.new) }
     {
         let hashes = X::hashes(&self.state, &item);
-        insert(&mut self.items, &mut self.indexes, &self.state, hashes, item)
+        insert(
+            &mut self.items,
+            &mut self.indexes,
+            &self.state,
+            hashes,
+            item,
+        )
     }
 }
 

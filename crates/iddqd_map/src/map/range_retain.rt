@@ -87,8 +87,8 @@ impl<T, X: KeyIndex<T, S>, S> Map<T, X, S> {
     }
 }
 
-// Keeps, of the items whose keys are within the bounds, those at which the closure answers true, and returns how many it
-// removed. The closure stays in the state that its last call leaves.
+// Keeps, of the items whose keys are within the bounds, those at which the closure answers true, and returns how many
+// it removed. The closure stays in the state that its last call leaves.
 fn retain_counted<P, Q, T: Drop, S, X, F: FnMut(&T) -> bool>(
     items: &mut ItemSet<T>,
     indexes: &mut X,

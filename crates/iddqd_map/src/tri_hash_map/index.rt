@@ -285,7 +285,13 @@ impl<T: TriHashItem, S: BuildHasher> KeyIndex<T, S> for TriIndex<T> {
         self.third.make_room(items, state, plan)
     }
 
-    fn insert(&mut self, hashes: (MapHash, (MapHash, MapHash)), plan: &(), spare: (), ix: ItemIndex) {
+    fn insert(
+        &mut self,
+        hashes: (MapHash, (MapHash, MapHash)),
+        plan: &(),
+        spare: (),
+        ix: ItemIndex,
+    ) {
         <FirstTable<T> as KeyIndex<T, S>>::insert(&mut self.first, hashes.0, plan, spare, ix);
         <SecondTable<T> as KeyIndex<T, S>>::insert(&mut self.second, hashes.1.0, plan, spare, ix);
         <ThirdTable<T> as KeyIndex<T, S>>::insert(&mut self.third, hashes.1.1, plan, spare, ix);
@@ -296,7 +302,13 @@ impl<T: TriHashItem, S: BuildHasher> KeyIndex<T, S> for TriIndex<T> {
         lesser(past(&conflict.key1, &before), last)
     }
 
-    fn place(&self, items: &ItemSet<T>, state: &S, hashes: (MapHash, (MapHash, MapHash)), item: &T) {}
+    fn place(
+        &self,
+        items: &ItemSet<T>,
+        state: &S,
+        hashes: (MapHash, (MapHash, MapHash)),
+        item: &T,
+    ) {}
 
     fn spare_after(&self, items: &ItemSet<T>, state: &S) -> Result<(), AllocError> {
         Ok(())
@@ -415,7 +427,8 @@ fn shares_later_keys<T: TriHashItem>(item: &T, other: &T) -> bool
     *item.key2() == *other.key2() && *item.key3() == *other.key3()
 }
 
-impl<T: TriHashItem, S: BuildHasher, Q: HashQuery<T::Key1>> UniqueAt<First, Q, T, S> for TriIndex<T> {
+impl<T: TriHashItem, S: BuildHasher, Q: HashQuery<T::Key1>> UniqueAt<First, Q, T, S>
+    for TriIndex<T> {
     ghost stands_for = { λ query. passes_by T.first_key (Q.stands_for query) };
 
     fn find(
@@ -423,7 +436,10 @@ impl<T: TriHashItem, S: BuildHasher, Q: HashQuery<T::Key1>> UniqueAt<First, Q, T
         items: &ItemSet<T>,
         state: &S,
         query: Q,
-    ) -> (Option<ItemIndex>, (Option<MapHash>, (Option<MapHash>, Option<MapHash>))) {
+    ) -> (
+        Option<ItemIndex>,
+        (Option<MapHash>, (Option<MapHash>, Option<MapHash>)),
+    ) {
         let (found, known) = self.first.find(items, state, query);
         (found, (known, (None, None)))
     }
@@ -436,7 +452,8 @@ impl<T: TriHashItem, S: BuildHasher, Q: HashQuery<T::Key1>> UniqueAt<First, Q, T
     }
 }
 
-impl<T: TriHashItem, S: BuildHasher, Q: HashQuery<T::Key2>> UniqueAt<Second, Q, T, S> for TriIndex<T> {
+impl<T: TriHashItem, S: BuildHasher, Q: HashQuery<T::Key2>> UniqueAt<Second, Q, T, S>
+    for TriIndex<T> {
     ghost stands_for = { λ query. passes_by T.second_key (Q.stands_for query) };
 
     fn find(
@@ -444,7 +461,10 @@ impl<T: TriHashItem, S: BuildHasher, Q: HashQuery<T::Key2>> UniqueAt<Second, Q, 
         items: &ItemSet<T>,
         state: &S,
         query: Q,
-    ) -> (Option<ItemIndex>, (Option<MapHash>, (Option<MapHash>, Option<MapHash>))) {
+    ) -> (
+        Option<ItemIndex>,
+        (Option<MapHash>, (Option<MapHash>, Option<MapHash>)),
+    ) {
         let (found, known) = self.second.find(items, state, query);
         (found, (None, (known, None)))
     }
@@ -457,7 +477,8 @@ impl<T: TriHashItem, S: BuildHasher, Q: HashQuery<T::Key2>> UniqueAt<Second, Q, 
     }
 }
 
-impl<T: TriHashItem, S: BuildHasher, Q: HashQuery<T::Key3>> UniqueAt<Third, Q, T, S> for TriIndex<T> {
+impl<T: TriHashItem, S: BuildHasher, Q: HashQuery<T::Key3>> UniqueAt<Third, Q, T, S>
+    for TriIndex<T> {
     ghost stands_for = { λ query. passes_by T.third_key (Q.stands_for query) };
 
     fn find(
@@ -465,7 +486,10 @@ impl<T: TriHashItem, S: BuildHasher, Q: HashQuery<T::Key3>> UniqueAt<Third, Q, T
         items: &ItemSet<T>,
         state: &S,
         query: Q,
-    ) -> (Option<ItemIndex>, (Option<MapHash>, (Option<MapHash>, Option<MapHash>))) {
+    ) -> (
+        Option<ItemIndex>,
+        (Option<MapHash>, (Option<MapHash>, Option<MapHash>)),
+    ) {
         let (found, known) = self.third.find(items, state, query);
         (found, (None, (None, known)))
     }

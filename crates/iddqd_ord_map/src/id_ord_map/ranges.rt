@@ -3,12 +3,11 @@ ghost use Rattle.std.specs.Prelude.{◌≡◌, ◌≤◌, ◌+◌};
 ghost use Rattle.std.specs.Fn.{TakesAt, CalledAt};
 ghost use Rattle.iddqd.specs.{live_count};
 ghost use Rattle.iddqd.specs.LiveItems.{live_items};
-ghost use Rattle.iddqd_keys.specs.OrderedQuery.{is_within};
-ghost use Rattle.iddqd_ord_map.specs.ItemOrder.{compare_by};
+ghost use Rattle.iddqd_ord_map.specs.ItemOrder.{is_within_by, RemovesBetween, RetainsBetween};
 ghost use Rattle.std.specs.Ordering.{on};
 ghost use Rattle.iddqd_map.specs.Map.{capacity, room};
-ghost use Rattle.iddqd_map.specs.RangeRetain.{KeepsMisses, MayAskWithin, RetainsWithin};
-ghost use Rattle.iddqd_map.specs.Ranges.{GivesItem, LeavesOthers, MayGive, RemovesAlong};
+ghost use Rattle.iddqd_map.specs.RangeRetain.{KeepsMisses, MayAskWithin};
+ghost use Rattle.iddqd_map.specs.Ranges.{GivesItem, LeavesOthers, MayGive};
 
 use super::{IdOrdItem, IdOrdMap};
 use iddqd_keys::order_query::OrdQuery;
@@ -27,10 +26,10 @@ impl<T: IdOrdItem> IdOrdMap<T> {
         f: F,
     ) -> usize
         requires { MayGive F.FnMut f (live_items self.old.store) }
-        ensures left { LeavesOthers self.old.store (is_within (compare_by T.key_of Q.compare) lower upper)
+        ensures left { LeavesOthers self.old.store (is_within_by T.key_of Q.compare lower upper)
             self.new.store }
-        ensures handed { (last : F) × RemovesAlong (on T.key_of T.Key.cmp)
-            (is_within (compare_by T.key_of Q.compare) lower upper) (GivesItem F.FnMut) f self.old.store self.new.store last }
+        ensures handed { RemovesBetween T.key_of T.Key.cmp Q.compare lower upper (GivesItem F.FnMut) f
+            self.old.store self.new.store }
         ensures memory { self.new.memory ≡ self.old.memory }
         ensures room { room self.old ≤ room self.new }
         ensures count { result + live_count self.new.store ≡ live_count self.old.store }
@@ -51,11 +50,11 @@ impl<T: IdOrdItem> IdOrdMap<T> {
         upper: Bound<Q>,
         f: F,
     ) -> usize
-        requires { MayAskWithin (on T.key_of T.Key.cmp) (is_within (compare_by T.key_of Q.compare) lower upper)
+        requires { MayAskWithin (on T.key_of T.Key.cmp) (is_within_by T.key_of Q.compare lower upper)
             (TakesAt F.FnMut) (CalledAt F.FnMut) f self.old.store }
-        ensures asked { (last : F) × RetainsWithin (on T.key_of T.Key.cmp)
-            (is_within (compare_by T.key_of Q.compare) lower upper) (CalledAt F.FnMut) f self.old.store self.new.store last }
-        ensures others { KeepsMisses self.old.store (is_within (compare_by T.key_of Q.compare) lower upper)
+        ensures asked { RetainsBetween T.key_of T.Key.cmp Q.compare lower upper (CalledAt F.FnMut) f
+            self.old.store self.new.store }
+        ensures others { KeepsMisses self.old.store (is_within_by T.key_of Q.compare lower upper)
             self.new.store }
         ensures memory { self.new.memory ≡ self.old.memory }
         ensures room { room self.old ≤ room self.new }
