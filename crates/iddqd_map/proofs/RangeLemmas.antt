@@ -1,5 +1,5 @@
 -- For maps: what calls leave that remove the items whose keys are within bounds, one after the other.
-use Rattle.std.proofs.Common.{◌≡◌, ◌≢◌, ◌∙◌, ℕ, Bool, [], ◌∷◌, Option, Some, None, refl, subst, Ordering, arith}
+use Rattle.std.proofs.Common.{◌≡◌, ◌≢◌, ◌∙◌, ℕ, Bool, [], ◌∷◌, Option, Some, None, refl, subst, Ordering}
 use Rattle.std.specs.Cmp.{IsTotalOrder}
 use Rattle.std.specs.declared.ops.Bound.TheVariants.{Included}
 use Rattle.iddqd.specs.Store.{Store, get, removed}
@@ -7,7 +7,7 @@ use Rattle.iddqd.proofs.LiveLemmas.{get-removed_other}
 use Rattle.iddqd_keys.specs.OrderedQuery.{is_equal}
 use Rattle.iddqd_keys.specs.OrderedQuery.{is_between}
 use Rattle.iddqd_keys.specs.KeyWalk.{ComesBefore, IsFirstHit, IsNextHit, pairs_at}
-use Rattle.iddqd_keys.specs.Scan.{HasNoHit, IsHit, passes_by}
+use Rattle.iddqd_keys.specs.Scan.{HasNoHit, IsHit}
 use Rattle.iddqd_keys.proofs.KeyWalkLemmas.{SortsWithin-none, SortsWithin-first, hit_before, pairs_at-alike}
 use Rattle.iddqd_keys.proofs.KeyWalkLemmas.{between_equal}
 use Rattle.iddqd_keys.proofs.KeyWalkLemmas.{pairs_at-first}

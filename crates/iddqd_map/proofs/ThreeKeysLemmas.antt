@@ -1,5 +1,5 @@
 -- What tables by three keys answer together.
-use Rattle.std.proofs.Common.{◌≡◌, ◌||◌, inl, inr, ℕ, Bool, Option, Some, None, Result, Ok, Err, refl}
+use Rattle.std.proofs.Common.{◌||◌, inl, inr, ℕ, Bool, Option, Some, None, Result, Ok, Err, refl}
 use Rattle.std.specs.Result.{result_err}
 use Rattle.iddqd.specs.Store.{Store}
 use Rattle.iddqd_by_hash.specs.declared.hashed_move.Move.{Move}
@@ -7,7 +7,7 @@ use Rattle.iddqd_map.specs.KeyIndex.{FindsPlace, FindsMove}
 use Rattle.iddqd_map.specs.OneKey.{IsReported, IsTaken}
 use Rattle.iddqd_map.specs.PairConflict.{Reports, ReportsOther}
 use Rattle.iddqd_map.specs.PairLaws.{HasNoHit-either, HasNoOther-either, moves_either}
-use Rattle.iddqd_map.specs.Several.{either_key, both_keys}
+use Rattle.iddqd_map.specs.Several.{either_key}
 use Rattle.iddqd_map.specs.ThreeKeys.{any_key, all_keys, AreReported, AreTaken, three_clashes, three_moves}
 
 module _ {T : Type 0} (s : Store T) (item : T) (alike : T → T → Bool) where

@@ -1,5 +1,5 @@
 -- What tables by two keys answer together.
-use Rattle.std.proofs.Common.{◌≡◌, ◌||◌, inl, inr, ℕ, Bool, Result, Ok, Err, refl}
+use Rattle.std.proofs.Common.{◌||◌, inl, inr, ℕ, Bool, Result, Ok, Err, refl}
 use Rattle.std.specs.Result.{result_err}
 use Rattle.iddqd.specs.Store.{Store}
 use Rattle.iddqd_by_hash.specs.declared.hashed_move.Move.{Move}

@@ -18,6 +18,7 @@ pub use iddqd::{
     hash_builder as hash_builder, index_remap as index_remap, item_index as item_index,
     item_set as item_set,
 };
+pub use iddqd_by_order::ordered_walk as ordered_walk;
 pub use iddqd_groups::{by_hash_multi as by_hash_multi, hashed_group as hashed_group};
 pub use iddqd_keys::{hash_query as hash_query, key_of as key_of, order_query as order_query};
 pub use iddqd_map::{
@@ -25,7 +26,6 @@ pub use iddqd_map::{
     id_hash_map as id_hash_map, key_index as key_index, map as map, no_conflict as no_conflict,
     pair as pair, pair_conflict as pair_conflict, refusal as refusal, tri_hash_map as tri_hash_map,
 };
-pub use iddqd_by_order::ordered_walk as ordered_walk;
 pub use iddqd_ord_map::{
     by_order as by_order, by_order_multi as by_order_multi, id_ord_map as id_ord_map,
     in_order as in_order, ranges_at as ranges_at,

@@ -1,5 +1,5 @@
 -- For leaves in order: what is said of keys in order is said of items that compare by these keys.
-use Rattle.std.proofs.Common.{◌≡◌, ◌∙◌, ◌≢◌, ◌&&◌, ℕ, nat_eq, Bool, List, Option, Some, None, refl, sym, ap, subst, Ordering}
+use Rattle.std.proofs.Common.{◌≡◌, ◌∙◌, ◌&&◌, ℕ, nat_eq, Bool, List, Option, Some, None, refl, sym, ap, subst, Ordering}
 use Rattle.std.specs.List.{IsDistinct}
 use Rattle.std.specs.List.Sorted.{IsStrictlySortedBy}
 use Rattle.std.specs.Option.{option_map, option_cmp}

@@ -1,4 +1,3 @@
-use Rattle.iddqd_keys.specs.Scan.{passes_by}
 use Rattle.iddqd_map.proofs.GroupLemmas.{FindsSome-misses}
 use Rattle.iddqd_map.proofs.map.Map.contains_any_by.Goals as goal
 

@@ -1,4 +1,3 @@
-use Rattle.iddqd_keys.specs.Scan.{passes_by}
 use Rattle.iddqd_map.proofs.FoundLemmas.{scan_misses}
 use Rattle.iddqd_map.proofs.map.Map.contains_by.Goals as goal
 

@@ -1,4 +1,3 @@
-use Rattle.iddqd_keys.specs.Scan.{passes_by}
 use Rattle.iddqd_map.proofs.FoundLemmas.{FindsItem-found}
 use Rattle.iddqd_map.proofs.map.Map.get_by.Goals as goal
 

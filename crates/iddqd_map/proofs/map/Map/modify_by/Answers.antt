@@ -1,4 +1,3 @@
-use Rattle.iddqd_keys.specs.Scan.{passes_by}
 use Rattle.iddqd_map.proofs.FoundLemmas.{Modifies-found}
 use Rattle.iddqd_map.proofs.map.Map.modify_by.Goals as goal
 

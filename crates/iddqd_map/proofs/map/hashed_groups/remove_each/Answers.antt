@@ -4,7 +4,6 @@ use Rattle.iddqd.specs.ItemSet.{SizedStore}
 use Rattle.iddqd.specs.LiveItems.{live_items}
 use Rattle.iddqd.proofs.LiveCountLemmas.{live_count-removed}
 use Rattle.iddqd_hash.proofs.AskLemmas.{CanAsk-takes, CanAsk-asked}
-use Rattle.iddqd_keys.specs.Scan.{passes_by}
 use Rattle.iddqd_keys.proofs.ScanLemmas.{live_before}
 use Rattle.iddqd_map.specs.Ranges.{TakesItem, GivesItem}
 use Rattle.iddqd_map.proofs.GroupLemmas.{HasNoHit-last, IsHit-other, LeavesOthers-none, LeavesOthers-hit, RemovesEach-none, RemovesEach-hit}

@@ -2,7 +2,7 @@ use Rattle.std.proofs.Common.{◌≡◌, ◌≤◌, ℕ, Bool, Some}
 use Rattle.iddqd.specs.LiveItems.{live_items}
 use Rattle.iddqd.specs.Store.{Store, get, live_count}
 use Rattle.iddqd_hash.specs.Asks.{CanAsk}
-use Rattle.iddqd_keys.specs.Scan.{IsHit, passes_by}
+use Rattle.iddqd_keys.specs.Scan.{IsHit}
 use Rattle.iddqd_map.specs.Groups.{RemovesEach}
 use Rattle.iddqd_map.specs.KeyIndex.{IsIndexed}
 use Rattle.iddqd_map.specs.Ranges.{LeavesOthers, TakesItem, GivesItem}

@@ -1,4 +1,4 @@
-use Rattle.std.proofs.Common.{IfSome, None, Option, ℕ, refl, subst, ◌≡◌, ◌∙◌, Bool, true, Some, sym, ap, arith}
+use Rattle.std.proofs.Common.{subst, ◌≡◌, ◌∙◌, Bool, true, Some, sym, ap, arith}
 use Rattle.std.specs.Range.Bound.{bound_map}
 use Rattle.iddqd.specs.Store.{get, live_count}
 use Rattle.iddqd.specs.ItemSet.{SizedStore}

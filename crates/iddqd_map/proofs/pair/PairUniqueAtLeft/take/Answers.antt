@@ -1,4 +1,3 @@
-use Rattle.iddqd_keys.specs.Scan.{passes_by}
 use Rattle.iddqd_map.proofs.FoundLemmas.{hit_live}
 use Rattle.iddqd_map.proofs.pair.PairUniqueAtLeft.take.Goals as goal
 

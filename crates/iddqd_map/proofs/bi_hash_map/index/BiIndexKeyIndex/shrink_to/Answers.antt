@@ -1,7 +1,6 @@
-use Rattle.std.proofs.Common.{◌+◌, ◌<◌, ◌≤◌, min, max, OnErr, arith}
+use Rattle.std.proofs.Common.{min, max, arith}
 use Rattle.iddqd.specs.Store.{live_count}
 use Rattle.iddqd_hash.specs.HashTable.{capacity}
-use Rattle.iddqd_hash.specs.OpenTableSizes.{least_cells}
 use Rattle.iddqd_hash.proofs.LeastCellsLemmas.{least_cells-grows}
 use Rattle.iddqd_map.proofs.SizeLemmas.{either-refused}
 use Rattle.iddqd_map.proofs.bi_hash_map.index.BiIndexKeyIndex.shrink_to.Goals as goal
