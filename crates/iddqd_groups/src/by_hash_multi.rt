@@ -134,13 +134,13 @@ where
 
     type Hashes = MapHash;
 
-    type Place = ();
+    type Position = ();
 
     type InsertPlan = ();
 
     type MovePlan = Move;
 
-    type Spare = ();
+    type Blocks = ();
 
     ghost Keys = { K };
 
@@ -206,13 +206,15 @@ where
     ghost are_hashes = { λ state item hash. hash ≡ (hashing_of K.eq K.hash_input S.BuildHasher
         S.Hasher.Hasher state).hash_of (E.key_of item) };
 
-    ghost is_place = { λ x state s item place. Unit {0} };
+    ghost is_position = { λ x state s item position. Unit {0} };
 
     ghost is_planned = { λ x state s item plan. Unit {0} };
 
-    ghost has_room_for = { λ x plan spare. finite.len x.table.filed < x.table.capacity };
+    ghost has_room_for = { λ x plan blocks. finite.len x.table.filed < x.table.capacity };
 
-    ghost does_after = { λ x spare. Unit {0} };
+    ghost are_none = { λ blocks. Unit {0} };
+
+    ghost are_enough_after = { λ x blocks. Unit {0} };
 
     ghost same_plans = { λ x y state s item plan same is. is };
 
@@ -221,7 +223,7 @@ where
 
     ghost moves = { moves };
 
-    ghost does_for = { λ x plan spare. Unit {0} };
+    ghost are_enough_for = { λ x plan blocks. Unit {0} };
 
     fn no_hashes() {}
 
@@ -272,13 +274,13 @@ where
         Ok(())
     }
 
-    fn plan(&self, items: &ItemSet<T>, state: &S, place: (), ix: ItemIndex, item: &T) {}
+    fn plan(&self, items: &ItemSet<T>, state: &S, position: (), ix: ItemIndex, item: &T) {}
 
     fn make_room(&mut self, items: &ItemSet<T>, state: &S, plan: &()) -> Result<(), AllocError> {
         linked_steps::reserve(&mut self.table, items, 1)
     }
 
-    fn insert(&mut self, hashes: MapHash, plan: &(), spare: (), ix: ItemIndex) {
+    fn insert(&mut self, hashes: MapHash, plan: &(), blocks: (), ix: ItemIndex) {
         self.table.insert(hashes, ix);
     }
 
@@ -286,9 +288,9 @@ where
         None
     }
 
-    fn place(&self, items: &ItemSet<T>, state: &S, hashes: MapHash, item: &T) {}
+    fn position(&self, items: &ItemSet<T>, state: &S, hashes: MapHash, item: &T) {}
 
-    fn spare_after(&self, items: &ItemSet<T>, state: &S) -> Result<(), AllocError> {
+    fn blocks_after(&self, items: &ItemSet<T>, state: &S) -> Result<(), AllocError> {
         Ok(())
     }
 
@@ -314,7 +316,7 @@ where
         Ok(move_of::<T, E, S>(items, state, ix, item))
     }
 
-    fn spare_for(&self, items: &ItemSet<T>, state: &S, plan: &Move) -> Result<(), AllocError> {
+    fn blocks_for(&self, items: &ItemSet<T>, state: &S, plan: &Move) -> Result<(), AllocError> {
         Ok(())
     }
 
@@ -324,7 +326,7 @@ where
         state: &S,
         known: (),
         plan: &Move,
-        spare: (),
+        blocks: (),
         ix: ItemIndex,
         item: &T,
     ) {

@@ -3,7 +3,7 @@ use Rattle.std.proofs.Common.{◌||◌, inl, inr, ℕ, Bool, Option, Some, None,
 use Rattle.std.specs.Result.{result_err}
 use Rattle.iddqd.specs.Store.{Store}
 use Rattle.iddqd_by_hash.specs.declared.hashed_move.Move.{Move}
-use Rattle.iddqd_map.specs.KeyIndex.{FindsPlace, FindsMove}
+use Rattle.iddqd_map.specs.KeyIndex.{FindsPosition, FindsMove}
 use Rattle.iddqd_map.specs.OneKey.{IsReported, IsTaken}
 use Rattle.iddqd_map.specs.PairConflict.{Reports, ReportsOther}
 use Rattle.iddqd_map.specs.PairLaws.{HasNoHit-either, HasNoOther-either, moves_either}
@@ -13,7 +13,7 @@ use Rattle.iddqd_map.specs.ThreeKeys.{any_key, all_keys, AreReported, AreTaken, 
 module _ {T : Type 0} (s : Store T) (item : T) (alike : T → T → Bool) where
   reported_key :
       (found : Result (Unit {0}) ℕ)
-      → FindsPlace alike (λ t x spot. Unit {0}) (IsReported alike) s item found
+      → FindsPosition alike (λ t x position. Unit {0}) (IsReported alike) s item found
       → Reports alike (IsReported alike) s item (result_err found)
   reported_key (Ok x) finds = finds.0
   reported_key (Err at) finds = finds
@@ -31,7 +31,7 @@ module _ {T : Type 0} (first second third : T → T → Bool) (s : Store T) wher
       → Reports first (IsReported first) s item one
       → Reports second (IsReported second) s item two
       → Reports third (IsReported third) s item three
-      → FindsPlace (any_key first second third) (λ t x spot. Unit {0}) (AreReported first second third) s item
+      → FindsPosition (any_key first second third) (λ t x position. Unit {0}) (AreReported first second third) s item
       (three_clashes one two three)
   spot_three item None None None a b c =
       (HasNoHit-either first (either_key second third) s item a (HasNoHit-either second third s item b c), tt)
@@ -40,14 +40,14 @@ module _ {T : Type 0} (first second third : T → T → Bool) (s : Store T) wher
   spot_three item (Some at) two three a b c = record { first = a; second = b; third = c; some = inl refl }
 
   -- three look-ups of an item's keys
-  pub FindsPlace-three :
+  pub FindsPosition-three :
       (item : T) (one two three : Result (Unit {0}) ℕ)
-      → FindsPlace first (λ t x spot. Unit {0}) (IsReported first) s item one
-      → FindsPlace second (λ t x spot. Unit {0}) (IsReported second) s item two
-      → FindsPlace third (λ t x spot. Unit {0}) (IsReported third) s item three
-      → FindsPlace (any_key first second third) (λ t x spot. Unit {0}) (AreReported first second third) s item
+      → FindsPosition first (λ t x position. Unit {0}) (IsReported first) s item one
+      → FindsPosition second (λ t x position. Unit {0}) (IsReported second) s item two
+      → FindsPosition third (λ t x position. Unit {0}) (IsReported third) s item three
+      → FindsPosition (any_key first second third) (λ t x position. Unit {0}) (AreReported first second third) s item
       (three_clashes (result_err one) (result_err two) (result_err three))
-  FindsPlace-three item one two three a b c =
+  FindsPosition-three item one two three a b c =
       spot_three item (result_err one) (result_err two) (result_err three) (reported_key s item first one a)
       (reported_key s item second two b) (reported_key s item third three c)
 

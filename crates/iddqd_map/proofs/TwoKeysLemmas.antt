@@ -3,7 +3,7 @@ use Rattle.std.proofs.Common.{◌||◌, inl, inr, ℕ, Bool, Result, Ok, Err, re
 use Rattle.std.specs.Result.{result_err}
 use Rattle.iddqd.specs.Store.{Store}
 use Rattle.iddqd_by_hash.specs.declared.hashed_move.Move.{Move}
-use Rattle.iddqd_map.specs.KeyIndex.{FindsPlace, FindsMove}
+use Rattle.iddqd_map.specs.KeyIndex.{FindsPosition, FindsMove}
 use Rattle.iddqd_map.specs.OneKey.{IsReported, IsTaken}
 use Rattle.iddqd_map.specs.PairLaws.{HasNoHit-either, HasNoOther-either, moves_either}
 use Rattle.iddqd_map.specs.Several.{either_key, both_keys}
@@ -11,16 +11,16 @@ use Rattle.iddqd_map.specs.TwoKeys.{AreReported, AreTaken, two_clashes, two_move
 
 module _ {T : Type 0} (first second : T → T → Bool) (s : Store T) where
   -- two look-ups of an item's keys
-  pub FindsPlace-two :
+  pub FindsPosition-two :
       (item : T) (one other : Result (Unit {0}) ℕ)
-      → FindsPlace first (λ t x spot. Unit {0}) (IsReported first) s item one
-      → FindsPlace second (λ t x spot. Unit {0}) (IsReported second) s item other
-      → FindsPlace (either_key first second) (λ t x spot. Unit {0}) (AreReported first second) s item
+      → FindsPosition first (λ t x position. Unit {0}) (IsReported first) s item one
+      → FindsPosition second (λ t x position. Unit {0}) (IsReported second) s item other
+      → FindsPosition (either_key first second) (λ t x position. Unit {0}) (AreReported first second) s item
       (two_clashes (result_err one) (result_err other))
-  FindsPlace-two item (Ok x) (Ok y) a b = (HasNoHit-either first second s item a.0 b.0, tt)
-  FindsPlace-two item (Ok x) (Err at) a b = record { first = a.0; second = b; some = inr refl }
-  FindsPlace-two item (Err at) (Ok y) a b = record { first = a; second = b.0; some = inl refl }
-  FindsPlace-two item (Err at) (Err too) a b = record { first = a; second = b; some = inl refl }
+  FindsPosition-two item (Ok x) (Ok y) a b = (HasNoHit-either first second s item a.0 b.0, tt)
+  FindsPosition-two item (Ok x) (Err at) a b = record { first = a.0; second = b; some = inr refl }
+  FindsPosition-two item (Err at) (Ok y) a b = record { first = a; second = b.0; some = inl refl }
+  FindsPosition-two item (Err at) (Err too) a b = record { first = a; second = b; some = inl refl }
 
   -- two plans of a move
   pub FindsMove-two :

@@ -31,8 +31,8 @@ pub record Compacts {T : Type 0} (old new : MapState T) : Type 0 where
   pub store : new.store ≡ compacted old.store
   pub memory : new.memory ≡ old.memory
 
--- `alike x y` says that the items share a unique key, and `grown n` is the most memory by which the tables grow
--- where an insert leaves n indexes. Below, a key is a unique one.
+-- `alike x y` says that the items share a unique key, and `grown n` is the most by which the cells grow in
+-- an insert that leaves n indexes. Below, a key is a unique one.
 module _ {T : Type 0} (alike : T → T → Bool) (grown : ℕ → ℕ) where
   -- An item that shares no key with another was stored at the next index.
   pub record InsertsAt (old : MapState T) (item : T) (ix : ℕ) (new : MapState T) : Type 0 where

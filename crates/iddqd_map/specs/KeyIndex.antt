@@ -55,12 +55,12 @@ module _ {S T : Type 0} where
     pub indexed : indexes state s
 
 module _ {T : Type 0} where
-  -- `Ok`: the place for an item that shares no key with another; `Err`: the items with which it shares a key
-  abbrev pub FindsPlace :
+  -- `Ok`: the position for an item that shares no key with another; `Err`: the items with which it shares a key
+  abbrev pub FindsPosition :
       {P C : Type 0} → (T → T → Bool) → (Store T → T → P → Type 0) → (Store T → T → C → Type 0) → Store T → T
       → Result P C → Type 0
-  FindsPlace alike is_place conflicts s item (Ok place) = HasNoHit s (alike item) × is_place s item place
-  FindsPlace alike is_place conflicts s item (Err at) = conflicts s item at
+  FindsPosition alike is_position conflicts s item (Ok position) = HasNoHit s (alike item) × is_position s item position
+  FindsPosition alike is_position conflicts s item (Err at) = conflicts s item at
 
   -- `Ok`: how a live index must move if its item is replaced, which it must unless all keys stay; `Err`: the other
   -- items that share a key with the new one.

@@ -5,8 +5,8 @@ use Rattle.iddqd_map.specs.Map.{MapState, MapMemory, insertable, room}
 
 module _ {T : Type 0} (most : ℕ → ℕ) where
   -- What is taken so that there is room for one more item: nothing if there was room. Otherwise the slots grow to at
-  -- most four or twice as many, whichever is more, and never past the limit, and the cells grow by at most as many as
-  -- all items and one more need. Nothing is given back.
+  -- most four or twice as many, whichever is more, and never past the limit, and the cells grow by at most what the
+  -- number of all items and one more allows. Nothing is given back.
   pub record MakesRoom (old : MapState T) (new : MapMemory) : Type 0 where
     pub had_room : 1 ≤ room old → new ≡ old.memory
     pub slots_at_least : old.memory.slots ≤ new.slots

@@ -70,13 +70,13 @@ where
 
     type Hashes = MapHash;
 
-    type Place = ();
+    type Position = ();
 
     type InsertPlan = ();
 
     type MovePlan = Move;
 
-    type Spare = ();
+    type Blocks = ();
 
     ghost Keys = { K };
 
@@ -141,13 +141,15 @@ where
     ghost are_hashes = { λ state item hash. hash ≡ (hashing_of K.eq K.hash_input S.BuildHasher
         S.Hasher.Hasher state).hash_of (E.key_of item) };
 
-    ghost is_place = { λ x state s item place. Unit {0} };
+    ghost is_position = { λ x state s item position. Unit {0} };
 
     ghost is_planned = { λ x state s item plan. Unit {0} };
 
-    ghost has_room_for = { λ x plan spare. 1 ≤ room x.table };
+    ghost has_room_for = { λ x plan blocks. 1 ≤ room x.table };
 
-    ghost does_after = { λ x spare. Unit {0} };
+    ghost are_none = { λ blocks. Unit {0} };
+
+    ghost are_enough_after = { λ x blocks. Unit {0} };
 
     ghost same_plans = { λ x y state s item plan same is. is };
 
@@ -156,7 +158,7 @@ where
 
     ghost moves = { moves };
 
-    ghost does_for = { λ x plan spare. Unit {0} };
+    ghost are_enough_for = { λ x plan blocks. Unit {0} };
 
     fn no_hashes() -> Option<MapHash> {
         None
@@ -212,13 +214,13 @@ where
         }
     }
 
-    fn plan(&self, items: &ItemSet<T>, state: &S, place: (), ix: ItemIndex, item: &T) {}
+    fn plan(&self, items: &ItemSet<T>, state: &S, position: (), ix: ItemIndex, item: &T) {}
 
     fn make_room(&mut self, items: &ItemSet<T>, state: &S, plan: &()) -> Result<(), AllocError> {
         hashed_steps::make_room(&mut self.table, items)
     }
 
-    fn insert(&mut self, hashes: MapHash, plan: &(), spare: (), ix: ItemIndex) {
+    fn insert(&mut self, hashes: MapHash, plan: &(), blocks: (), ix: ItemIndex) {
         self.table.insert_prehashed_unchecked(hashes, ix);
     }
 
@@ -230,9 +232,9 @@ where
         }
     }
 
-    fn place(&self, items: &ItemSet<T>, state: &S, hashes: MapHash, item: &T) {}
+    fn position(&self, items: &ItemSet<T>, state: &S, hashes: MapHash, item: &T) {}
 
-    fn spare_after(&self, items: &ItemSet<T>, state: &S) -> Result<(), AllocError> {
+    fn blocks_after(&self, items: &ItemSet<T>, state: &S) -> Result<(), AllocError> {
         Ok(())
     }
 
@@ -258,7 +260,7 @@ where
         plan_move::<T, E, S>(&self.table, items, state, ix, item)
     }
 
-    fn spare_for(&self, items: &ItemSet<T>, state: &S, plan: &Move) -> Result<(), AllocError> {
+    fn blocks_for(&self, items: &ItemSet<T>, state: &S, plan: &Move) -> Result<(), AllocError> {
         Ok(())
     }
 
@@ -268,7 +270,7 @@ where
         state: &S,
         known: Option<MapHash>,
         plan: &Move,
-        spare: (),
+        blocks: (),
         ix: ItemIndex,
         item: &T,
     ) {

@@ -6,16 +6,16 @@
 //!
 //! A call that takes memory does so before anything is written.
 //!
-//! - To insert: `look_up` finds the place for the item, or the items that share a key with it; `plan` adds what
+//! - To insert: `look_up` finds the position for the item, or the items that share a key with it; `plan` adds what
 //!   depends on its index; `make_room` takes the memory; then `insert` can't fail.
-//! - To overwrite: `spare_after` takes the memory, if any is needed; `remove` removes the index of each item that
-//!   shares a key; then `place`, `plan` and `insert` can't fail.
-//! - To move: `plan_move` finds how the index must move, or the other items that share a key; `spare_for` takes the
+//! - To overwrite: `blocks_after` takes the memory, if any is needed; `remove` removes the index of each item that
+//!   shares a key; then `position`, `plan` and `insert` can't fail.
+//! - To move: `plan_move` finds how the index must move, or the other items that share a key; `blocks_for` takes the
 //!   memory, if any is needed; then `commit_move` can't fail.
 //!
-//! What is planned is plain data: it borrows nothing, and owns no memory. The memory that an ordered table needs for
-//! one index is a value of its own, the spare, which the insert or the move consumes. So no key index holds memory
-//! that waits for a call.
+//! What is planned is plain data: it borrows nothing, and owns no memory. The blocks that an ordered table needs for one
+//! index beyond its capacity are a value of their own, which the insert or the move consumes. So beyond its capacity no
+//! key index holds memory for a call to come.
 ghost use Rattle.std.specs.Prelude.{◌≡◌, ◌≢◌, ◌≤◌, ◌+◌, ◌<◌, true, false, min, max, length, IsOk, IfOk, OnOk, OnErr, IfSome};
 ghost use Rattle.std.specs.Option.{option_map};
 ghost use Rattle.std.specs.Range.Bound.{bound_map};
@@ -24,7 +24,7 @@ ghost use Rattle.iddqd_keys.specs.KeyWalk.{IsFirstHit, IsNextHit};
 ghost use Rattle.iddqd_keys.specs.OrderedQuery.{is_up_to, is_within};
 ghost use Rattle.iddqd_keys.specs.Scan.{AnswersScan, IsLive, HasNoHit};
 ghost use Rattle.iddqd_map.specs.Ranges.{itself};
-ghost use Rattle.iddqd_map.specs.KeyIndex.{IndexesNone, IsNextOf, IsPlannedForOne, IndexesOneMore, IsRemapOfSome, IndexesCompacted, IndexesAllOf, IsNextReported, FindsPlace, FindsMove, TakesFound};
+ghost use Rattle.iddqd_map.specs.KeyIndex.{IndexesNone, IsNextOf, IsPlannedForOne, IndexesOneMore, IsRemapOfSome, IndexesCompacted, IndexesAllOf, IsNextReported, FindsPosition, FindsMove, TakesFound};
 
 use iddqd::index_remap::IndexRemap;
 use iddqd::internal::{ValidateCompact, ValidateRefusal, ValidationError};
@@ -54,14 +54,14 @@ pub trait KeyIndex<T, S>: Sized + Drop {
     type Hashes: Copy;
     /// Those hashes of a stored item's keys that a look-up has computed already.
     type KnownHashes: Copy;
-    /// The place for an item that is alike to none, before its index is known.
-    type Place: Drop;
-    /// The place for an item under its index.
+    /// The position for an item that is alike to none, before its index is known.
+    type Position: Drop;
+    /// The position for an item under its index.
     type InsertPlan: Drop;
     /// How a live index must move if its item is replaced.
     type MovePlan: Drop;
-    /// Memory that was taken for one insert or one move.
-    type Spare: Drop;
+    /// The memory that was taken for one insert or one move, beyond that of the tables.
+    type Blocks: Drop;
 
     // The keys of an item.
     ghost Keys: { Type 0 };
@@ -85,7 +85,8 @@ pub trait KeyIndex<T, S>: Sized + Drop {
     // The most cells that it takes for a number of indexes.
     ghost most: { ℕ → ℕ };
 
-    // The most cells that an insert takes where there are so many indexes then.
+    // The most by which the cells grow in an insert that leaves so many indexes. Of an ordered table it is 0, since the
+    // blocks that growth takes aren't reserved.
     ghost grown: { ℕ → ℕ };
 
     // The most cells that a shrink leaves, for a number of slots and a number of indexes.
@@ -113,23 +114,26 @@ pub trait KeyIndex<T, S>: Sized + Drop {
 
     ghost are_hashes: { S → T → Self.Hashes → Type 0 };
 
-    ghost is_place: { Self → S → Store T → T → Self.Place → Type 0 };
+    ghost is_position: { Self → S → Store T → T → Self.Position → Type 0 };
 
     ghost is_planned: { Self → S → Store T → T → Self.InsertPlan → Type 0 };
 
-    // With the spare there is room for the planned insert.
-    ghost has_room_for: { Self → Self.InsertPlan → Self.Spare → Type 0 };
+    // No memory was taken.
+    ghost are_none: { Self.Blocks → Type 0 };
 
-    // The spare does for any insert that comes after a removal.
-    ghost does_after: { Self → Self.Spare → Type 0 };
+    // With the blocks there is room for the planned insert.
+    ghost has_room_for: { Self → Self.InsertPlan → Self.Blocks → Type 0 };
+
+    // They are enough for any insert that comes after a removal.
+    ghost are_enough_after: { Self → Self.Blocks → Type 0 };
 
     ghost is_move: { S → Store T → ℕ → T → Self.MovePlan → Type 0 };
 
     // Some table has to move the index.
     ghost moves: { Self.MovePlan → Bool };
 
-    // The spare does for the planned move.
-    ghost does_for: { Self → Self.MovePlan → Self.Spare → Type 0 };
+    // They are enough for the planned move.
+    ghost are_enough_for: { Self → Self.MovePlan → Self.Blocks → Type 0 };
 
     /// How many indexes it can hold without more memory.
     fn capacity(&self) -> usize
@@ -190,30 +194,30 @@ pub trait KeyIndex<T, S>: Sized + Drop {
     /// The value for no hash: no look-up computed one.
     fn no_hashes() -> Self::KnownHashes;
 
-    /// Finds the place for an item, or the items that it is alike to. It takes no memory.
+    /// Finds the position for an item, or the items that it is alike to. It takes no memory.
     fn look_up(
         &self,
         items: &ItemSet<T>,
         state: &S,
         hashes: Self::Hashes,
         item: &T,
-    ) -> Result<Self::Place, Self::Conflict>
+    ) -> Result<Self::Position, Self::Conflict>
         requires hashed { are_hashes state.now item.now hashes }
         requires indexed { Self.indexes self.now state.now items.now.store }
-        ensures { FindsPlace Self.alike (is_place self.now state.now) Self.conflicts items.now.store item.now result };
+        ensures { FindsPosition Self.alike (is_position self.now state.now) Self.conflicts items.now.store item.now result };
 
-    /// The place for an item under the next index.
+    /// The position for an item under the next index.
     fn plan(
         &self,
         items: &ItemSet<T>,
         state: &S,
-        place: Self::Place,
+        position: Self::Position,
         ix: ItemIndex,
         item: &T,
     ) -> Self::InsertPlan
         requires valid { IsValid items.now.store }
         requires indexed { Self.indexes self.now state.now items.now.store }
-        requires place { is_place self.now state.now items.now.store item.now place }
+        requires position { is_position self.now state.now items.now.store item.now position }
         requires next { ix ≡ next_index items.now.store }
         ensures { is_planned self.now state.now items.now.store item.now result };
 
@@ -224,11 +228,12 @@ pub trait KeyIndex<T, S>: Sized + Drop {
         items: &ItemSet<T>,
         state: &S,
         plan: &Self::InsertPlan,
-    ) -> Result<Self::Spare, AllocError>
+    ) -> Result<Self::Blocks, AllocError>
         requires indexed { Self.indexes self.old state.now items.now.store }
         ensures contents { Self.same self.old self.new }
         ensures ready { IfOk result (has_room_for self.new plan.now) }
         ensures had_room { live_count items.now.store < Self.capacity self.old → IsOk result × (self.new ≡ self.old) }
+        ensures none { live_count items.now.store < Self.capacity self.old → IfOk result are_none }
         ensures capacity_at_least { Self.capacity self.old ≤ Self.capacity self.new }
         ensures few { Self.cells self.new ≤ Self.cells self.old + grown (live_count items.now.store + 1) };
 
@@ -237,10 +242,10 @@ pub trait KeyIndex<T, S>: Sized + Drop {
         &mut self,
         hashes: Self::Hashes,
         plan: &Self::InsertPlan,
-        spare: Self::Spare,
+        blocks: Self::Blocks,
         ix: ItemIndex,
     )
-        requires room { has_room_for self.old plan.now spare }
+        requires room { has_room_for self.old plan.now blocks }
         requires next { IsNextOf (Self.indexes self.old) ix }
         requires assigned { ix ≢ sentinel }
         requires planned { IsPlannedForOne (λ state s item. is_planned self.old state s item plan.now) }
@@ -253,30 +258,31 @@ pub trait KeyIndex<T, S>: Sized + Drop {
     fn next_reported(conflict: &Self::Conflict, before: Option<ItemIndex>) -> Option<ItemIndex>
         ensures { IsNextReported (Self.reports conflict.now) before result };
 
-    /// The place for an item that is alike to none.
-    fn place(&self, items: &ItemSet<T>, state: &S, hashes: Self::Hashes, item: &T) -> Self::Place
+    /// The position for an item that is alike to none.
+    fn position(&self, items: &ItemSet<T>, state: &S, hashes: Self::Hashes, item: &T) -> Self::Position
         requires hashed { are_hashes state.now item.now hashes }
         requires indexed { Self.indexes self.now state.now items.now.store }
         requires apart { HasNoHit items.now.store (Self.alike item.now) }
-        ensures { is_place self.now state.now items.now.store item.now result };
+        ensures { is_position self.now state.now items.now.store item.now result };
 
     /// Takes the memory for an insert that comes after a removal. Up to the capacity it takes none.
-    fn spare_after(&self, items: &ItemSet<T>, state: &S) -> Result<Self::Spare, AllocError>
+    fn blocks_after(&self, items: &ItemSet<T>, state: &S) -> Result<Self::Blocks, AllocError>
         requires indexed { Self.indexes self.now state.now items.now.store }
-        ensures does { IfOk result (does_after self.now) }
+        ensures enough { IfOk result (are_enough_after self.now) }
+        ensures none { live_count items.now.store ≤ Self.capacity self.now → IfOk result are_none }
         ensures may_need_memory { OnErr result (Self.may_need_memory ≡ true) }
         ensures past { OnErr result (Self.capacity self.now < live_count items.now.store) };
 
-    /// Removes a live index. It takes no memory. What was taken for an insert after a removal still does for it.
+    /// Removes a live index. It takes no memory. What was taken for an insert after a removal is still enough for it.
     fn remove(&mut self, items: &ItemSet<T>, state: &S, ix: ItemIndex)
         requires live { IsLive items.now.store ix }
         requires indexed { Self.indexes self.old state.now items.now.store }
         ensures indexed { Self.indexes self.new state.now (removed items.now.store ix) }
         ensures capacity { Self.capacity self.new ≡ Self.capacity self.old }
         ensures cells { Self.cells self.new ≡ Self.cells self.old }
-        ensures does { (spare : Self.Spare) → does_after self.old spare → does_after self.new spare }
-        ensures roomy { (plan : Self.InsertPlan) (spare : Self.Spare) → does_after self.old spare
-            → has_room_for self.new plan spare };
+        ensures enough { (blocks : Self.Blocks) → are_enough_after self.old blocks → are_enough_after self.new blocks }
+        ensures roomy { (plan : Self.InsertPlan) (blocks : Self.Blocks) → are_enough_after self.old blocks
+            → has_room_for self.new plan blocks };
 
     /// Forgets every index, and keeps the memory.
     fn clear(&mut self)
@@ -305,14 +311,16 @@ pub trait KeyIndex<T, S>: Sized + Drop {
             result };
 
     /// Takes the memory of a planned move. Up to the capacity it takes none, nor if all keys stay.
-    fn spare_for(
+    fn blocks_for(
         &self,
         items: &ItemSet<T>,
         state: &S,
         plan: &Self::MovePlan,
-    ) -> Result<Self::Spare, AllocError>
+    ) -> Result<Self::Blocks, AllocError>
         requires indexed { Self.indexes self.now state.now items.now.store }
-        ensures does { IfOk result (does_for self.now plan.now) }
+        ensures enough { IfOk result (are_enough_for self.now plan.now) }
+        ensures none { live_count items.now.store ≤ Self.capacity self.now → IfOk result are_none }
+        ensures stays { moves plan.now ≡ false → IfOk result are_none }
         ensures moves { OnErr result (moves plan.now ≡ true) }
         ensures may_need_memory { OnErr result (Self.may_need_memory ≡ true) }
         ensures past { OnErr result (Self.capacity self.now < live_count items.now.store) };
@@ -327,14 +335,14 @@ pub trait KeyIndex<T, S>: Sized + Drop {
         state: &S,
         known: Self::KnownHashes,
         plan: &Self::MovePlan,
-        spare: Self::Spare,
+        blocks: Self::Blocks,
         ix: ItemIndex,
         item: &T,
     )
         requires live { IsLive items.now.store ix }
         requires indexed { Self.indexes self.old state.now items.now.store }
         requires planned { is_move state.now items.now.store ix item.now plan.now }
-        requires does { does_for self.old plan.now spare }
+        requires enough { are_enough_for self.old plan.now blocks }
         ensures indexed { Self.indexes self.new state.now (rebound items.now.store ix item.now) }
         ensures capacity { Self.capacity self.new ≡ Self.capacity self.old }
         ensures cells { Self.cells self.new ≡ Self.cells self.old };
@@ -446,6 +454,8 @@ pub trait UniqueAt<P, Q, T, S>: KeyIndex<T, S> {
     ghost stands_for: { Q → T → Bool };
 
     /// The index of the item that has the key for which the query stands, and the hashes that were computed for that.
+    ///
+    /// No clause speaks of the hashes: a move that is told a wrong one scans its table.
     fn find(
         &self,
         items: &ItemSet<T>,

@@ -53,13 +53,13 @@ where
 
     type Hashes = (A::Hashes, B::Hashes);
 
-    type Place = (A::Place, B::Place);
+    type Position = (A::Position, B::Position);
 
     type InsertPlan = (A::InsertPlan, B::InsertPlan);
 
     type MovePlan = (A::MovePlan, B::MovePlan);
 
-    type Spare = (A::Spare, B::Spare);
+    type Blocks = (A::Blocks, B::Blocks);
 
     ghost Keys = { A.Keys × B.Keys };
 
@@ -142,16 +142,18 @@ where
 
     ghost are_hashes = { λ state item hashes. A.are_hashes state item hashes.0 × B.are_hashes state item hashes.1 };
 
-    ghost is_place = { λ x state s item place. A.is_place x.first state s item place.0
-        × B.is_place x.second state s item place.1 };
+    ghost is_position = { λ x state s item position. A.is_position x.first state s item position.0
+        × B.is_position x.second state s item position.1 };
 
     ghost is_planned = { λ x state s item plan. A.is_planned x.first state s item plan.0
         × B.is_planned x.second state s item plan.1 };
 
-    ghost has_room_for = { λ x plan spare. A.has_room_for x.first plan.0 spare.0
-        × B.has_room_for x.second plan.1 spare.1 };
+    ghost are_none = { λ blocks. A.are_none blocks.0 × B.are_none blocks.1 };
 
-    ghost does_after = { λ x spare. A.does_after x.first spare.0 × B.does_after x.second spare.1 };
+    ghost has_room_for = { λ x plan blocks. A.has_room_for x.first plan.0 blocks.0
+        × B.has_room_for x.second plan.1 blocks.1 };
+
+    ghost are_enough_after = { λ x blocks. A.are_enough_after x.first blocks.0 × B.are_enough_after x.second blocks.1 };
 
     ghost same_plans = { λ x y state s item plan same is. (
       A.same_plans x.first y.first state s item plan.0 same.0 is.0,
@@ -162,7 +164,7 @@ where
 
     ghost moves = { λ plan. A.moves plan.0 || B.moves plan.1 };
 
-    ghost does_for = { λ x plan spare. A.does_for x.first plan.0 spare.0 × B.does_for x.second plan.1 spare.1 };
+    ghost are_enough_for = { λ x plan blocks. A.are_enough_for x.first plan.0 blocks.0 × B.are_enough_for x.second plan.1 blocks.1 };
 
     fn no_hashes() -> (A::KnownHashes, B::KnownHashes) {
         (A::no_hashes(), B::no_hashes())
@@ -212,7 +214,7 @@ where
         state: &S,
         hashes: (A::Hashes, B::Hashes),
         item: &T,
-    ) -> Result<(A::Place, B::Place), PairConflict<A::Conflict, B::Conflict>> {
+    ) -> Result<(A::Position, B::Position), PairConflict<A::Conflict, B::Conflict>> {
         let first = self.first.look_up(items, state, hashes.0, item);
         let second = self.second.look_up(items, state, hashes.1, item);
         match first {
@@ -228,11 +230,11 @@ where
         &self,
         items: &ItemSet<T>,
         state: &S,
-        place: (A::Place, B::Place),
+        position: (A::Position, B::Position),
         ix: ItemIndex,
         item: &T,
     ) -> (A::InsertPlan, B::InsertPlan) {
-        let (first, second) = place;
+        let (first, second) = position;
         (
             self.first.plan(items, state, first, ix, item),
             self.second.plan(items, state, second, ix, item),
@@ -244,7 +246,7 @@ where
         items: &ItemSet<T>,
         state: &S,
         plan: &(A::InsertPlan, B::InsertPlan),
-    ) -> Result<(A::Spare, B::Spare), AllocError> {
+    ) -> Result<(A::Blocks, B::Blocks), AllocError> {
         let first = self.first.make_room(items, state, &plan.0)?;
         let second = self.second.make_room(items, state, &plan.1)?;
         Ok((first, second))
@@ -254,10 +256,10 @@ where
         &mut self,
         hashes: (A::Hashes, B::Hashes),
         plan: &(A::InsertPlan, B::InsertPlan),
-        spare: (A::Spare, B::Spare),
+        blocks: (A::Blocks, B::Blocks),
         ix: ItemIndex,
     ) {
-        let (first, second) = spare;
+        let (first, second) = blocks;
         self.first.insert(hashes.0, &plan.0, first, ix);
         self.second.insert(hashes.1, &plan.1, second, ix);
     }
@@ -271,26 +273,26 @@ where
         lesser(first, second)
     }
 
-    fn place(
+    fn position(
         &self,
         items: &ItemSet<T>,
         state: &S,
         hashes: (A::Hashes, B::Hashes),
         item: &T,
-    ) -> (A::Place, B::Place) {
+    ) -> (A::Position, B::Position) {
         (
-            self.first.place(items, state, hashes.0, item),
-            self.second.place(items, state, hashes.1, item),
+            self.first.position(items, state, hashes.0, item),
+            self.second.position(items, state, hashes.1, item),
         )
     }
 
-    fn spare_after(
+    fn blocks_after(
         &self,
         items: &ItemSet<T>,
         state: &S,
-    ) -> Result<(A::Spare, B::Spare), AllocError> {
-        let first = self.first.spare_after(items, state)?;
-        let second = self.second.spare_after(items, state)?;
+    ) -> Result<(A::Blocks, B::Blocks), AllocError> {
+        let first = self.first.blocks_after(items, state)?;
+        let second = self.second.blocks_after(items, state)?;
         Ok((first, second))
     }
 
@@ -327,14 +329,14 @@ where
         }
     }
 
-    fn spare_for(
+    fn blocks_for(
         &self,
         items: &ItemSet<T>,
         state: &S,
         plan: &(A::MovePlan, B::MovePlan),
-    ) -> Result<(A::Spare, B::Spare), AllocError> {
-        let first = self.first.spare_for(items, state, &plan.0)?;
-        let second = self.second.spare_for(items, state, &plan.1)?;
+    ) -> Result<(A::Blocks, B::Blocks), AllocError> {
+        let first = self.first.blocks_for(items, state, &plan.0)?;
+        let second = self.second.blocks_for(items, state, &plan.1)?;
         Ok((first, second))
     }
 
@@ -344,11 +346,11 @@ where
         state: &S,
         known: (A::KnownHashes, B::KnownHashes),
         plan: &(A::MovePlan, B::MovePlan),
-        spare: (A::Spare, B::Spare),
+        blocks: (A::Blocks, B::Blocks),
         ix: ItemIndex,
         item: &T,
     ) {
-        let (first, second) = spare;
+        let (first, second) = blocks;
         self.first
             .commit_move(items, state, known.0, &plan.0, first, ix, item);
         self.second

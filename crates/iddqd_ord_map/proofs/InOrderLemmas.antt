@@ -1,4 +1,4 @@
--- For reads in order at a place: what a walk over listed indexes gives.
+-- For reads in order at a place: what an iteration over listed indexes gives.
 use Rattle.std.proofs.Common.{◌≡◌, ◌∙◌, ℕ, Bool, true, List, length, refl, subst, Ordering}
 use Rattle.std.specs.declared.ops.Bound.TheVariants.{Included}
 use Rattle.iddqd.specs.Store.{Store, live_count}
@@ -9,7 +9,7 @@ use Rattle.iddqd_keys.specs.KeyWalk.{pairs_at}
 use Rattle.iddqd_keys.specs.OrderedQuery.{is_between, is_equal}
 use Rattle.iddqd_keys.proofs.KeyWalkLemmas.{between_equal}
 use Rattle.iddqd_map.specs.Ranges.{itself}
-use Rattle.iddqd_ord_map.specs.InOrder.{ListsInOrder, WalksInOrder}
+use Rattle.iddqd_ord_map.specs.InOrder.{ListsInOrder, IteratesInOrder}
 use Rattle.iddqd_ord_map.proofs.WalkLemmas.{length-pairs_at}
 
 module _ {T : Type 0} (order : T → T → Ordering) (s : Store T) where
@@ -18,11 +18,11 @@ module _ {T : Type 0} (order : T → T → Ordering) (s : Store T) where
       let (item, is, passes) = (listed.hits.each ix).0 here in
       live_at s ix item is
 
-  pub WalksInOrder-listed :
+  pub IteratesInOrder-listed :
       (within : T → Bool) (indexes : List ℕ)
       → ListsInOrder order within s indexes
-      → WalksInOrder order within s (pairs_at s indexes)
-  WalksInOrder-listed within indexes listed = record { indexes = indexes; listed = listed; with_items = refl }
+      → IteratesInOrder order within s (pairs_at s indexes)
+  IteratesInOrder-listed within indexes listed = record { indexes = indexes; listed = listed; with_items = refl }
 
   -- a sorted scan has all items
   pub ListsInOrder-scan :
@@ -45,9 +45,9 @@ module _ {T : Type 0} (order : T → T → Ordering) (s : Store T) where
       ∙ length-held s indexes sorted.holds
 
   -- between a query and itself are the items at which it is Equal
-  pub WalksInOrder-group :
+  pub IteratesInOrder-group :
       (comparing : T → Ordering) (pairs : List (ℕ × T))
-      → WalksInOrder order (is_between (Included comparing) (Included comparing)) s pairs
-      → WalksInOrder order (is_equal comparing) s pairs
-  WalksInOrder-group comparing pairs =
-      subst (λ within. WalksInOrder order within s pairs) (between_equal comparing)
+      → IteratesInOrder order (is_between (Included comparing) (Included comparing)) s pairs
+      → IteratesInOrder order (is_equal comparing) s pairs
+  IteratesInOrder-group comparing pairs =
+      subst (λ within. IteratesInOrder order within s pairs) (between_equal comparing)

@@ -19,17 +19,17 @@ module _ {T : Type 0} (order : T → T → Ordering) where
     pub placed : IsInPlace itself order s indexes
 
   -- the pairs are such indexes with their items
-  pub record WalksInOrder (within : T → Bool) (s : Store T) (pairs : List (ℕ × T)) : Type 0 where
+  pub record IteratesInOrder (within : T → Bool) (s : Store T) (pairs : List (ℕ × T)) : Type 0 where
     pub indexes : List ℕ
     pub listed : ListsInOrder within s indexes
     pub with_items : pairs ≡ pairs_at s indexes
 
-  -- the first pair of a walk over all items; `None` if and only if there is no item
+  -- the first pair of an iteration over all items; `None` if and only if there is no item
   abbrev pub FindsFirst : Store T → Option (ℕ × T) → Type 0
-  FindsFirst s (Some first) = (others : List (ℕ × T)) × WalksInOrder (λ _. true) s (first ∷ others)
+  FindsFirst s (Some first) = (others : List (ℕ × T)) × IteratesInOrder (λ _. true) s (first ∷ others)
   FindsFirst s None = live_count s ≡ 0
 
   -- and the last one
   abbrev pub FindsLast : Store T → Option (ℕ × T) → Type 0
-  FindsLast s (Some last) = (others : List (ℕ × T)) × WalksInOrder (λ _. true) s (others ++ last ∷ [])
+  FindsLast s (Some last) = (others : List (ℕ × T)) × IteratesInOrder (λ _. true) s (others ++ last ∷ [])
   FindsLast s None = live_count s ≡ 0

@@ -24,15 +24,15 @@ abbrev pub moves : Move → Bool
 moves Stays = false
 moves Moves = true
 
--- there are as many blocks as an insert at the gap needs, if the gap is one of the table's
+-- there are at least as many blocks as an insert at the gap needs, if the gap is one of the table's
 abbrev pub HasBlocksAt : Order → ℕ → Gap → Type 0
 HasBlocksAt t blocks gap = Fits t gap → gap_blocks t gap ≤ blocks
 
--- there are as many blocks as a move to any place needs, or an insert after a removal
+-- there are at least as many blocks as a move to any place needs, or an insert after a removal
 abbrev pub HasBlocksAnywhere : Order → ℕ → Type 0
 HasBlocksAnywhere t blocks = move_blocks t ≤ blocks
 
--- there are as many blocks as the move needs
+-- there are at least as many blocks as the move needs
 abbrev pub HasBlocksFor : Order → ℕ → Move → Type 0
 HasBlocksFor t blocks Stays = Unit {0}
 HasBlocksFor t blocks Moves = HasBlocksAnywhere t blocks

@@ -164,13 +164,13 @@ where
 
     type Hashes = ();
 
-    type Place = Gap;
+    type Position = Gap;
 
     type InsertPlan = Gap;
 
     type MovePlan = Move;
 
-    type Spare = Blocks;
+    type Blocks = Blocks;
 
     ghost Keys = { E.Key };
 
@@ -230,15 +230,17 @@ where
 
     ghost few_reported = { few_one };
 
-    ghost are_hashes = { λ state item known. Unit {0} };
+    ghost are_hashes = { λ state item hashes. Unit {0} };
 
-    ghost is_place = { λ x state s item gap. IsGapFor E.key_of E.Key.cmp s x.table item gap };
+    ghost is_position = { λ x state s item gap. IsGapFor E.key_of E.Key.cmp s x.table item gap };
 
     ghost is_planned = { λ x state s item gap. IsGapFor E.key_of E.Key.cmp s x.table item gap };
 
-    ghost has_room_for = { λ x gap spare. HasBlocksAt x.table spare gap };
+    ghost are_none = { λ blocks. blocks ≡ 0 };
 
-    ghost does_after = { λ x spare. HasBlocksAnywhere x.table spare };
+    ghost has_room_for = { λ x gap blocks. HasBlocksAt x.table blocks gap };
+
+    ghost are_enough_after = { λ x blocks. HasBlocksAnywhere x.table blocks };
 
     ghost same_plans = { λ x y state s item gap same is.
         IsGapFor-same_tree E.key_of E.Key.cmp s x.table y.table item gap same is };
@@ -247,7 +249,7 @@ where
 
     ghost moves = { moves };
 
-    ghost does_for = { λ x plan spare. HasBlocksFor x.table spare plan };
+    ghost are_enough_for = { λ x plan blocks. HasBlocksFor x.table blocks plan };
 
     fn no_hashes() {}
 
@@ -295,8 +297,8 @@ where
         place_of::<T, E>(&self.table, items, item)
     }
 
-    fn plan(&self, items: &ItemSet<T>, state: &S, place: Gap, ix: ItemIndex, item: &T) -> Gap {
-        place
+    fn plan(&self, items: &ItemSet<T>, state: &S, position: Gap, ix: ItemIndex, item: &T) -> Gap {
+        position
     }
 
     fn make_room(
@@ -305,11 +307,11 @@ where
         state: &S,
         plan: &Gap,
     ) -> Result<Blocks, AllocError> {
-        ordered_steps::make_room(&self.table, items, plan)
+        ordered_steps::blocks_at(&self.table, items, plan)
     }
 
-    fn insert(&mut self, hashes: (), plan: &Gap, spare: Blocks, ix: ItemIndex) {
-        self.table.insert_in(plan, ix, spare);
+    fn insert(&mut self, hashes: (), plan: &Gap, blocks: Blocks, ix: ItemIndex) {
+        self.table.insert_in(plan, ix, blocks);
     }
 
     fn next_reported(conflict: &ItemIndex, before: Option<ItemIndex>) -> Option<ItemIndex> {
@@ -319,15 +321,15 @@ where
         }
     }
 
-    fn place(&self, items: &ItemSet<T>, state: &S, hashes: (), item: &T) -> Gap {
+    fn position(&self, items: &ItemSet<T>, state: &S, hashes: (), item: &T) -> Gap {
         match place_of::<T, E>(&self.table, items, item) {
             Ok(gap) => gap,
             Err(_) => unreachable!(),
         }
     }
 
-    fn spare_after(&self, items: &ItemSet<T>, state: &S) -> Result<Blocks, AllocError> {
-        ordered_steps::spare_anywhere(&self.table, items)
+    fn blocks_after(&self, items: &ItemSet<T>, state: &S) -> Result<Blocks, AllocError> {
+        ordered_steps::blocks_anywhere(&self.table, items)
     }
 
     fn remove(&mut self, items: &ItemSet<T>, state: &S, ix: ItemIndex) {
@@ -352,8 +354,8 @@ where
         plan_move::<T, E>(&self.table, items, ix, item)
     }
 
-    fn spare_for(&self, items: &ItemSet<T>, state: &S, plan: &Move) -> Result<Blocks, AllocError> {
-        ordered_steps::spare_for(&self.table, items, plan)
+    fn blocks_for(&self, items: &ItemSet<T>, state: &S, plan: &Move) -> Result<Blocks, AllocError> {
+        ordered_steps::blocks_for(&self.table, items, plan)
     }
 
     fn commit_move(
@@ -362,11 +364,11 @@ where
         state: &S,
         known: (),
         plan: &Move,
-        spare: Blocks,
+        blocks: Blocks,
         ix: ItemIndex,
         item: &T,
     ) {
-        ordered_steps::commit_move::<T, E>(&mut self.table, items, plan, spare, ix, item);
+        ordered_steps::commit_move::<T, E>(&mut self.table, items, plan, blocks, ix, item);
     }
 
     fn copied(&self) -> Result<ByOrder<E>, AllocError> {

@@ -219,13 +219,13 @@ where
 
     type Hashes = ();
 
-    type Place = ();
+    type Position = ();
 
     type InsertPlan = Gap;
 
     type MovePlan = Move;
 
-    type Spare = Blocks;
+    type Blocks = Blocks;
 
     ghost Keys = { E.Key };
 
@@ -286,15 +286,17 @@ where
 
     ghost few_reported = { λ at. none_named };
 
-    ghost are_hashes = { λ state item known. Unit {0} };
+    ghost are_hashes = { λ state item hashes. Unit {0} };
 
-    ghost is_place = { λ x state s item spot. Unit {0} };
+    ghost is_position = { λ x state s item position. Unit {0} };
 
     ghost is_planned = { λ x state s item gap. IsOwnGapFor E.key_of E.Key.cmp s x.table item gap };
 
-    ghost has_room_for = { λ x gap spare. HasBlocksAt x.table spare gap };
+    ghost are_none = { λ blocks. blocks ≡ 0 };
 
-    ghost does_after = { λ x spare. HasBlocksAnywhere x.table spare };
+    ghost has_room_for = { λ x gap blocks. HasBlocksAt x.table blocks gap };
+
+    ghost are_enough_after = { λ x blocks. HasBlocksAnywhere x.table blocks };
 
     ghost same_plans = { λ x y state s item gap same is.
         IsOwnGapFor-same_tree E.key_of E.Key.cmp s x.table y.table item gap same is };
@@ -303,7 +305,7 @@ where
 
     ghost moves = { moves };
 
-    ghost does_for = { λ x plan spare. HasBlocksFor x.table spare plan };
+    ghost are_enough_for = { λ x plan blocks. HasBlocksFor x.table blocks plan };
 
     fn no_hashes() {}
 
@@ -351,7 +353,7 @@ where
         Ok(())
     }
 
-    fn plan(&self, items: &ItemSet<T>, state: &S, place: (), ix: ItemIndex, item: &T) -> Gap {
+    fn plan(&self, items: &ItemSet<T>, state: &S, position: (), ix: ItemIndex, item: &T) -> Gap {
         place_of::<T, E>(&self.table, items, ix, item)
     }
 
@@ -361,21 +363,21 @@ where
         state: &S,
         plan: &Gap,
     ) -> Result<Blocks, AllocError> {
-        ordered_steps::make_room(&self.table, items, plan)
+        ordered_steps::blocks_at(&self.table, items, plan)
     }
 
-    fn insert(&mut self, hashes: (), plan: &Gap, spare: Blocks, ix: ItemIndex) {
-        self.table.insert_in(plan, ix, spare);
+    fn insert(&mut self, hashes: (), plan: &Gap, blocks: Blocks, ix: ItemIndex) {
+        self.table.insert_in(plan, ix, blocks);
     }
 
     fn next_reported(conflict: &NoConflict, before: Option<ItemIndex>) -> Option<ItemIndex> {
         None
     }
 
-    fn place(&self, items: &ItemSet<T>, state: &S, hashes: (), item: &T) {}
+    fn position(&self, items: &ItemSet<T>, state: &S, hashes: (), item: &T) {}
 
-    fn spare_after(&self, items: &ItemSet<T>, state: &S) -> Result<Blocks, AllocError> {
-        ordered_steps::spare_anywhere(&self.table, items)
+    fn blocks_after(&self, items: &ItemSet<T>, state: &S) -> Result<Blocks, AllocError> {
+        ordered_steps::blocks_anywhere(&self.table, items)
     }
 
     fn remove(&mut self, items: &ItemSet<T>, state: &S, ix: ItemIndex) {
@@ -403,8 +405,8 @@ where
         Ok(Move::Moves)
     }
 
-    fn spare_for(&self, items: &ItemSet<T>, state: &S, plan: &Move) -> Result<Blocks, AllocError> {
-        ordered_steps::spare_for(&self.table, items, plan)
+    fn blocks_for(&self, items: &ItemSet<T>, state: &S, plan: &Move) -> Result<Blocks, AllocError> {
+        ordered_steps::blocks_for(&self.table, items, plan)
     }
 
     fn commit_move(
@@ -413,11 +415,11 @@ where
         state: &S,
         known: (),
         plan: &Move,
-        spare: Blocks,
+        blocks: Blocks,
         ix: ItemIndex,
         item: &T,
     ) {
-        ordered_steps::commit_move::<T, E>(&mut self.table, items, plan, spare, ix, item);
+        ordered_steps::commit_move::<T, E>(&mut self.table, items, plan, blocks, ix, item);
     }
 
     fn copied(&self) -> Result<ByOrderMulti<E>, AllocError> {

@@ -7,7 +7,7 @@ ghost use Rattle.std.specs.Option.{option_map};
 ghost use Rattle.iddqd.specs.{live_count};
 ghost use Rattle.iddqd_keys.specs.OrderedQuery.{is_equal, is_within};
 ghost use Rattle.iddqd_map.specs.Groups.{CountsHits};
-ghost use Rattle.iddqd_ord_map.specs.InOrder.{shown, FindsFirst, FindsLast, WalksInOrder};
+ghost use Rattle.iddqd_ord_map.specs.InOrder.{shown, FindsFirst, FindsLast, IteratesInOrder};
 
 use crate::id_ord_map::Iter;
 use crate::ranges_at::{RangesAt, SortedAt};
@@ -28,7 +28,7 @@ pub trait InOrder<T, X: KeyIndex<T, S>, S> {
     fn iter_by<P>(&self) -> Iter<'_, T>
     where
         X: SortedAt<P, T, S>,
-        ensures walk { WalksInOrder X.sorts_by (λ item. true) (store self.now) result }
+        ensures items { IteratesInOrder X.sorts_by (λ item. true) (store self.now) result }
         ensures len { length result ≡ live_count (store self.now) };
 
     /// The first item in order, with its index.
@@ -51,7 +51,7 @@ pub trait InOrder<T, X: KeyIndex<T, S>, S> {
     where
         X: RangesAt<P, Q, T, S>,
         ensures { let within = is_within X.compare lower upper in
-            WalksInOrder X.order within (store self.now) result };
+            IteratesInOrder X.order within (store self.now) result };
 
     /// The items that have the key for which the query stands with their indexes, in order, from both ends.
     ///
@@ -60,7 +60,7 @@ pub trait InOrder<T, X: KeyIndex<T, S>, S> {
     where
         X: RangesAt<P, Q, T, S>,
         Q: Copy,
-        ensures { WalksInOrder X.order (is_equal (X.compare query)) (store self.now) result };
+        ensures { IteratesInOrder X.order (is_equal (X.compare query)) (store self.now) result };
 
     /// How many items have the key for which the query stands. It costs one step for each of them more than `group_by`.
     fn count_by<P, Q>(&self, query: Q) -> usize

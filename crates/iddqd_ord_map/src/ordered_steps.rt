@@ -2,7 +2,7 @@
 //!
 //! A table holds ten indexes without any memory. They aren't counted: the capacity of a key index is what the reserved
 //! blocks hold, and ten more indexes fit always. The blocks that an insert or a move needs are a value of their own;
-//! below the capacity it needs none.
+//! below the capacity an insert needs none.
 ghost use Rattle.std.specs.Prelude.{◌≡◌, ◌+◌, ◌<◌, ◌≤◌, [], true, min, max, length, map, IsOk, IfOk, OnOk, OnErr};
 ghost use Rattle.iddqd.specs.{live_count, rebound, IsValid, Allows, Validates};
 ghost use Rattle.iddqd.specs.Compaction.{rank, IsRemapOf};
@@ -86,7 +86,7 @@ pub fn shrink_to<T>(table: &mut MapBTreeTable, items: &ItemSet<T>, least: usize)
 }
 
 /// Takes the blocks of an insert at a place. If there is room it takes no memory.
-pub fn make_room<T>(
+pub fn blocks_at<T>(
     table: &MapBTreeTable,
     items: &ItemSet<T>,
     gap: &Gap,
@@ -94,6 +94,7 @@ pub fn make_room<T>(
     requires { Holds items.now.store (order_of table.now) }
     ensures ready { IfOk result (λ blocks. HasBlocksAt table.now blocks gap.now) }
     ensures had_room { live_count items.now.store < reserved_for table.now → IsOk result }
+    ensures none { live_count items.now.store < reserved_for table.now → IfOk result (λ blocks. blocks ≡ 0) }
 {
     if table.len() < table.capacity() {
         return Ok(table.no_blocks());
@@ -102,28 +103,31 @@ pub fn make_room<T>(
 }
 
 /// Takes the blocks of a move, or of an insert that comes after a removal. Up to the capacity it takes no memory.
-pub fn spare_anywhere<T>(table: &MapBTreeTable, items: &ItemSet<T>) -> Result<Blocks, AllocError>
+pub fn blocks_anywhere<T>(table: &MapBTreeTable, items: &ItemSet<T>) -> Result<Blocks, AllocError>
     requires { Holds items.now.store (order_of table.now) }
-    ensures does { IfOk result (HasBlocksAnywhere table.now) }
+    ensures enough { IfOk result (HasBlocksAnywhere table.now) }
+    ensures none { live_count items.now.store ≤ reserved_for table.now → IfOk result (λ blocks. blocks ≡ 0) }
     ensures past { OnErr result (reserved_for table.now < live_count items.now.store) }
 {
     table.blocks_anywhere()
 }
 
 /// Takes the blocks of a planned move. Up to the capacity it takes no memory, nor if the key stays.
-pub fn spare_for<T>(
+pub fn blocks_for<T>(
     table: &MapBTreeTable,
     items: &ItemSet<T>,
     plan: &Move,
 ) -> Result<Blocks, AllocError>
     requires { Holds items.now.store (order_of table.now) }
-    ensures does { IfOk result (λ blocks. HasBlocksFor table.now blocks plan.now) }
+    ensures enough { IfOk result (λ blocks. HasBlocksFor table.now blocks plan.now) }
+    ensures none { live_count items.now.store ≤ reserved_for table.now → IfOk result (λ blocks. blocks ≡ 0) }
+    ensures stays { moves plan.now ≡ false → IfOk result (λ blocks. blocks ≡ 0) }
     ensures moves { OnErr result (moves plan.now ≡ true) }
     ensures past { OnErr result (reserved_for table.now < live_count items.now.store) }
 {
     match plan {
         Move::Stays => Ok(table.no_blocks()),
-        Move::Moves => spare_anywhere(table, items),
+        Move::Moves => blocks_anywhere(table, items),
     }
 }
 

@@ -4,7 +4,7 @@ ghost use Rattle.std.specs.Prelude.{◌≡◌, ◌==◌, ◌≤◌, ◌<◌, ◌
 ghost use Rattle.std.specs.Option.{option_map};
 ghost use Rattle.iddqd_maps.specs.Groups.{AreHits, CountsHits, FindsSome};
 ghost use Rattle.iddqd_maps.specs.Map.{FindsItem};
-ghost use Rattle.iddqd_maps.specs.InOrder.{shown, FindsFirst, FindsLast, WalksInOrder};
+ghost use Rattle.iddqd_maps.specs.InOrder.{shown, FindsFirst, FindsLast, IteratesInOrder};
 ghost use Rattle.iddqd_maps.specs.Scan.{HasNoHit};
 ghost use Rattle.iddqd_maps.specs.Store.{inserted, live_count, next_index};
 ghost use Rattle.iddqd_maps.specs.Drops.{Drops};
@@ -162,21 +162,21 @@ pub fn forget(ledger: &mut Ledger, customer: u32) -> usize
 
 /// The orders of a day with their indexes, the least index first.
 pub fn orders_of_day(ledger: &Ledger, day: u32) -> Range<'_, Order>
-    ensures { WalksInOrder by_day (is_due_on day) ledger.now.store result }
+    ensures { IteratesInOrder by_day (is_due_on day) ledger.now.store result }
 {
     ledger.group_by::<ByDay, _>(&day)
 }
 
 /// The orders of a day and of later ones with their indexes, by day and then by index.
 pub fn orders_from(ledger: &Ledger, day: u32) -> Range<'_, Order>
-    ensures { WalksInOrder by_day (is_due_from day) ledger.now.store result }
+    ensures { IteratesInOrder by_day (is_due_from day) ledger.now.store result }
 {
     ledger.range_by::<ByDay, _>(Bound::Included(&day), Bound::Unbounded)
 }
 
 /// All orders with their indexes, by day and then by index.
 pub fn orders_by_day(ledger: &Ledger) -> Iter<'_, Order>
-    ensures walk { WalksInOrder by_day (λ order. true) ledger.now.store result }
+    ensures items { IteratesInOrder by_day (λ order. true) ledger.now.store result }
     ensures len { length result ≡ live_count ledger.now.store }
 {
     ledger.iter_by::<ByDay>()

@@ -56,13 +56,13 @@ impl<T: BiHashItem, S: BuildHasher> KeyIndex<T, S> for BiIndex<T> {
 
     type Hashes = (MapHash, MapHash);
 
-    type Place = ();
+    type Position = ();
 
     type InsertPlan = ();
 
     type MovePlan = (Move, Move);
 
-    type Spare = ();
+    type Blocks = ();
 
     ghost Keys = { T.Key1 × T.Key2 };
 
@@ -152,13 +152,15 @@ impl<T: BiHashItem, S: BuildHasher> KeyIndex<T, S> for BiIndex<T> {
         × (hashes.1 ≡ (hashing_of T.Key2.eq T.Key2.hash_input S.BuildHasher S.Hasher.Hasher state).hash_of
         (T.second_key item)) };
 
-    ghost is_place = { λ x state s item place. Unit {0} };
+    ghost is_position = { λ x state s item position. Unit {0} };
 
     ghost is_planned = { λ x state s item plan. Unit {0} };
 
-    ghost has_room_for = { λ x plan spare. (1 ≤ room x.first.table) × (1 ≤ room x.second.table) };
+    ghost has_room_for = { λ x plan blocks. (1 ≤ room x.first.table) × (1 ≤ room x.second.table) };
 
-    ghost does_after = { λ x spare. Unit {0} };
+    ghost are_none = { λ blocks. Unit {0} };
+
+    ghost are_enough_after = { λ x blocks. Unit {0} };
 
     ghost same_plans = { λ x y state s item plan same is. is };
 
@@ -169,7 +171,7 @@ impl<T: BiHashItem, S: BuildHasher> KeyIndex<T, S> for BiIndex<T> {
 
     ghost moves = { λ plan. moves plan.0 || moves plan.1 };
 
-    ghost does_for = { λ x plan spare. Unit {0} };
+    ghost are_enough_for = { λ x plan blocks. Unit {0} };
 
     fn no_hashes() -> (Option<MapHash>, Option<MapHash>) {
         (None, None)
@@ -228,25 +230,25 @@ impl<T: BiHashItem, S: BuildHasher> KeyIndex<T, S> for BiIndex<T> {
         clash_of(first.err(), second.err())
     }
 
-    fn plan(&self, items: &ItemSet<T>, state: &S, place: (), ix: ItemIndex, item: &T) {}
+    fn plan(&self, items: &ItemSet<T>, state: &S, position: (), ix: ItemIndex, item: &T) {}
 
     fn make_room(&mut self, items: &ItemSet<T>, state: &S, plan: &()) -> Result<(), AllocError> {
         self.first.make_room(items, state, plan)?;
         self.second.make_room(items, state, plan)
     }
 
-    fn insert(&mut self, hashes: (MapHash, MapHash), plan: &(), spare: (), ix: ItemIndex) {
-        <FirstTable<T> as KeyIndex<T, S>>::insert(&mut self.first, hashes.0, plan, spare, ix);
-        <SecondTable<T> as KeyIndex<T, S>>::insert(&mut self.second, hashes.1, plan, spare, ix);
+    fn insert(&mut self, hashes: (MapHash, MapHash), plan: &(), blocks: (), ix: ItemIndex) {
+        <FirstTable<T> as KeyIndex<T, S>>::insert(&mut self.first, hashes.0, plan, blocks, ix);
+        <SecondTable<T> as KeyIndex<T, S>>::insert(&mut self.second, hashes.1, plan, blocks, ix);
     }
 
     fn next_reported(conflict: &BiClash, before: Option<ItemIndex>) -> Option<ItemIndex> {
         lesser(past(&conflict.key1, &before), past(&conflict.key2, &before))
     }
 
-    fn place(&self, items: &ItemSet<T>, state: &S, hashes: (MapHash, MapHash), item: &T) {}
+    fn position(&self, items: &ItemSet<T>, state: &S, hashes: (MapHash, MapHash), item: &T) {}
 
-    fn spare_after(&self, items: &ItemSet<T>, state: &S) -> Result<(), AllocError> {
+    fn blocks_after(&self, items: &ItemSet<T>, state: &S) -> Result<(), AllocError> {
         Ok(())
     }
 
@@ -277,7 +279,7 @@ impl<T: BiHashItem, S: BuildHasher> KeyIndex<T, S> for BiIndex<T> {
         both_moves(first, second)
     }
 
-    fn spare_for(
+    fn blocks_for(
         &self,
         items: &ItemSet<T>,
         state: &S,
@@ -292,14 +294,14 @@ impl<T: BiHashItem, S: BuildHasher> KeyIndex<T, S> for BiIndex<T> {
         state: &S,
         known: (Option<MapHash>, Option<MapHash>),
         plan: &(Move, Move),
-        spare: (),
+        blocks: (),
         ix: ItemIndex,
         item: &T,
     ) {
         self.first
-            .commit_move(items, state, known.0, &plan.0, spare, ix, item);
+            .commit_move(items, state, known.0, &plan.0, blocks, ix, item);
         self.second
-            .commit_move(items, state, known.1, &plan.1, spare, ix, item);
+            .commit_move(items, state, known.1, &plan.1, blocks, ix, item);
     }
 
     fn copied(&self) -> Result<BiIndex<T>, AllocError> {

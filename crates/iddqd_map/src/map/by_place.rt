@@ -19,8 +19,8 @@ use iddqd::item_index::ItemIndex;
 impl<T, X: KeyIndex<T, S>, S> Map<T, X, S> {
     /// The index of the item that has the key for which the query stands.
     ///
-    /// The query is a `&K`, or another query that stands for such a key. Only keys of the same hash are compared with
-    /// it.
+    /// The query is a `&K`, or another query that stands for such a key. By hash, it is hashed once, and compared only
+    /// with keys of the same hash; by order, it is one search.
     pub fn find_by<P, Q>(&self, query: Q) -> Option<ItemIndex>
     where
         X: UniqueAt<P, Q, T, S>,
@@ -66,7 +66,7 @@ impl<T, X: KeyIndex<T, S>, S> Map<T, X, S> {
 
     /// Replaces the item that has the key, and returns it. Otherwise it behaves as `replace_at`.
     ///
-    /// The hash that the look-up computed isn't computed again.
+    /// By hash, what the look-up computed isn't computed again.
     pub fn replace_by<P, Q>(
         &mut self,
         query: Q,

@@ -56,20 +56,20 @@ pub(super) fn insert<T, X: KeyIndex<T, S>, S>(
         (map_with items.old (X.capacity indexes.old) (X.cells indexes.old)) item result
         (map_with items.new (X.capacity indexes.new) (X.cells indexes.new)) }
 {
-    let place = match indexes.look_up(items, state, hashes, &item) {
-        Ok(place) => place,
+    let position = match indexes.look_up(items, state, hashes, &item) {
+        Ok(position) => position,
         Err(at) => return Err(InsertRefusal::Duplicate { item, at }),
     };
     let ix = match items.assert_can_grow() {
         Ok(handle) => handle.next_index(),
         Err(error) => return Err(refusal(error, item)),
     };
-    let plan = indexes.plan(items, state, place, ix, &item);
-    let spare = match indexes.make_room(items, state, &plan) {
-        Ok(spare) => spare,
+    let plan = indexes.plan(items, state, position, ix, &item);
+    let blocks = match indexes.make_room(items, state, &plan) {
+        Ok(blocks) => blocks,
         Err(AllocError) => return Err(InsertRefusal::Memory(item)),
     };
-    indexes.insert(hashes, &plan, spare, ix);
+    indexes.insert(hashes, &plan, blocks, ix);
     Ok(store_in_room(items, item))
 }
 

@@ -105,12 +105,12 @@ fn overwrite<T, X: KeyIndex<T, S>, S>(
         (map_with items.old (X.capacity indexes.old) (X.cells indexes.old)) item result places.new
         (map_with items.new (X.capacity indexes.new) (X.cells indexes.new)) }
 {
-    let spare = match indexes.spare_after(items, state) {
-        Ok(spare) => spare,
+    let blocks = match indexes.blocks_after(items, state) {
+        Ok(blocks) => blocks,
         Err(AllocError) => return Err(OverwriteRefusal::Memory(item)),
     };
     remove_reported(items, indexes, state, at, places);
-    Ok(insert_in_room(items, indexes, state, hashes, spare, item))
+    Ok(insert_in_room(items, indexes, state, hashes, blocks, item))
 }
 
 // Removes the items that were reported, at least one, into the places, by rising index.
@@ -130,8 +130,8 @@ fn remove_reported<T, X: KeyIndex<T, S>, S>(
     ensures taken { TakesAll (X.reports at.now) (length places.old) items.old.store places.new items.new.store }
     ensures slots { items.new.capacity ≡ items.old.capacity }
     ensures room { 1 ≤ room items.new }
-    ensures roomy { (plan : X.InsertPlan) (spare : X.Spare) → X.does_after indexes.old spare
-        → X.has_room_for indexes.new plan spare }
+    ensures roomy { (plan : X.InsertPlan) (blocks : X.Blocks) → X.are_enough_after indexes.old blocks
+        → X.has_room_for indexes.new plan blocks }
     ensures capacity { X.capacity indexes.new ≡ X.capacity indexes.old }
     ensures cells { X.cells indexes.new ≡ X.cells indexes.old }
 {
@@ -151,23 +151,23 @@ fn insert_in_room<T, X: KeyIndex<T, S>, S>(
     indexes: &mut X,
     state: &S,
     hashes: X::Hashes,
-    spare: X::Spare,
+    blocks: X::Blocks,
     item: T,
 ) -> ItemIndex
     requires map { IsIndexed (X.indexes indexes.old) state.now items.old.store }
     requires hashed { X.are_hashes state.now item hashes }
     requires apart { HasNoHit items.old.store (X.alike item) }
     requires room { 1 ≤ room items.old }
-    requires roomy { (plan : X.InsertPlan) → X.has_room_for indexes.old plan spare }
+    requires roomy { (plan : X.InsertPlan) → X.has_room_for indexes.old plan blocks }
     ensures index { result ≡ next_index items.old.store }
     ensures map { IsIndexed (X.indexes indexes.new) state.now items.new.store }
     ensures stored { items.new ≡ record items.old { store = inserted items.old.store item } }
     ensures capacity { X.capacity indexes.new ≡ X.capacity indexes.old }
     ensures cells { X.cells indexes.new ≡ X.cells indexes.old }
 {
-    let place = indexes.place(items, state, hashes, &item);
+    let position = indexes.position(items, state, hashes, &item);
     let ix = next_in_room(items);
-    let plan = indexes.plan(items, state, place, ix, &item);
-    indexes.insert(hashes, &plan, spare, ix);
+    let plan = indexes.plan(items, state, position, ix, &item);
+    indexes.insert(hashes, &plan, blocks, ix);
     store_in_room(items, item)
 }

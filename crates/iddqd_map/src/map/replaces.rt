@@ -65,11 +65,11 @@ pub(super) fn replace<T, X: KeyIndex<T, S>, S>(
         Ok(plan) => plan,
         Err(at) => return Err(ReplaceRefusal::Duplicate { item, at }),
     };
-    let spare = match indexes.spare_for(items, state, &plan) {
-        Ok(spare) => spare,
+    let blocks = match indexes.blocks_for(items, state, &plan) {
+        Ok(blocks) => blocks,
         Err(AllocError) => return Err(ReplaceRefusal::Memory(item)),
     };
-    indexes.commit_move(items, state, known, &plan, spare, ix, &item);
+    indexes.commit_move(items, state, known, &plan, blocks, ix, &item);
     Ok(items.replace(ix, item))
 }
 

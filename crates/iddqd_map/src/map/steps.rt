@@ -29,9 +29,9 @@ pub(super) fn take_out<T, X: KeyIndex<T, S>, S>(
     ensures items_room { room items.new ≡ room items.old + 1 }
     ensures capacity { X.capacity indexes.new ≡ X.capacity indexes.old }
     ensures cells { X.cells indexes.new ≡ X.cells indexes.old }
-    ensures does { (spare : X.Spare) → X.does_after indexes.old spare → X.does_after indexes.new spare }
-    ensures roomy { (plan : X.InsertPlan) (spare : X.Spare) → X.does_after indexes.old spare
-        → X.has_room_for indexes.new plan spare }
+    ensures enough { (blocks : X.Blocks) → X.are_enough_after indexes.old blocks → X.are_enough_after indexes.new blocks }
+    ensures roomy { (plan : X.InsertPlan) (blocks : X.Blocks) → X.are_enough_after indexes.old blocks
+        → X.has_room_for indexes.new plan blocks }
 {
     indexes.remove(items, state, ix);
     items.remove(ix)

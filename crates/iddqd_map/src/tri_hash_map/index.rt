@@ -62,13 +62,13 @@ impl<T: TriHashItem, S: BuildHasher> KeyIndex<T, S> for TriIndex<T> {
 
     type Hashes = (MapHash, (MapHash, MapHash));
 
-    type Place = ();
+    type Position = ();
 
     type InsertPlan = ();
 
     type MovePlan = (Move, (Move, Move));
 
-    type Spare = ();
+    type Blocks = ();
 
     ghost Keys = { T.Key1 × (T.Key2 × T.Key3) };
 
@@ -187,14 +187,16 @@ impl<T: TriHashItem, S: BuildHasher> KeyIndex<T, S> for TriIndex<T> {
         × (hashes.1.1 ≡ (hashing_of T.Key3.eq T.Key3.hash_input S.BuildHasher S.Hasher.Hasher state).hash_of
         (T.third_key item))) };
 
-    ghost is_place = { λ x state s item place. Unit {0} };
+    ghost is_position = { λ x state s item position. Unit {0} };
 
     ghost is_planned = { λ x state s item plan. Unit {0} };
 
-    ghost has_room_for = { λ x plan spare. (1 ≤ room x.first.table)
+    ghost has_room_for = { λ x plan blocks. (1 ≤ room x.first.table)
         × ((1 ≤ room x.second.table) × (1 ≤ room x.third.table)) };
 
-    ghost does_after = { λ x spare. Unit {0} };
+    ghost are_none = { λ blocks. Unit {0} };
+
+    ghost are_enough_after = { λ x blocks. Unit {0} };
 
     ghost same_plans = { λ x y state s item plan same is. is };
 
@@ -207,7 +209,7 @@ impl<T: TriHashItem, S: BuildHasher> KeyIndex<T, S> for TriIndex<T> {
 
     ghost moves = { λ plan. moves plan.0 || (moves plan.1.0 || moves plan.1.1) };
 
-    ghost does_for = { λ x plan spare. Unit {0} };
+    ghost are_enough_for = { λ x plan blocks. Unit {0} };
 
     fn no_hashes() -> (Option<MapHash>, (Option<MapHash>, Option<MapHash>)) {
         (None, (None, None))
@@ -277,7 +279,7 @@ impl<T: TriHashItem, S: BuildHasher> KeyIndex<T, S> for TriIndex<T> {
         clash_of(first.err(), second.err(), third.err())
     }
 
-    fn plan(&self, items: &ItemSet<T>, state: &S, place: (), ix: ItemIndex, item: &T) {}
+    fn plan(&self, items: &ItemSet<T>, state: &S, position: (), ix: ItemIndex, item: &T) {}
 
     fn make_room(&mut self, items: &ItemSet<T>, state: &S, plan: &()) -> Result<(), AllocError> {
         self.first.make_room(items, state, plan)?;
@@ -289,12 +291,12 @@ impl<T: TriHashItem, S: BuildHasher> KeyIndex<T, S> for TriIndex<T> {
         &mut self,
         hashes: (MapHash, (MapHash, MapHash)),
         plan: &(),
-        spare: (),
+        blocks: (),
         ix: ItemIndex,
     ) {
-        <FirstTable<T> as KeyIndex<T, S>>::insert(&mut self.first, hashes.0, plan, spare, ix);
-        <SecondTable<T> as KeyIndex<T, S>>::insert(&mut self.second, hashes.1.0, plan, spare, ix);
-        <ThirdTable<T> as KeyIndex<T, S>>::insert(&mut self.third, hashes.1.1, plan, spare, ix);
+        <FirstTable<T> as KeyIndex<T, S>>::insert(&mut self.first, hashes.0, plan, blocks, ix);
+        <SecondTable<T> as KeyIndex<T, S>>::insert(&mut self.second, hashes.1.0, plan, blocks, ix);
+        <ThirdTable<T> as KeyIndex<T, S>>::insert(&mut self.third, hashes.1.1, plan, blocks, ix);
     }
 
     fn next_reported(conflict: &TriClash, before: Option<ItemIndex>) -> Option<ItemIndex> {
@@ -302,7 +304,7 @@ impl<T: TriHashItem, S: BuildHasher> KeyIndex<T, S> for TriIndex<T> {
         lesser(past(&conflict.key1, &before), last)
     }
 
-    fn place(
+    fn position(
         &self,
         items: &ItemSet<T>,
         state: &S,
@@ -310,7 +312,7 @@ impl<T: TriHashItem, S: BuildHasher> KeyIndex<T, S> for TriIndex<T> {
         item: &T,
     ) {}
 
-    fn spare_after(&self, items: &ItemSet<T>, state: &S) -> Result<(), AllocError> {
+    fn blocks_after(&self, items: &ItemSet<T>, state: &S) -> Result<(), AllocError> {
         Ok(())
     }
 
@@ -345,7 +347,7 @@ impl<T: TriHashItem, S: BuildHasher> KeyIndex<T, S> for TriIndex<T> {
         all_moves(first, second, third)
     }
 
-    fn spare_for(
+    fn blocks_for(
         &self,
         items: &ItemSet<T>,
         state: &S,
@@ -360,16 +362,16 @@ impl<T: TriHashItem, S: BuildHasher> KeyIndex<T, S> for TriIndex<T> {
         state: &S,
         known: (Option<MapHash>, (Option<MapHash>, Option<MapHash>)),
         plan: &(Move, (Move, Move)),
-        spare: (),
+        blocks: (),
         ix: ItemIndex,
         item: &T,
     ) {
         self.first
-            .commit_move(items, state, known.0, &plan.0, spare, ix, item);
+            .commit_move(items, state, known.0, &plan.0, blocks, ix, item);
         self.second
-            .commit_move(items, state, known.1.0, &plan.1.0, spare, ix, item);
+            .commit_move(items, state, known.1.0, &plan.1.0, blocks, ix, item);
         self.third
-            .commit_move(items, state, known.1.1, &plan.1.1, spare, ix, item);
+            .commit_move(items, state, known.1.1, &plan.1.1, blocks, ix, item);
     }
 
     fn copied(&self) -> Result<TriIndex<T>, AllocError> {

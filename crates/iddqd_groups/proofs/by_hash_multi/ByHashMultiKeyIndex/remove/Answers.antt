@@ -14,5 +14,5 @@ returns-clause-indexed g c =
     c.remove.ensures.removed c.remove.ensures.slots
 
 pub returns-clause-roomy : goal.returns-clause-roomy
-returns-clause-roomy g c = λ plan spare does.
+returns-clause-roomy g c = λ plan blocks enough.
     omega (arith, c.remove.ensures.one_less, c.remove.ensures.holds_all, c.remove.ensures.memory.same_capacity)

@@ -11,4 +11,4 @@ returns-clause-indexed g c =
     rw c.take_out.ensures.taken (Indexes-removed _ _ s (filed c.args.self.now.table) c.requires.indexed c.args.ix item live)
 
 pub returns-clause-roomy : goal.returns-clause-roomy
-returns-clause-roomy g c = λ plan spare does. omega (arith, c.take_out.ensures.room)
+returns-clause-roomy g c = λ plan blocks enough. omega (arith, c.take_out.ensures.room)

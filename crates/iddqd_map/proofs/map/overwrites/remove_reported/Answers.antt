@@ -6,7 +6,7 @@ use Rattle.iddqd_map.proofs.map.overwrites.remove_reported.Goals as goal
 pub loop-next-init : goal.loop-next-init
 loop-next-init g c = record {
   map = c.requires.map;
-  does = λ spare enough. enough;
+  enough = λ blocks enough. enough;
   taking = Taking-none _ _ c.args.items.now.store _ _ c.next_reported-next.ensures c.requires.vacant;
   within = omega arith;
   slots = refl;
@@ -48,12 +48,12 @@ loop-next-preserved g c =
     let within : c.loop-next.count < length c.args.places.now = omega (arith, fits, c.requires.enough) in
     record {
       map = took.map;
-      does = λ spare enough. took.does spare (i.does spare enough);
+      enough = λ blocks enough. took.enough blocks (i.enough blocks enough);
       taking = Taking-next _ _ c.args.items.now.store _ _ _ _ c.in-Some.ix _ _ _ t within c.next_reported-next-in-Some.ensures took.value c.put_into.ensures (ap (λ (s : SizedStore _). s.store) took.removed);
       within = omega (arith, within);
       slots = ap (λ (s : SizedStore _). s.capacity) took.removed ∙ i.slots;
       room = let r = i.room in let more = took.items_room in omega (arith, r, more);
-      roomy = λ _ plan spare enough. took.roomy plan spare (i.does spare enough);
+      roomy = λ _ plan blocks enough. took.roomy plan blocks (i.enough blocks enough);
       capacity = took.capacity ∙ i.capacity;
       cells = took.cells ∙ i.cells;
     }

@@ -2,8 +2,8 @@ use Rattle.std.proofs.Common.{sym, subst}
 use Rattle.iddqd_order.specs.Range.{indexes_ahead}
 use Rattle.iddqd_keys.specs.KeyWalk.{pairs_at}
 use Rattle.iddqd_keys.specs.OrderedQuery.{is_within}
-use Rattle.iddqd_ord_map.specs.InOrder.{WalksInOrder}
-use Rattle.iddqd_ord_map.proofs.InOrderLemmas.{AreLive-listed, WalksInOrder-listed}
+use Rattle.iddqd_ord_map.specs.InOrder.{IteratesInOrder}
+use Rattle.iddqd_ord_map.proofs.InOrderLemmas.{AreLive-listed, IteratesInOrder-listed}
 use Rattle.iddqd_ord_map.proofs.in_order.MapInOrder.range_by.Goals as goal
 
 pub new-requires : goal.new-requires
@@ -17,6 +17,6 @@ returns g c =
     let within = is_within g.X.OrderedAt.compare c.args.lower c.args.upper in
     let s = c.parts.result.items.now.store in
     let xs = indexes_ahead c.range_at.result in
-    let walk = WalksInOrder-listed order s within xs c.range_at.ensures in
-    let seen = subst (λ t. WalksInOrder order within t (pairs_at s xs)) c.parts.ensures.items walk in
-    subst (WalksInOrder order within c.args.self.now.store) (sym c.new.ensures) seen
+    let walk = IteratesInOrder-listed order s within xs c.range_at.ensures in
+    let seen = subst (λ t. IteratesInOrder order within t (pairs_at s xs)) c.parts.ensures.items walk in
+    subst (IteratesInOrder order within c.args.self.now.store) (sym c.new.ensures) seen

@@ -1,10 +1,10 @@
 use Rattle.iddqd_map.proofs.tri_hash_map.index.TriIndexKeyIndex.remove.Goals as goal
 
 pub returns-clause-roomy : goal.returns-clause-roomy
-returns-clause-roomy g c = λ plan spare does. (
-  c.remove.ensures.roomy plan spare does,
+returns-clause-roomy g c = λ plan blocks enough. (
+  c.remove.ensures.roomy plan blocks enough,
   (
-    c.remove-2.ensures.roomy plan spare does,
-    c.remove-3.ensures.roomy plan spare does,
+    c.remove-2.ensures.roomy plan blocks enough,
+    c.remove-3.ensures.roomy plan blocks enough,
   ),
 )

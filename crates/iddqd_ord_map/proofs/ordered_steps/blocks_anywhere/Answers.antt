@@ -5,7 +5,7 @@ use Rattle.iddqd_order.specs.MapBTreeTable.{order_of, capacity}
 use Rattle.iddqd_by_order.proofs.OrderedCountLemmas.{length-held}
 use Rattle.iddqd_ord_map.specs.OrderedSteps.{reserved_for}
 use Rattle.iddqd_ord_map.proofs.SizeLemmas.{on_err, not_on_ok}
-use Rattle.iddqd_ord_map.proofs.ordered_steps.spare_anywhere.Goals as goal
+use Rattle.iddqd_ord_map.proofs.ordered_steps.blocks_anywhere.Goals as goal
 
 pub returns-clause-past : goal.returns-clause-past
 returns-clause-past g c =

@@ -2,7 +2,7 @@ use Rattle.std.proofs.Common.{arith}
 use Rattle.iddqd_order.specs.MapBTreeTable.{order_of}
 use Rattle.iddqd_order.proofs.GapLemmas.{none-below}
 use Rattle.iddqd_by_order.proofs.OrderedCountLemmas.{length-held}
-use Rattle.iddqd_ord_map.proofs.ordered_steps.make_room.Goals as goal
+use Rattle.iddqd_ord_map.proofs.ordered_steps.blocks_at.Goals as goal
 
 pub returns-then-len-capacity-clause-ready : goal.returns-then-len-capacity-clause-ready
 returns-then-len-capacity-clause-ready g c = λ fits.
