@@ -259,7 +259,13 @@ pub trait KeyIndex<T, S>: Sized + Drop {
         ensures { IsNextReported (Self.reports conflict.now) before result };
 
     /// The position for an item that is alike to none.
-    fn position(&self, items: &ItemSet<T>, state: &S, hashes: Self::Hashes, item: &T) -> Self::Position
+    fn position(
+        &self,
+        items: &ItemSet<T>,
+        state: &S,
+        hashes: Self::Hashes,
+        item: &T,
+    ) -> Self::Position
         requires hashed { are_hashes state.now item.now hashes }
         requires indexed { Self.indexes self.now state.now items.now.store }
         requires apart { HasNoHit items.now.store (Self.alike item.now) }

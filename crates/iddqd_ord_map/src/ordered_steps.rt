@@ -3,7 +3,7 @@
 //! A table holds ten indexes without any memory. They aren't counted: the capacity of a key index is what the reserved
 //! blocks hold, and ten more indexes fit always. The blocks that an insert or a move needs are a value of their own;
 //! below the capacity an insert needs none.
-ghost use Rattle.std.specs.Prelude.{◌≡◌, ◌+◌, ◌<◌, ◌≤◌, [], true, min, max, length, map, IsOk, IfOk, OnOk, OnErr};
+ghost use Rattle.std.specs.Prelude.{◌≡◌, ◌+◌, ◌<◌, ◌≤◌, [], true, false, min, max, length, map, IsOk, IfOk, OnOk, OnErr};
 ghost use Rattle.iddqd.specs.{live_count, rebound, IsValid, Allows, Validates};
 ghost use Rattle.iddqd.specs.Compaction.{rank, IsRemapOf};
 ghost use Rattle.iddqd.specs.Store.{Store};

@@ -13,3 +13,8 @@ pub returns-clause-had_room : goal.returns-clause-had_room
 returns-clause-had_room g c = λ fits.
     let held = length-held c.args.items.now.store (order_of c.args.table.now) c.requires in
     absurd (omega (arith, fits, held))
+
+pub returns-clause-none : goal.returns-clause-none
+returns-clause-none g c = λ fits.
+    let held = length-held c.args.items.now.store (order_of c.args.table.now) c.requires in
+    absurd (omega (arith, fits, held))
