@@ -13,9 +13,9 @@
 //! - To move: `plan_move` finds how the index must move, or the other items that share a key; `blocks_for` takes the
 //!   memory, if any is needed; then `commit_move` can't fail.
 //!
-//! What is planned is plain data: it borrows nothing, and owns no memory. The blocks that an ordered table needs for one
-//! index beyond its capacity are a value of their own, which the insert or the move consumes. So beyond its capacity no
-//! key index holds memory for a call to come.
+//! What is planned is plain data: it borrows nothing, and owns no memory. The blocks that an ordered table needs for
+//! one index beyond its capacity are a value of their own, which the insert or the move consumes. So beyond its
+//! capacity no key index holds memory for a call to come.
 ghost use Rattle.std.specs.Prelude.{◌≡◌, ◌≢◌, ◌≤◌, ◌+◌, ◌<◌, true, false, min, max, length, IsOk, IfOk, OnOk, OnErr, IfSome};
 ghost use Rattle.std.specs.Option.{option_map};
 ghost use Rattle.std.specs.Range.Bound.{bound_map};
@@ -204,7 +204,8 @@ pub trait KeyIndex<T, S>: Sized + Drop {
     ) -> Result<Self::Position, Self::Conflict>
         requires hashed { are_hashes state.now item.now hashes }
         requires indexed { Self.indexes self.now state.now items.now.store }
-        ensures { FindsPosition Self.alike (is_position self.now state.now) Self.conflicts items.now.store item.now result };
+        ensures { FindsPosition Self.alike (is_position self.now state.now) Self.conflicts items.now.store item.now
+            result };
 
     /// The position for an item under the next index.
     fn plan(

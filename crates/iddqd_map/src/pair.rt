@@ -164,7 +164,8 @@ where
 
     ghost moves = { λ plan. A.moves plan.0 || B.moves plan.1 };
 
-    ghost are_enough_for = { λ x plan blocks. A.are_enough_for x.first plan.0 blocks.0 × B.are_enough_for x.second plan.1 blocks.1 };
+    ghost are_enough_for = { λ x plan blocks. A.are_enough_for x.first plan.0 blocks.0
+        × B.are_enough_for x.second plan.1 blocks.1 };
 
     fn no_hashes() -> (A::KnownHashes, B::KnownHashes) {
         (A::no_hashes(), B::no_hashes())

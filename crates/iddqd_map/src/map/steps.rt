@@ -29,7 +29,8 @@ pub(super) fn take_out<T, X: KeyIndex<T, S>, S>(
     ensures items_room { room items.new ≡ room items.old + 1 }
     ensures capacity { X.capacity indexes.new ≡ X.capacity indexes.old }
     ensures cells { X.cells indexes.new ≡ X.cells indexes.old }
-    ensures enough { (blocks : X.Blocks) → X.are_enough_after indexes.old blocks → X.are_enough_after indexes.new blocks }
+    ensures enough { (blocks : X.Blocks) → X.are_enough_after indexes.old blocks
+        → X.are_enough_after indexes.new blocks }
     ensures roomy { (plan : X.InsertPlan) (blocks : X.Blocks) → X.are_enough_after indexes.old blocks
         → X.has_room_for indexes.new plan blocks }
 {
