@@ -462,7 +462,7 @@ pub trait UniqueAt<P, Q, T, S>: KeyIndex<T, S> {
 
     /// The index of the item that has the key for which the query stands, and the hashes that were computed for that.
     ///
-    /// No clause speaks of the hashes: a move that is told a wrong one scans its table.
+    /// No clause speaks of the hashes: a move that is given a wrong one scans its table.
     fn find(
         &self,
         items: &ItemSet<T>,
