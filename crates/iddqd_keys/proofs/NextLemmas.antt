@@ -14,7 +14,7 @@ use Rattle.iddqd.specs.Store.{Store, get, removed}
 use Rattle.iddqd.proofs.LiveLemmas.{get-removed_other}
 use Rattle.iddqd.proofs.StoreLemmas.{contains_head, contains_tail, contains_cases, contains_none}
 use Rattle.iddqd_keys.specs.KeyWalk.{by_key_then_index, ComesBefore, IsFirstHit, IsInPlace, IsNextHit, SortsWithin}
-use Rattle.iddqd_keys.specs.OrderedQuery.{IsQuery, is_from, is_up_to, is_between}
+use Rattle.iddqd_keys.specs.OrderedQuery.{FitsOrder, is_from, is_up_to, is_between}
 use Rattle.iddqd_keys.specs.Scan.{IsHit, passes_by}
 use Rattle.iddqd_keys.proofs.KeyWalkLemmas.{IsInPlace-alike, none_placed, put_in_front, totals}
 use Rattle.iddqd_keys.proofs.ScanLemmas.{live_before}
@@ -52,18 +52,18 @@ greater_is Greater is = refl
 
 -- of two keys in order, both are from a lower bound on where the first is, and up to an upper one where the second is
 module _ {Q K : Type 0} (compare : K → K → Ordering) (cmp : Q → K → Ordering)
-    (lawful : (q : Q) → IsQuery compare (cmp q)) (a b : K) (order : (compare a b ≡ Less) ⊎ (compare a b ≡ Equal))
+    (fits : (q : Q) → FitsOrder compare (cmp q)) (a b : K) (order : (compare a b ≡ Less) ⊎ (compare a b ≡ Equal))
   where
     less_at : (q : Q) → cmp q a ≡ Less → cmp q b ≡ Less
     less_at q less = elim order [
-      | inl before ↦ (lawful q).less_after a b before less
-      | inr same ↦ sym ((lawful q).equal_keys a b same) ∙ less
+      | inl before ↦ (fits q).less_after a b before less
+      | inr same ↦ sym ((fits q).equal_keys a b same) ∙ less
     ]
 
     greater_at : (q : Q) → cmp q b ≡ Greater → cmp q a ≡ Greater
     greater_at q greater = elim order [
-      | inl before ↦ (lawful q).greater_before a b before greater
-      | inr same ↦ (lawful q).equal_keys a b same ∙ greater
+      | inl before ↦ (fits q).greater_before a b before greater
+      | inr same ↦ (fits q).equal_keys a b same ∙ greater
     ]
 
     pub is_from-behind :
@@ -252,7 +252,7 @@ module _ {T K : Type 0} (key_of : T → K) (compare : K → K → Ordering) wher
 
   -- the next behind an index, by bounds
   module _
-      {Q : Type 0} (cmp : Q → K → Ordering) (lawful : (q : Q) → IsQuery compare (cmp q)) (s : Store T) (ix : ℕ)
+      {Q : Type 0} (cmp : Q → K → Ordering) (fits : (q : Q) → FitsOrder compare (cmp q)) (s : Store T) (ix : ℕ)
       (lower upper : Bound Q)
     where
       abbrev reaching : T → Bool
@@ -296,7 +296,7 @@ module _ {T K : Type 0} (key_of : T → K) (compare : K → K → Ordering) wher
               | inl same ↦ let here : Some y ≡ Some item = sym is ∙ (ap (get s) same ∙ live) in cc
               | inr apart ↦
                   let order = before_keys s ix j item y live is (first j (from_on j (y, is, passed)) apart) in
-                  let reached = is_up_to-before compare cmp lawful (key_of item) (key_of y) order upper up_to in
+                  let reached = is_up_to-before compare cmp fits (key_of item) (key_of y) order upper up_to in
                   cc
             ]
 
@@ -315,7 +315,7 @@ module _ {T K : Type 0} (key_of : T → K) (compare : K → K → Ordering) wher
       IsNextHit-between (Some n) hit is =
           let (x, live, passed) = hit in
           let (y, next, up_to) = is.0 in
-          let from = is_from-behind compare cmp lawful (key_of x) (key_of y) (before_keys s ix n x y live next is.1) lower (both _ _ passed).0 in
+          let from = is_from-behind compare cmp fits (key_of x) (key_of y) (before_keys s ix n x y live next is.1) lower (both _ _ passed).0 in
           ((y, next, rw (from, up_to) refl), is.1, λ j other behind apart. is.2 j (reaches j other) behind apart)
 
       -- the next of all is the next up to a bound, if it is up to that; else none is
@@ -338,7 +338,7 @@ module _ {T K : Type 0} (key_of : T → K) (compare : K → K → Ordering) wher
             | inr apart ↦ none (
               x,
               live,
-              is_up_to-before compare cmp lawful (key_of x) (key_of y)
+              is_up_to-before compare cmp fits (key_of x) (key_of y)
                   (before_keys s n j x y live is (first j (y, is, refl) later apart)) upper passed,
             )
           ]

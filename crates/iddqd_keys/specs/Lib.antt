@@ -4,3 +4,5 @@ pub mod KeyKeeping
 pub mod OrderedQuery
 pub mod KeyWalk
 pub mod Removals
+pub mod Tuples
+pub mod Turned

@@ -2,7 +2,7 @@
 use Rattle.std.specs.Prelude.{◌≡◌, ◌&&◌, Bool, true, not}
 use Rattle.std.proofs.Common.{◌∙◌, ap, refl, sym}
 use Rattle.std.specs.Cmp.{IsTotalOrder}
-use Rattle.std.specs.Ordering.{ordering_reverse, is_eq, is_lt, is_gt}
+use Rattle.std.specs.Ordering.{ordering_reverse, is_eq, is_lt, is_gt, on}
 use Rattle.std.specs.Range.Bound.{bound_map}
 use Rattle.std.specs.declared.cmp.Ordering.{Ordering}
 use Rattle.std.specs.declared.cmp.Ordering.TheVariants.{Less, Equal, Greater}
@@ -16,6 +16,17 @@ abbrev pub is_equal : {K : Type 0} → (K → Ordering) → K → Bool
 is_equal answer key = is_eq (answer key)
 
 module _ {K : Type 0} (compare : K → K → Ordering) where
+  -- The query fits the order of the keys: along keys in order its answers are first Greater, then Equal, then Less;
+  -- and equal keys get the same answer. It may be Equal at keys that differ.
+  pub record FitsOrder (answer : K → Ordering) : Type 0 where
+    pub less_after : (a b : K) → compare a b ≡ Less → answer a ≡ Less → answer b ≡ Less
+    pub greater_before : (a b : K) → compare a b ≡ Less → answer b ≡ Greater → answer a ≡ Greater
+    pub equal_keys : (a b : K) → compare a b ≡ Equal → answer a ≡ answer b
+
+  -- all keys at which the query is Equal are equal to each other
+  abbrev pub IsOneKey : (K → Ordering) → Type 0
+  IsOneKey answer = (a b : K) → answer a ≡ Equal → answer b ≡ Equal → compare a b ≡ Equal
+
   -- The query fits the order of the keys and stands for one key: along keys in order its answers are first Greater,
   -- then Equal, then Less; equal keys get the same answer; and all keys at which it is Equal are equal to each other.
   pub record IsQuery (answer : K → Ordering) : Type 0 where
@@ -55,6 +66,31 @@ module _ {K : Type 0} (compare : K → K → Ordering) where
     -- a query that is Equal at a key compares as that key does
     pub compares_as_key : answer a ≡ compare k a
     compares_as_key = by_order (compare k a) refl
+
+-- a lawful query on keys fits the order of the items by their keys, and stands for one key of theirs
+module _ {T K : Type 0} (key_of : T → K) (compare : K → K → Ordering) (answer : K → Ordering)
+    (query : IsQuery compare answer) where
+  pub FitsOrder-query : FitsOrder (on key_of compare) (λ x. answer (key_of x))
+  FitsOrder-query = record {
+    less_after = λ a b. query.less_after (key_of a) (key_of b);
+    greater_before = λ a b. query.greater_before (key_of a) (key_of b);
+    equal_keys = λ a b. query.equal_keys (key_of a) (key_of b);
+  }
+
+  pub IsOneKey-query : IsOneKey (on key_of compare) (λ x. answer (key_of x))
+  IsOneKey-query a b = query.one_key (key_of a) (key_of b)
+
+-- a query that fits an order and stands for one key is lawful
+pub IsQuery-fits :
+    {K : Type 0} (compare : K → K → Ordering) (answer : K → Ordering) → FitsOrder compare answer
+    → IsOneKey compare answer
+    → IsQuery compare answer
+IsQuery-fits compare answer fits one = record {
+  less_after = fits.less_after;
+  greater_before = fits.greater_before;
+  equal_keys = fits.equal_keys;
+  one_key = one;
+}
 
 -- if keys are ordered by a part of theirs, a lawful query on parts is a lawful query on keys
 pub IsQuery-on :

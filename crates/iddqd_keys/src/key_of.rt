@@ -11,13 +11,26 @@ use std::hash::{Hash, Hasher};
 /// Names one key of the items. Implement it for an enum without variants, as `enum Serial {}`.
 pub trait KeyOf<T> {
     /// The type of the key.
-    type Key: Drop;
+    type Key;
 
     ghost key_of: { T → Self.Key };
 
     /// Borrows the key from the item.
     fn key(item: &T) -> &Self::Key
         ensures { result.now ≡ key_of item.now };
+}
+
+/// Names the item itself, for a query that is compared with whole items.
+pub enum Itself {}
+
+impl<T> KeyOf<T> for Itself {
+    type Key = T;
+
+    ghost key_of = { λ item. item };
+
+    fn key(item: &T) -> &T {
+        item
+    }
 }
 
 /// A query that is a key itself. It implements [`Equivalent`] and [`Comparable`], the traits of the queries that the

@@ -5,7 +5,12 @@
 //! what a scan of all items would.
 #![tactic(auto)]
 
+pub mod hash_key;
 pub mod hash_query;
+pub mod item_hash_query;
+pub mod item_order_query;
+pub mod key_kinds;
 pub mod key_of;
+pub mod order_key;
 pub mod order_query;
 pub mod tri_hash_item;

@@ -489,7 +489,7 @@ pub trait OrderedAt<P, Q, T, S>: KeyIndex<T, S> {
     ghost use Rattle.std.specs.Prelude.{ℕ};
     ghost use Rattle.std.specs.Cmp.{IsTotalOrder};
     ghost use Rattle.std.specs.declared.cmp.Ordering.{Ordering};
-    ghost use Rattle.iddqd_keys.specs.OrderedQuery.{IsQuery};
+    ghost use Rattle.iddqd_keys.specs.OrderedQuery.{FitsOrder};
 
     /// Where an index stands in the order.
     type Spot: Drop;
@@ -550,8 +550,8 @@ pub trait OrderedAt<P, Q, T, S>: KeyIndex<T, S> {
         ensures capacity { Self.KeyIndex.capacity self.new ≡ Self.KeyIndex.capacity self.old }
         ensures cells { Self.KeyIndex.cells self.new ≡ Self.KeyIndex.cells self.old };
 
-    // The order is total, and each query fits it.
+    // The order is total, and each query fits it. A query may be Equal at keys that differ.
     ghost total: { IsTotalOrder order };
 
-    ghost fits: { (query : Q) → IsQuery order (compare query) };
+    ghost fits: { (query : Q) → FitsOrder order (compare query) };
 }

@@ -1,0 +1,114 @@
+//! Queries by which an item is looked up under the hash of its key.
+//!
+//! A query speaks of items and not of a key's value, since a key of several fields has none. Each [`HashQuery`] for the
+//! type of a field, or of a computed value, is one.
+ghost use Rattle.std.specs.Prelude.{◌≡◌, IsTrue};
+
+use crate::hash_key::HashKey;
+use crate::hash_query::HashQuery;
+use crate::key_kinds::{Computed, ComputedKey, Field};
+use crate::key_of::KeyOf;
+use std::hash::Hash;
+
+/// What an item is looked up by under the hash of its key `E`.
+///
+/// For a field or a computed value it is each [`HashQuery`] for the key's type, as a `&K`, or a `&str` for a `String`.
+/// For a tuple of keys it is the tuple of their queries.
+pub trait ItemHashQuery<T, E: HashKey<T>>: Copy + Hash {
+    ghost use Rattle.std.specs.Prelude.{Bool};
+
+    // Whether it stands for the key of an item.
+    ghost stands_for_item: { Self → T → Bool };
+
+    /// Whether the query stands for the item's key.
+    fn stands_for_item(&self, item: &T) -> bool
+        ensures { result ≡ stands_for_item self.now item.now };
+
+    // It hashes like each key that it stands for.
+    ghost same_item_hash: { (q : Self) (x : T) → IsTrue (stands_for_item q x)
+        → Self.hash_input q ≡ E.hash_input (E.key_of x) };
+
+    // All keys that it stands for are equal to each other, and it stands for each key that is equal to one of them.
+    ghost same_item_key: { (q : Self) (x y : T) → IsTrue (stands_for_item q x)
+        → stands_for_item q y ≡ E.eq (E.key_of x) (E.key_of y) };
+}
+
+impl<T, E: KeyOf<T, Key = K>, K: Eq + Hash + Drop, Q: HashQuery<K>> ItemHashQuery<T, Field<E, K>>
+    for Q {
+    ghost stands_for_item = { λ q x. Q.HashQuery.stands_for q (E.key_of x) };
+
+    ghost same_item_hash = { λ q x. Q.HashQuery.same_hash q (E.key_of x) };
+
+    ghost same_item_key = { λ q x y. Q.HashQuery.same_key q (E.key_of x) (E.key_of y) };
+
+    fn stands_for_item(&self, item: &T) -> bool {
+        self.stands_for(E::key(item))
+    }
+}
+
+impl<T, E: ComputedKey<T, Key = K>, K: Eq + Hash + Drop, Q: HashQuery<K>> ItemHashQuery<
+    T,
+    Computed<E, K>,
+> for Q {
+    ghost stands_for_item = { λ q x. Q.HashQuery.stands_for q (E.key_of x) };
+
+    ghost same_item_hash = { λ q x. Q.HashQuery.same_hash q (E.key_of x) };
+
+    ghost same_item_key = { λ q x y. Q.HashQuery.same_key q (E.key_of x) (E.key_of y) };
+
+    fn stands_for_item(&self, item: &T) -> bool {
+        self.stands_for(&E::key(item))
+    }
+}
+
+impl<T, A, B, P, Q> ItemHashQuery<T, (A, B)> for (P, Q)
+where
+    A: HashKey<T>,
+    B: HashKey<T>,
+    P: ItemHashQuery<T, A>,
+    Q: ItemHashQuery<T, B>,
+{
+    ghost use Rattle.std.specs.Prelude.{◌&&◌};
+    ghost use Rattle.iddqd_keys.specs.Tuples.{pairs_fed, pairs_same};
+
+    ghost stands_for_item = { λ q x. P.stands_for_item q.0 x && Q.stands_for_item q.1 x };
+
+    ghost same_item_hash = { λ q x. pairs_fed (P.stands_for_item q.0 x) (Q.stands_for_item q.1 x) _ _ _ _
+        (P.same_item_hash q.0 x) (Q.same_item_hash q.1 x) };
+
+    ghost same_item_key = { λ q x y. pairs_same (P.stands_for_item q.0 x) (Q.stands_for_item q.1 x) _ _ _ _
+        (P.same_item_key q.0 x y) (Q.same_item_key q.1 x y) };
+
+    fn stands_for_item(&self, item: &T) -> bool {
+        self.0.stands_for_item(item) && self.1.stands_for_item(item)
+    }
+}
+
+impl<T, A, B, C, P, Q, R> ItemHashQuery<T, (A, B, C)> for (P, Q, R)
+where
+    A: HashKey<T>,
+    B: HashKey<T>,
+    C: HashKey<T>,
+    P: ItemHashQuery<T, A>,
+    Q: ItemHashQuery<T, B>,
+    R: ItemHashQuery<T, C>,
+{
+    ghost use Rattle.std.specs.Prelude.{◌&&◌};
+    ghost use Rattle.iddqd_keys.specs.Tuples.{pairs_same, triples_fed};
+
+    ghost stands_for_item = { λ q x.
+        P.stands_for_item q.0 x && (Q.stands_for_item q.1 x && R.stands_for_item q.2 x) };
+
+    ghost same_item_hash = { λ q x. triples_fed (P.stands_for_item q.0 x) (Q.stands_for_item q.1 x)
+        (R.stands_for_item q.2 x) _ _ _ _ _ _ (P.same_item_hash q.0 x) (Q.same_item_hash q.1 x)
+        (R.same_item_hash q.2 x) };
+
+    ghost same_item_key = { λ q x y. pairs_same (P.stands_for_item q.0 x)
+        (Q.stands_for_item q.1 x && R.stands_for_item q.2 x) _ _ _ _ (P.same_item_key q.0 x y)
+        (pairs_same (Q.stands_for_item q.1 x) (R.stands_for_item q.2 x) _ _ _ _ (Q.same_item_key q.1 x y)
+        (R.same_item_key q.2 x y)) };
+
+    fn stands_for_item(&self, item: &T) -> bool {
+        self.0.stands_for_item(item) && self.1.stands_for_item(item) && self.2.stands_for_item(item)
+    }
+}
