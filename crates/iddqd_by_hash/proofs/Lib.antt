@@ -3,3 +3,4 @@ pub mod HoldsLemmas
 pub mod PlaceLemmas
 pub mod HashedCountLemmas
 pub mod RetainLemmas
+pub mod HashedItemLemmas

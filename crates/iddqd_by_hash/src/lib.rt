@@ -2,9 +2,10 @@
 //! changes when an item is replaced.
 //!
 //! Each call that reads or changes a table is handed the table, and the store if it reads keys. So a map can have both
-//! as plain fields. A type parameter `E: KeyOf<T>` names the key.
+//! as plain fields. A type parameter `E` names the key: in `hashed` a borrowed field, in `hashed_item` any key.
 #![tactic(auto)]
 
 mod borrowed_key_query;
 pub mod hashed;
+pub mod hashed_item;
 pub mod hashed_move;

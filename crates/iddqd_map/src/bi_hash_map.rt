@@ -20,14 +20,22 @@ pub use clash::BiClash;
 pub use clones::BiHashClone;
 use iddqd::hash_builder::DefaultHashBuilder;
 use iddqd::item_index::ItemIndex;
-pub use index::BiIndex;
+use iddqd_keys::hash_key::HashKey;
+pub use index::{BiIndex, BiIndexOf};
 pub use item::BiHashItem;
 use std::hash::BuildHasher;
+
+/// Items under stable indexes, with two keys that are read in place. No two items share a key.
+pub type BiHashMapBy<T, A, B, S = DefaultHashBuilder> = Map<T, BiIndexOf<A, B>, S>;
 
 /// Items under stable indexes. No two items share a key.
 pub type BiHashMap<T, S = DefaultHashBuilder> = Map<T, BiIndex<T>, S>;
 
-impl<T: BiHashItem, S: BuildHasher> Map<T, BiIndex<T>, S> {
+impl<T: Drop, A, B, S: BuildHasher> Map<T, BiIndexOf<A, B>, S>
+where
+    A: HashKey<T>,
+    B: HashKey<T>,
+{
     /// Inserts an item, and removes the items that share a key with it, at most two. It returns these by rising index,
     /// in the first places of the array.
     ///
@@ -38,7 +46,7 @@ impl<T: BiHashItem, S: BuildHasher> Map<T, BiIndex<T>, S> {
         &mut self,
         item: T,
     ) -> Result<(ItemIndex, [Option<T>; 2]), OverwriteRefusal<T>>
-        ensures inserts { OverwritesTwo (shares T.first_key T.Key1.eq) (shares T.second_key T.Key2.eq) self.old
+        ensures inserts { OverwritesTwo (shares A.key_of A.eq) (shares B.key_of B.eq) self.old
             item result self.new }
         ensures count { IfOk result (λ put. live_count self.new.store + count_by is_some put.1
             ≡ live_count self.old.store + 1) }

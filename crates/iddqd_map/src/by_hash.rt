@@ -10,7 +10,7 @@
 //! hashes and indexes.
 ghost use Rattle.std.specs.Prelude.{◌≡◌};
 ghost use Rattle.iddqd_hash.specs.{filed};
-ghost use Rattle.iddqd_keys.specs.Scan.{AnswersScan, passes_by};
+ghost use Rattle.iddqd_keys.specs.Scan.{AnswersScan};
 ghost use Rattle.iddqd_by_hash.specs.Hashed.{hashing_of};
 ghost use Rattle.iddqd_map.specs.Indexing.{Indexes};
 
@@ -23,13 +23,15 @@ use iddqd::internal::{ValidateCompact, ValidateRefusal, ValidationError};
 use iddqd::item_index::ItemIndex;
 use iddqd::item_set::ItemSet;
 use iddqd::map_hash::MapHash;
-use iddqd_by_hash::hashed::{hash_of, query_hash};
+use iddqd_by_hash::hashed::query_hash;
+use iddqd_by_hash::hashed_item::hash_of;
 use iddqd_by_hash::hashed_move::Move;
 use iddqd_hash::hash_table::MapHashTable;
-use iddqd_keys::hash_query::HashQuery;
-use iddqd_keys::key_of::KeyOf;
+use iddqd_keys::hash_key::HashKey;
+use iddqd_keys::item_hash_query::ItemHashQuery;
+use iddqd_keys::key_kinds::Field;
 use std::alloc::{AllocError, Global};
-use std::hash::{BuildHasher, Hash};
+use std::hash::BuildHasher;
 use std::marker::PhantomData;
 
 /// A hash table by the key that `E` names. No two items have equal keys.
@@ -38,17 +40,18 @@ use std::marker::PhantomData;
 /// `make_room`, `shrink_to`, `copied` and `validate`, which sorts a copy of the indexes, take memory, and only they can
 /// run out of it.
 #[derive(Drop)]
-pub struct ByHash<E, K> {
+pub struct ByHashOf<E> {
     // Each live index, under the hash of its item's key.
     table: MapHashTable,
     of: PhantomData<E>,
-    by: PhantomData<K>,
 }
 
-impl<T, S, E, K> KeyIndex<T, S> for ByHash<E, K>
+/// A hash table by the field, a `K`, that `E` borrows from the item.
+pub type ByHash<E, K> = ByHashOf<Field<E, K>>;
+
+impl<T, S, E> KeyIndex<T, S> for ByHashOf<E>
 where
-    E: KeyOf<T, Key = K>,
-    K: Eq + Hash + Drop,
+    E: HashKey<T>,
     S: BuildHasher,
 {
     ghost use Rattle.std.proofs.Common.{refl};
@@ -78,15 +81,15 @@ where
 
     type Blocks = ();
 
-    ghost Keys = { K };
+    ghost Keys = { E.Key };
 
     ghost keys = { E.key_of };
 
-    ghost alike = { shares E.key_of K.eq };
+    ghost alike = { shares E.key_of E.eq };
 
-    ghost same_keys = { shares E.key_of K.eq };
+    ghost same_keys = { shares E.key_of E.eq };
 
-    ghost indexes = { λ x state s. Indexes E.key_of (hashing_of K.eq K.hash_input S.BuildHasher
+    ghost indexes = { λ x state s. Indexes E.key_of (hashing_of E.eq E.hash_input S.BuildHasher
         S.Hasher.Hasher state) s (filed x.table) };
 
     ghost capacity = { λ x. capacity x.table };
@@ -109,9 +112,9 @@ where
 
     ghost unique_keys = { 1 };
 
-    ghost conflicts = { λ s item at. AnswersScan s (shares E.key_of K.eq item) (Some at) };
+    ghost conflicts = { λ s item at. AnswersScan s (shares E.key_of E.eq item) (Some at) };
 
-    ghost taken = { λ s ix item at. (at ≢ ix) × AnswersScan s (shares E.key_of K.eq item) (Some at) };
+    ghost taken = { λ s ix item at. (at ≢ ix) × AnswersScan s (shares E.key_of E.eq item) (Some at) };
 
     ghost reports = { λ at ix. ix ≡ at };
 
@@ -119,26 +122,26 @@ where
 
     ghost same_as_itself = { λ x. refl };
 
-    ghost same_indexes = { λ x y state s same is. Indexes-kept E.key_of (hashing_of K.eq K.hash_input S.BuildHasher
+    ghost same_indexes = { λ x y state s same is. Indexes-kept E.key_of (hashing_of E.eq E.hash_input S.BuildHasher
         S.Hasher.Hasher state) s (filed x.table) (filed y.table) same is };
 
     ghost apart = { λ x state s is. is.in_sync.apart };
 
-    ghost modified = { λ x state s ix was item is. Indexes-key_kept E.key_of K.eq K.hash_input S.BuildHasher
-        S.Hasher.Hasher K.Eq.laws K.respects_eq state s (filed x.table) is ix was item };
+    ghost modified = { λ x state s ix was item is. Indexes-key_kept E.key_of E.eq E.hash_input S.BuildHasher
+        S.Hasher.Hasher E.laws E.respects_eq state s (filed x.table) is ix was item };
 
-    ghost same_items = { λ x state s t have is. Indexes-keys_shared E.key_of K.eq K.hash_input S.BuildHasher
-        S.Hasher.Hasher K.Eq.laws K.respects_eq state s (filed x.table) is t have };
+    ghost same_items = { λ x state s t have is. Indexes-keys_shared E.key_of E.eq E.hash_input S.BuildHasher
+        S.Hasher.Hasher E.laws E.respects_eq state s (filed x.table) is t have };
 
-    ghost equivalence = { shares_laws E.key_of K.eq K.Eq.laws };
+    ghost equivalence = { shares_laws E.key_of E.eq E.laws };
 
-    ghost reported = { λ s item at is ix. reported_one s (shares E.key_of K.eq item) at is ix };
+    ghost reported = { λ s item at is ix. reported_one s (shares E.key_of E.eq item) at is ix };
 
     ghost reported_some = { λ s item at is. (at, refl) };
 
     ghost few_reported = { few_one };
 
-    ghost are_hashes = { λ state item hash. hash ≡ (hashing_of K.eq K.hash_input S.BuildHasher
+    ghost are_hashes = { λ state item hash. hash ≡ (hashing_of E.eq E.hash_input S.BuildHasher
         S.Hasher.Hasher state).hash_of (E.key_of item) };
 
     ghost is_position = { λ x state s item position. Unit {0} };
@@ -153,7 +156,7 @@ where
 
     ghost same_plans = { λ x y state s item plan same is. is };
 
-    ghost is_move = { λ state s ix item plan. Plans E.key_of (hashing_of K.eq K.hash_input S.BuildHasher
+    ghost is_move = { λ state s ix item plan. Plans E.key_of (hashing_of E.eq E.hash_input S.BuildHasher
         S.Hasher.Hasher state) s ix item plan };
 
     ghost moves = { moves };
@@ -168,19 +171,17 @@ where
         self.table.capacity()
     }
 
-    fn new(alloc: Global) -> ByHash<E, K> {
-        ByHash {
+    fn new(alloc: Global) -> ByHashOf<E> {
+        ByHashOf {
             table: hashed_steps::new(alloc),
             of: PhantomData,
-            by: PhantomData,
         }
     }
 
-    fn with_capacity(alloc: Global, wanted: usize) -> Result<ByHash<E, K>, AllocError> {
-        Ok(ByHash {
+    fn with_capacity(alloc: Global, wanted: usize) -> Result<ByHashOf<E>, AllocError> {
+        Ok(ByHashOf {
             table: MapHashTable::with_capacity(alloc, wanted)?,
             of: PhantomData,
-            by: PhantomData,
         })
     }
 
@@ -277,16 +278,15 @@ where
         hashed_steps::commit_move::<T, E, S>(&mut self.table, items, state, known, plan, ix);
     }
 
-    fn copied(&self) -> Result<ByHash<E, K>, AllocError> {
-        Ok(ByHash {
+    fn copied(&self) -> Result<ByHashOf<E>, AllocError> {
+        Ok(ByHashOf {
             table: self.table.clone()?,
             of: PhantomData,
-            by: PhantomData,
         })
     }
 
     fn is_same(item: &T, other: &T) -> bool {
-        *E::key(item) == *E::key(other)
+        E::is_same(item, other)
     }
 
     fn validate(
@@ -299,10 +299,9 @@ where
     }
 }
 
-impl<T, S, E, K> FindsSame<T, S> for ByHash<E, K>
+impl<T, S, E> FindsSame<T, S> for ByHashOf<E>
 where
-    E: KeyOf<T, Key = K>,
-    K: Eq + Hash + Drop,
+    E: HashKey<T>,
     S: BuildHasher,
 {
     ghost same_are_alike = { λ x y same. same };
@@ -318,14 +317,13 @@ where
     }
 }
 
-impl<T, S, E, K, Q> UniqueAt<Here, Q, T, S> for ByHash<E, K>
+impl<T, S, E, Q> UniqueAt<Here, Q, T, S> for ByHashOf<E>
 where
-    E: KeyOf<T, Key = K>,
-    K: Eq + Hash + Drop,
+    E: HashKey<T>,
     S: BuildHasher,
-    Q: HashQuery<K>,
+    Q: ItemHashQuery<T, E>,
 {
-    ghost stands_for = { λ query. passes_by E.key_of (Q.stands_for query) };
+    ghost stands_for = { Q.stands_for_item };
 
     fn find(
         &self,

@@ -8,11 +8,11 @@ ghost use Rattle.iddqd_map.specs.Indexing.{Indexes, PlansOrConflicts};
 
 use iddqd::item_index::ItemIndex;
 use iddqd::item_set::ItemSet;
-use iddqd_by_hash::hashed::{self, hash_of};
+use iddqd_by_hash::hashed_item::{find_same, hash_of};
 use iddqd_by_hash::hashed_move::Move;
 use iddqd_hash::hash_table::MapHashTable;
-use iddqd_keys::key_of::{KeyOf, KeyQuery, key_at};
-use std::hash::{BuildHasher, Hash};
+use iddqd_keys::hash_key::HashKey;
+use std::hash::BuildHasher;
 
 /// Plans the move of a live index whose item is to be replaced by this one. If another item has the new key, it returns
 /// that item's index.
@@ -26,28 +26,20 @@ pub fn plan_move<T, E, S>(
     item: &T,
 ) -> Result<Move, ItemIndex>
 where
-    E: KeyOf<T>,
-    E::Key: Eq + Hash,
+    E: HashKey<T>,
     S: BuildHasher,
     requires live { IsLive items.now.store ix }
-    requires indexed { Indexes E.key_of (hashing_of E.Key.eq E.Key.hash_input S.BuildHasher S.Hasher.Hasher state.now)
+    requires indexed { Indexes E.key_of (hashing_of E.eq E.hash_input S.BuildHasher S.Hasher.Hasher state.now)
         items.now.store (filed table.now) }
-    ensures { PlansOrConflicts E.key_of (hashing_of E.Key.eq E.Key.hash_input S.BuildHasher S.Hasher.Hasher state.now)
+    ensures { PlansOrConflicts E.key_of (hashing_of E.eq E.hash_input S.BuildHasher S.Hasher.Hasher state.now)
         items.now.store ix item.now result }
 {
     match move_of::<T, E, S>(items, state, ix, item) {
         Move::Stays => Ok(Move::Stays),
-        Move::To(hash) => {
-            match hashed::find::<T, E, KeyQuery<E::Key>>(
-                table,
-                items,
-                hash,
-                &KeyQuery(E::key(item)),
-            ) {
-                Some(at) => Err(at),
-                None => Ok(Move::To(hash)),
-            }
-        }
+        Move::To(hash) => match find_same::<T, E>(table, items, hash, item) {
+            Some(at) => Err(at),
+            None => Ok(Move::To(hash)),
+        },
     }
 }
 
@@ -56,14 +48,13 @@ where
 /// It compares the new key with the old one. Only if they differ, it hashes the new key, once.
 pub fn move_of<T, E, S>(items: &ItemSet<T>, state: &S, ix: ItemIndex, item: &T) -> Move
 where
-    E: KeyOf<T>,
-    E::Key: Eq + Hash,
+    E: HashKey<T>,
     S: BuildHasher,
     requires { IsLive items.now.store ix }
-    ensures { IsMoveFor E.key_of (hashing_of E.Key.eq E.Key.hash_input S.BuildHasher S.Hasher.Hasher state.now)
+    ensures { IsMoveFor E.key_of (hashing_of E.eq E.hash_input S.BuildHasher S.Hasher.Hasher state.now)
         items.now.store ix item.now result }
 {
-    if *E::key(item) == *key_at::<T, E>(items, ix) {
+    if E::is_same(item, &items[ix]) {
         return Move::Stays;
     }
     Move::To(hash_of::<T, E, S>(state, item))

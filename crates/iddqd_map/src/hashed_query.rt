@@ -6,7 +6,7 @@ ghost use Rattle.std.specs.Prelude.{◌≡◌};
 ghost use Rattle.iddqd.specs.{hash_one};
 ghost use Rattle.iddqd_hash.specs.{filed};
 ghost use Rattle.iddqd_hash.specs.HashTable.{KeepsMemory};
-ghost use Rattle.iddqd_keys.specs.Scan.{AnswersScan, passes_by};
+ghost use Rattle.iddqd_keys.specs.Scan.{AnswersScan};
 ghost use Rattle.iddqd_by_hash.specs.Hashed.{hashing_of, Takes};
 ghost use Rattle.iddqd_map.specs.Indexing.{Indexes};
 ghost use Rattle.iddqd_map.specs.Map.{shares};
@@ -14,15 +14,16 @@ ghost use Rattle.iddqd_map.specs.Map.{shares};
 use iddqd::item_index::ItemIndex;
 use iddqd::item_set::ItemSet;
 use iddqd::map_hash::MapHash;
-use iddqd_by_hash::hashed::{self, query_hash};
+use iddqd_by_hash::hashed::query_hash;
+use iddqd_by_hash::hashed_item;
 use iddqd_hash::hash_table::MapHashTable;
-use iddqd_keys::hash_query::{AsEquivalent, HashQuery};
-use iddqd_keys::key_of::KeyOf;
-use std::hash::{BuildHasher, Hash};
+use iddqd_keys::hash_key::HashKey;
+use iddqd_keys::item_hash_query::ItemHashQuery;
+use std::hash::BuildHasher;
 
 /// The index of the item that has the key for which the query stands, whose hash was computed before.
 ///
-/// Look-ups and inserts share it. It is inlined: a look-up that called it took one and a half times as many
+/// It is inlined: a look-up that called it took one and a half times as many
 /// instructions.
 #[inline(always)]
 pub fn find_under<T, E, S, Q>(
@@ -33,16 +34,15 @@ pub fn find_under<T, E, S, Q>(
     query: Q,
 ) -> Option<ItemIndex>
 where
-    E: KeyOf<T>,
-    E::Key: Eq + Hash,
+    E: HashKey<T>,
     S: BuildHasher,
-    Q: HashQuery<E::Key>,
+    Q: ItemHashQuery<T, E>,
     requires hash { hash ≡ hash_one S.BuildHasher S.Hasher.Hasher state.now (Q.hash_input query) }
-    requires indexed { Indexes E.key_of (hashing_of E.Key.eq E.Key.hash_input S.BuildHasher S.Hasher.Hasher state.now)
+    requires indexed { Indexes E.key_of (hashing_of E.eq E.hash_input S.BuildHasher S.Hasher.Hasher state.now)
         items.now.store (filed table.now) }
-    ensures { AnswersScan items.now.store (passes_by E.key_of (Q.stands_for query)) result }
+    ensures { AnswersScan items.now.store (Q.stands_for_item query) result }
 {
-    hashed::find::<T, E, AsEquivalent<Q>>(table, items, hash, &AsEquivalent(query))
+    hashed_item::find::<T, E, Q>(table, items, hash, query)
 }
 
 /// Finds as `find_under` does, and removes the index from the table, by one search. It takes no memory.
@@ -53,18 +53,17 @@ pub fn take_by<T, E, S, Q>(
     query: Q,
 ) -> Option<ItemIndex>
 where
-    E: KeyOf<T>,
-    E::Key: Eq + Hash,
+    E: HashKey<T>,
     S: BuildHasher,
-    Q: HashQuery<E::Key>,
-    requires { Indexes E.key_of (hashing_of E.Key.eq E.Key.hash_input S.BuildHasher S.Hasher.Hasher state.now)
+    Q: ItemHashQuery<T, E>,
+    requires { Indexes E.key_of (hashing_of E.eq E.hash_input S.BuildHasher S.Hasher.Hasher state.now)
         items.now.store (filed table.old) }
-    ensures found { AnswersScan items.now.store (passes_by E.key_of (Q.stands_for query)) result }
+    ensures found { AnswersScan items.now.store (Q.stands_for_item query) result }
     ensures taken { Takes (filed table.old) result (filed table.new) }
     ensures memory { KeepsMemory table.old table.new }
 {
     let hash = query_hash(state, query);
-    hashed::take::<T, E, AsEquivalent<Q>>(table, items, hash, &AsEquivalent(query))
+    hashed_item::take::<T, E, Q>(table, items, hash, query)
 }
 
 /// The index of the item that has this key of an item, whose hash was computed before.
@@ -76,14 +75,13 @@ pub fn find_item<T, E, S>(
     item: &T,
 ) -> Option<ItemIndex>
 where
-    E: KeyOf<T>,
-    E::Key: Eq + Hash,
+    E: HashKey<T>,
     S: BuildHasher,
-    requires hash { let hashing = hashing_of E.Key.eq E.Key.hash_input S.BuildHasher S.Hasher.Hasher state.now in
+    requires hash { let hashing = hashing_of E.eq E.hash_input S.BuildHasher S.Hasher.Hasher state.now in
         hash ≡ hashing.hash_of (E.key_of item.now) }
-    requires indexed { Indexes E.key_of (hashing_of E.Key.eq E.Key.hash_input S.BuildHasher S.Hasher.Hasher state.now)
+    requires indexed { Indexes E.key_of (hashing_of E.eq E.hash_input S.BuildHasher S.Hasher.Hasher state.now)
         items.now.store (filed table.now) }
-    ensures { AnswersScan items.now.store (shares E.key_of E.Key.eq item.now) result }
+    ensures { AnswersScan items.now.store (shares E.key_of E.eq item.now) result }
 {
-    find_under::<T, E, S, &E::Key>(table, items, state, hash, E::key(item))
+    hashed_item::find_same::<T, E>(table, items, hash, item)
 }

@@ -23,12 +23,13 @@ use iddqd::internal::{ValidateCompact, ValidateRefusal, ValidationError};
 use iddqd::item_index::ItemIndex;
 use iddqd::item_set::ItemSet;
 use iddqd::map_hash::MapHash;
-use iddqd_by_hash::hashed::{hash_of, remove_index};
+use iddqd_by_hash::hashed::remove_index;
+use iddqd_by_hash::hashed_item::hash_of;
 use iddqd_by_hash::hashed_move::{self, Move};
 use iddqd_hash::hash_table::MapHashTable;
-use iddqd_keys::key_of::KeyOf;
+use iddqd_keys::hash_key::HashKey;
 use std::alloc::{AllocError, Global};
-use std::hash::{BuildHasher, Hash};
+use std::hash::BuildHasher;
 
 /// An empty table. It takes no memory.
 pub fn new(alloc: Global) -> MapHashTable
@@ -94,8 +95,7 @@ pub fn make_room<T>(table: &mut MapHashTable, items: &ItemSet<T>) -> Result<(), 
 /// Removes a live index, which is under the hash of its item's key. It takes no memory.
 pub fn take_out<T, E, S>(table: &mut MapHashTable, items: &ItemSet<T>, state: &S, ix: ItemIndex)
 where
-    E: KeyOf<T>,
-    E::Key: Hash,
+    E: HashKey<T>,
     S: BuildHasher,
     requires live { IsLive items.now.store ix }
     requires filed { IsSome (finite.get (filed table.old) ix) }
@@ -118,8 +118,7 @@ pub fn commit_move<T, E, S>(
     ix: ItemIndex,
 )
 where
-    E: KeyOf<T>,
-    E::Key: Hash,
+    E: HashKey<T>,
     S: BuildHasher,
     requires live { IsLive items.now.store ix }
     requires filed { IsSome (finite.get (filed table.old) ix) }

@@ -1,11 +1,12 @@
 //! A map of items that have one key each, found by its hash: a [`Map`] whose key index is one table.
 //!
 //! All calls that name no key are `Map`'s, but for `insert_overwrite`. It is here, beside the calls that name the key;
-//! each of these is the call of `Map` at the place `Here`.
+//! each of these is the call of `Map` at the place `Here`. They are those of a `HashMapBy`, which takes any key that is
+//! read in place; an `IdHashMap` is one by the field that its items name.
 ghost use Rattle.std.specs.Prelude.{◌≡◌, ◌≤◌, ◌↔◌, ◌+◌, false, Some, Ok, option_copied, IsOk, IfOk, OnErr, OnSome, IfNone};
 ghost use Rattle.iddqd.specs.{live_count};
 ghost use Rattle.iddqd_hash.specs.Sizes.{most_cells};
-ghost use Rattle.iddqd_keys.specs.Scan.{HasNoHit, AnswersScan, passes_by};
+ghost use Rattle.iddqd_keys.specs.Scan.{HasNoHit, AnswersScan};
 ghost use Rattle.iddqd_keys.specs.KeyKeeping.{KeepsKey};
 ghost use Rattle.iddqd_map.specs.Map.{capacity, room, shares, FindsItem, Removes};
 ghost use Rattle.iddqd_map.specs.Calls.{MayChange};
@@ -16,52 +17,59 @@ mod clones;
 mod item;
 mod prints;
 
-use crate::by_hash::ByHash;
+use crate::by_hash::{ByHash, ByHashOf};
 use crate::key_index::Here;
 use crate::map::Map;
 use crate::refusal::{InsertRefusal, OverwriteRefusal, ReplaceRefusal};
 pub use clones::IdHashClone;
 use iddqd::hash_builder::DefaultHashBuilder;
 use iddqd::item_index::ItemIndex;
-use iddqd_keys::hash_query::HashQuery;
+use iddqd_keys::hash_key::HashKey;
+use iddqd_keys::item_hash_query::ItemHashQuery;
 pub use item::{IdHashItem, ItsKey};
 use std::hash::BuildHasher;
 
 /// A table by the key.
 pub type IdIndex<T> = ByHash<ItsKey, <T as IdHashItem>::Key>;
 
+/// Items under stable indexes, which all have different keys `E`.
+///
+/// The key is a field, a computed value, or a tuple of such keys:
+/// `HashMapBy<Artifact, (Field<Name, String>, Field<Version, String>)>`.
+pub type HashMapBy<T, E, S = DefaultHashBuilder> = Map<T, ByHashOf<E>, S>;
+
 /// Items under stable indexes, which all have different keys.
 pub type IdHashMap<T, S = DefaultHashBuilder> = Map<T, IdIndex<T>, S>;
 
-impl<T: IdHashItem, S: BuildHasher> Map<T, IdIndex<T>, S> {
+impl<T, E: HashKey<T>, S: BuildHasher> Map<T, ByHashOf<E>, S> {
     /// The index of the item that has the key for which the query stands.
     ///
-    /// The query is a `&T::Key`, or another query that stands for such a key. Only keys of the same hash are compared
-    /// with it.
-    pub fn find<Q: HashQuery<T::Key>>(&self, query: Q) -> Option<ItemIndex>
-        ensures { AnswersScan self.now.store (passes_by T.key_of (Q.stands_for query)) result }
+    /// For a field the query is a `&K`, or another query that stands for such a key; for a tuple of keys it is the tuple
+    /// of their queries. Only keys of the same hash are compared with it.
+    pub fn find<Q: ItemHashQuery<T, E>>(&self, query: Q) -> Option<ItemIndex>
+        ensures { AnswersScan self.now.store (Q.stands_for_item query) result }
     {
         self.find_by::<Here, Q>(query)
     }
 
     /// Whether an item has the key.
-    pub fn contains_key<Q: HashQuery<T::Key>>(&self, query: Q) -> bool
-        ensures { (result ≡ false) ↔ HasNoHit self.now.store (passes_by T.key_of (Q.stands_for query)) }
+    pub fn contains_key<Q: ItemHashQuery<T, E>>(&self, query: Q) -> bool
+        ensures { (result ≡ false) ↔ HasNoHit self.now.store (Q.stands_for_item query) }
     {
         self.contains_by::<Here, Q>(query)
     }
 
     /// The item that has the key.
-    pub fn get<Q: HashQuery<T::Key>>(&self, query: Q) -> Option<&T>
-        ensures { FindsItem self.now.store (passes_by T.key_of (Q.stands_for query)) (option_copied result) }
+    pub fn get<Q: ItemHashQuery<T, E>>(&self, query: Q) -> Option<&T>
+        ensures { FindsItem self.now.store (Q.stands_for_item query) (option_copied result) }
     {
         self.get_by::<Here, Q>(query)
     }
 
     /// Removes the item that has the key, and returns it. It takes no memory.
-    pub fn remove<Q: HashQuery<T::Key>>(&mut self, query: Q) -> Option<T>
-        ensures removes { Removes self.old (passes_by T.key_of (Q.stands_for query)) result self.new }
-        ensures gone { HasNoHit self.new.store (passes_by T.key_of (Q.stands_for query)) }
+    pub fn remove<Q: ItemHashQuery<T, E>>(&mut self, query: Q) -> Option<T>
+        ensures removes { Removes self.old (Q.stands_for_item query) result self.new }
+        ensures gone { HasNoHit self.new.store (Q.stands_for_item query) }
         ensures room { room self.old ≤ room self.new }
         ensures count { OnSome result (live_count self.old.store ≡ live_count self.new.store + 1) }
         ensures unchanged { IfNone result (self.new ≡ self.old) }
@@ -75,13 +83,13 @@ impl<T: IdHashItem, S: BuildHasher> Map<T, IdIndex<T>, S> {
     ///
     /// The new item may have another key. It gets the same index. If another item has its key, it comes back, and
     /// nothing changes. It takes no memory, and touches no table whose key stays.
-    pub fn replace<Q: HashQuery<T::Key>>(
+    pub fn replace<Q: ItemHashQuery<T, E>>(
         &mut self,
         query: Q,
         item: T,
     ) -> Result<T, ReplaceRefusal<T, ItemIndex>>
-        ensures replaces { ReplacesOne (shares T.key_of T.Key.eq) self.old
-            (passes_by T.key_of (Q.stands_for query)) item result self.new }
+        ensures replaces { ReplacesOne (shares E.key_of E.eq) self.old
+            (Q.stands_for_item query) item result self.new }
         ensures room { room self.new ≡ room self.old }
         ensures count { live_count self.new.store ≡ live_count self.old.store }
     {
@@ -92,14 +100,14 @@ impl<T: IdHashItem, S: BuildHasher> Map<T, IdIndex<T>, S> {
     /// has the key.
     ///
     /// The closure is called at most once, and not at all if no item has the key. Otherwise it behaves as `replace`.
-    pub fn change<Q: HashQuery<T::Key>, F: FnOnce(&T) -> T>(
+    pub fn change<Q: ItemHashQuery<T, E>, F: FnOnce(&T) -> T>(
         &mut self,
         query: Q,
         f: F,
     ) -> Result<Option<T>, ReplaceRefusal<T, ItemIndex>>
-        requires { MayChange F.FnOnce f self.old.store (passes_by T.key_of (Q.stands_for query)) }
-        ensures changes { ChangesOne (shares T.key_of T.Key.eq) F.FnOnce f self.old
-            (passes_by T.key_of (Q.stands_for query)) result self.new }
+        requires { MayChange F.FnOnce f self.old.store (Q.stands_for_item query) }
+        ensures changes { ChangesOne (shares E.key_of E.eq) F.FnOnce f self.old
+            (Q.stands_for_item query) result self.new }
         ensures room { room self.new ≡ room self.old }
         ensures count { live_count self.new.store ≡ live_count self.old.store }
     {
@@ -108,14 +116,13 @@ impl<T: IdHashItem, S: BuildHasher> Map<T, IdIndex<T>, S> {
 
     /// Calls the closure with a `&mut` to the item that has the key, as `modify_at` does; if no item has the key, it
     /// returns `None` and doesn't call the closure. It is one look-up.
-    pub fn modify<Q: HashQuery<T::Key>, R, F: FnOnce(&mut T) -> R>(
+    pub fn modify<Q: ItemHashQuery<T, E>, R, F: FnOnce(&mut T) -> R>(
         &mut self,
         query: Q,
         f: F,
     ) -> Option<R>
-        requires { let named = passes_by T.key_of (Q.stands_for query) in
-            KeepsKey F.FnOnce f T.key_of (λ item. FindsItem self.old.store named (Some item)) }
-        ensures modifies { Modifies F.FnOnce f self.old (passes_by T.key_of (Q.stands_for query)) result self.new }
+        requires { KeepsKey F.FnOnce f E.key_of (λ item. FindsItem self.old.store (Q.stands_for_item query) (Some item)) }
+        ensures modifies { Modifies F.FnOnce f self.old (Q.stands_for_item query) result self.new }
         ensures room { room self.old ≤ room self.new }
     {
         self.modify_by::<Here, Q, R, F>(query, f)
@@ -130,7 +137,7 @@ impl<T: IdHashItem, S: BuildHasher> Map<T, IdIndex<T>, S> {
         &mut self,
         item: T,
     ) -> Result<(ItemIndex, Option<T>), OverwriteRefusal<T>>
-        ensures inserts { OverwritesOne (shares T.key_of T.Key.eq) most_cells self.old item result self.new }
+        ensures inserts { OverwritesOne (shares E.key_of E.eq) most_cells self.old item result self.new }
         ensures one_more { IfOk result (λ put. IfNone put.1
             (live_count self.new.store ≡ live_count self.old.store + 1)) }
         ensures as_many { IfOk result (λ put. OnSome put.1 (live_count self.new.store ≡ live_count self.old.store)) }
@@ -149,9 +156,9 @@ impl<T: IdHashItem, S: BuildHasher> Map<T, IdIndex<T>, S> {
 
     // Replaces the item at an index by one that has the same key.
     fn stand_in(&mut self, at: ItemIndex, item: T) -> Option<T>
-        requires only { AnswersScan self.old.store (shares T.key_of T.Key.eq item) (Some at) }
+        requires only { AnswersScan self.old.store (shares E.key_of E.eq item) (Some at) }
         ensures stands { (was : T) × (result ≡ Some was)
-            × OverwritesOne (shares T.key_of T.Key.eq) most_cells self.old item (Ok (at, Some was)) self.new }
+            × OverwritesOne (shares E.key_of E.eq) most_cells self.old item (Ok (at, Some was)) self.new }
         ensures count { live_count self.new.store ≡ live_count self.old.store }
         ensures room { room self.new ≡ room self.old }
     {

@@ -19,14 +19,23 @@ pub use clash::TriClash;
 pub use clones::TriHashClone;
 use iddqd::hash_builder::DefaultHashBuilder;
 use iddqd::item_index::ItemIndex;
+use iddqd_keys::hash_key::HashKey;
 pub use iddqd_keys::tri_hash_item::TriHashItem;
-pub use index::TriIndex;
+pub use index::{TriIndex, TriIndexOf};
 use std::hash::BuildHasher;
+
+/// Items under stable indexes, with three keys that are read in place. No two items share a key.
+pub type TriHashMapBy<T, A, B, C, S = DefaultHashBuilder> = Map<T, TriIndexOf<A, B, C>, S>;
 
 /// Items under stable indexes. No two items share a key.
 pub type TriHashMap<T, S = DefaultHashBuilder> = Map<T, TriIndex<T>, S>;
 
-impl<T: TriHashItem, S: BuildHasher> Map<T, TriIndex<T>, S> {
+impl<T: Drop, A, B, C, S: BuildHasher> Map<T, TriIndexOf<A, B, C>, S>
+where
+    A: HashKey<T>,
+    B: HashKey<T>,
+    C: HashKey<T>,
+{
     /// Inserts an item, and removes the items that share a key with it, at most three. It returns these by rising
     /// index, in the first places of the array.
     ///
@@ -37,8 +46,8 @@ impl<T: TriHashItem, S: BuildHasher> Map<T, TriIndex<T>, S> {
         &mut self,
         item: T,
     ) -> Result<(ItemIndex, [Option<T>; 3]), OverwriteRefusal<T>>
-        ensures inserts { OverwritesThree (shares T.first_key T.Key1.eq) (shares T.second_key T.Key2.eq)
-            (shares T.third_key T.Key3.eq) self.old item result self.new }
+        ensures inserts { OverwritesThree (shares A.key_of A.eq) (shares B.key_of B.eq)
+            (shares C.key_of C.eq) self.old item result self.new }
         ensures count { IfOk result (λ put. live_count self.new.store + count_by is_some put.1
             ≡ live_count self.old.store + 1) }
         ensures unchanged { OnErr result (self.new.store ≡ self.old.store) }

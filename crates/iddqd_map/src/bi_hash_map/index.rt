@@ -2,11 +2,9 @@
 //!
 //! A look-up by one key goes to the table by that key, and every other call to both tables. A caller's proof sees two
 //! keys and not the tables, each of which would cost proof time in every function that calls the map.
-ghost use Rattle.iddqd_keys.specs.Scan.{passes_by};
-
 use super::clash::{BiClash, both_moves, clash_of};
 use super::item::{BiHashItem, Key1, Key2};
-use crate::by_hash::ByHash;
+use crate::by_hash::ByHashOf;
 use crate::key_index::{FindsSame, First, KeyIndex, Second, UniqueAt};
 use crate::reported::{lesser, past};
 use iddqd::index_remap::IndexRemap;
@@ -15,22 +13,31 @@ use iddqd::item_index::ItemIndex;
 use iddqd::item_set::ItemSet;
 use iddqd::map_hash::MapHash;
 use iddqd_by_hash::hashed_move::Move;
-use iddqd_keys::hash_query::HashQuery;
+use iddqd_keys::hash_key::HashKey;
+use iddqd_keys::item_hash_query::ItemHashQuery;
+use iddqd_keys::key_kinds::Field;
 use std::alloc::{AllocError, Global};
 use std::hash::BuildHasher;
 
-type FirstTable<T> = ByHash<Key1, <T as BiHashItem>::Key1>;
+/// A table by each of the two keys of such items.
+pub type BiIndex<T> = BiIndexOf<
+    Field<Key1, <T as BiHashItem>::Key1>,
+    Field<Key2, <T as BiHashItem>::Key2>,
+>;
 
-type SecondTable<T> = ByHash<Key2, <T as BiHashItem>::Key2>;
-
-/// A table by each of the two keys.
+/// A table by each of two keys.
 #[derive(Drop)]
-pub struct BiIndex<T: BiHashItem> {
-    first: FirstTable<T>,
-    second: SecondTable<T>,
+pub struct BiIndexOf<A, B> {
+    first: ByHashOf<A>,
+    second: ByHashOf<B>,
 }
 
-impl<T: BiHashItem, S: BuildHasher> KeyIndex<T, S> for BiIndex<T> {
+impl<T, S, A, B> KeyIndex<T, S> for BiIndexOf<A, B>
+where
+    A: HashKey<T>,
+    B: HashKey<T>,
+    S: BuildHasher,
+{
     ghost use Rattle.std.proofs.Common.{ap, refl};
     ghost use Rattle.std.proofs.lemmas.Cmp.{and_equiv};
     ghost use Rattle.std.specs.Prelude.{◌≡◌, ◌+◌, min, false, ◌≤◌, ◌||◌};
@@ -64,18 +71,18 @@ impl<T: BiHashItem, S: BuildHasher> KeyIndex<T, S> for BiIndex<T> {
 
     type Blocks = ();
 
-    ghost Keys = { T.Key1 × T.Key2 };
+    ghost Keys = { A.Key × B.Key };
 
-    ghost keys = { pair_keys T.first_key T.second_key };
+    ghost keys = { pair_keys A.key_of B.key_of };
 
-    ghost alike = { either_key (shares T.first_key T.Key1.eq) (shares T.second_key T.Key2.eq) };
+    ghost alike = { either_key (shares A.key_of A.eq) (shares B.key_of B.eq) };
 
-    ghost same_keys = { both_keys (shares T.first_key T.Key1.eq) (shares T.second_key T.Key2.eq) };
+    ghost same_keys = { both_keys (shares A.key_of A.eq) (shares B.key_of B.eq) };
 
     ghost indexes = { λ x state s.
-        Indexes T.first_key (hashing_of T.Key1.eq T.Key1.hash_input S.BuildHasher S.Hasher.Hasher state) s
+        Indexes A.key_of (hashing_of A.eq A.hash_input S.BuildHasher S.Hasher.Hasher state) s
         (filed x.first.table)
-        × Indexes T.second_key (hashing_of T.Key2.eq T.Key2.hash_input S.BuildHasher S.Hasher.Hasher state) s
+        × Indexes B.key_of (hashing_of B.eq B.hash_input S.BuildHasher S.Hasher.Hasher state) s
         (filed x.second.table) };
 
     ghost capacity = { λ x. min (capacity x.first.table) (capacity x.second.table) };
@@ -99,9 +106,9 @@ impl<T: BiHashItem, S: BuildHasher> KeyIndex<T, S> for BiIndex<T> {
 
     ghost unique_keys = { 2 };
 
-    ghost conflicts = { AreReported (shares T.first_key T.Key1.eq) (shares T.second_key T.Key2.eq) };
+    ghost conflicts = { AreReported (shares A.key_of A.eq) (shares B.key_of B.eq) };
 
-    ghost taken = { AreTaken (shares T.first_key T.Key1.eq) (shares T.second_key T.Key2.eq) };
+    ghost taken = { AreTaken (shares A.key_of A.eq) (shares B.key_of B.eq) };
 
     ghost reports = { λ at. IsOfTwo at.key1 at.key2 };
 
@@ -110,47 +117,47 @@ impl<T: BiHashItem, S: BuildHasher> KeyIndex<T, S> for BiIndex<T> {
     ghost same_as_itself = { λ x. (refl, refl) };
 
     ghost same_indexes = { λ x y state s same is. (
-      Indexes-kept T.first_key (hashing_of T.Key1.eq T.Key1.hash_input S.BuildHasher S.Hasher.Hasher state) s
+      Indexes-kept A.key_of (hashing_of A.eq A.hash_input S.BuildHasher S.Hasher.Hasher state) s
           (filed x.first.table) (filed y.first.table) same.0 is.0,
-      Indexes-kept T.second_key (hashing_of T.Key2.eq T.Key2.hash_input S.BuildHasher S.Hasher.Hasher state) s
+      Indexes-kept B.key_of (hashing_of B.eq B.hash_input S.BuildHasher S.Hasher.Hasher state) s
           (filed x.second.table) (filed y.second.table) same.1 is.1,
     ) };
 
-    ghost apart = { λ x state s is. AreApart-either (shares T.first_key T.Key1.eq) (shares T.second_key T.Key2.eq) s
+    ghost apart = { λ x state s is. AreApart-either (shares A.key_of A.eq) (shares B.key_of B.eq) s
         is.0.in_sync.apart is.1.in_sync.apart };
 
     ghost modified = { λ x state s ix was item is live same. (
-      Indexes-key_kept T.first_key T.Key1.eq T.Key1.hash_input S.BuildHasher S.Hasher.Hasher T.Key1.Eq.laws
-          T.Key1.respects_eq state s (filed x.first.table) is.0 ix was item live (ap (λ keys. keys.0) same),
-      Indexes-key_kept T.second_key T.Key2.eq T.Key2.hash_input S.BuildHasher S.Hasher.Hasher T.Key2.Eq.laws
-          T.Key2.respects_eq state s (filed x.second.table) is.1 ix was item live (ap (λ keys. keys.1) same),
+      Indexes-key_kept A.key_of A.eq A.hash_input S.BuildHasher S.Hasher.Hasher A.laws
+          A.respects_eq state s (filed x.first.table) is.0 ix was item live (ap (λ keys. keys.0) same),
+      Indexes-key_kept B.key_of B.eq B.hash_input S.BuildHasher S.Hasher.Hasher B.laws
+          B.respects_eq state s (filed x.second.table) is.1 ix was item live (ap (λ keys. keys.1) same),
     ) };
 
-    ghost same_items = { λ x state s t same is. let first = shares T.first_key T.Key1.eq in
-        let second = shares T.second_key T.Key2.eq in (
-          Indexes-keys_shared T.first_key T.Key1.eq T.Key1.hash_input S.BuildHasher S.Hasher.Hasher T.Key1.Eq.laws
-              T.Key1.respects_eq state s (filed x.first.table) is.0 t (HaveSameKeys-first first second s t same),
-          Indexes-keys_shared T.second_key T.Key2.eq T.Key2.hash_input S.BuildHasher S.Hasher.Hasher T.Key2.Eq.laws
-              T.Key2.respects_eq state s (filed x.second.table) is.1 t
+    ghost same_items = { λ x state s t same is. let first = shares A.key_of A.eq in
+        let second = shares B.key_of B.eq in (
+          Indexes-keys_shared A.key_of A.eq A.hash_input S.BuildHasher S.Hasher.Hasher A.laws
+              A.respects_eq state s (filed x.first.table) is.0 t (HaveSameKeys-first first second s t same),
+          Indexes-keys_shared B.key_of B.eq B.hash_input S.BuildHasher S.Hasher.Hasher B.laws
+              B.respects_eq state s (filed x.second.table) is.1 t
               (HaveSameKeys-second first second s t same),
         ) };
 
-    ghost equivalence = { and_equiv (shares_laws T.first_key T.Key1.eq T.Key1.Eq.laws)
-        (shares_laws T.second_key T.Key2.eq T.Key2.Eq.laws) };
+    ghost equivalence = { and_equiv (shares_laws A.key_of A.eq A.laws)
+        (shares_laws B.key_of B.eq B.laws) };
 
-    ghost reported = { λ s item at. reported_two s item (shares T.first_key T.Key1.eq) (shares T.second_key T.Key2.eq)
+    ghost reported = { λ s item at. reported_two s item (shares A.key_of A.eq) (shares B.key_of B.eq)
         at.key1 at.key2 };
 
-    ghost reported_some = { λ s item at. some_two s item (shares T.first_key T.Key1.eq) (shares T.second_key T.Key2.eq)
+    ghost reported_some = { λ s item at. some_two s item (shares A.key_of A.eq) (shares B.key_of B.eq)
         at.key1 at.key2 };
 
     ghost few_reported = { λ at. few_two at.key1 at.key2 };
 
     ghost are_hashes = { λ state item hashes.
-        (hashes.0 ≡ (hashing_of T.Key1.eq T.Key1.hash_input S.BuildHasher S.Hasher.Hasher state).hash_of
-        (T.first_key item))
-        × (hashes.1 ≡ (hashing_of T.Key2.eq T.Key2.hash_input S.BuildHasher S.Hasher.Hasher state).hash_of
-        (T.second_key item)) };
+        (hashes.0 ≡ (hashing_of A.eq A.hash_input S.BuildHasher S.Hasher.Hasher state).hash_of
+        (A.key_of item))
+        × (hashes.1 ≡ (hashing_of B.eq B.hash_input S.BuildHasher S.Hasher.Hasher state).hash_of
+        (B.key_of item)) };
 
     ghost is_position = { λ x state s item position. Unit {0} };
 
@@ -165,8 +172,8 @@ impl<T: BiHashItem, S: BuildHasher> KeyIndex<T, S> for BiIndex<T> {
     ghost same_plans = { λ x y state s item plan same is. is };
 
     ghost is_move = { λ state s ix item plan.
-        Plans T.first_key (hashing_of T.Key1.eq T.Key1.hash_input S.BuildHasher S.Hasher.Hasher state) s ix item plan.0
-        × Plans T.second_key (hashing_of T.Key2.eq T.Key2.hash_input S.BuildHasher S.Hasher.Hasher state) s ix item
+        Plans A.key_of (hashing_of A.eq A.hash_input S.BuildHasher S.Hasher.Hasher state) s ix item plan.0
+        × Plans B.key_of (hashing_of B.eq B.hash_input S.BuildHasher S.Hasher.Hasher state) s ix item
         plan.1 };
 
     ghost moves = { λ plan. moves plan.0 || moves plan.1 };
@@ -178,22 +185,22 @@ impl<T: BiHashItem, S: BuildHasher> KeyIndex<T, S> for BiIndex<T> {
     }
 
     fn capacity(&self) -> usize {
-        let first = <FirstTable<T> as KeyIndex<T, S>>::capacity(&self.first);
-        let second = <SecondTable<T> as KeyIndex<T, S>>::capacity(&self.second);
+        let first = <ByHashOf<A> as KeyIndex<T, S>>::capacity(&self.first);
+        let second = <ByHashOf<B> as KeyIndex<T, S>>::capacity(&self.second);
         first.min(second)
     }
 
-    fn new(alloc: Global) -> BiIndex<T> {
-        BiIndex {
-            first: <FirstTable<T> as KeyIndex<T, S>>::new(alloc),
-            second: <SecondTable<T> as KeyIndex<T, S>>::new(alloc),
+    fn new(alloc: Global) -> BiIndexOf<A, B> {
+        BiIndexOf {
+            first: <ByHashOf<A> as KeyIndex<T, S>>::new(alloc),
+            second: <ByHashOf<B> as KeyIndex<T, S>>::new(alloc),
         }
     }
 
-    fn with_capacity(alloc: Global, wanted: usize) -> Result<BiIndex<T>, AllocError> {
-        let first = <FirstTable<T> as KeyIndex<T, S>>::with_capacity(alloc, wanted)?;
-        let second = <SecondTable<T> as KeyIndex<T, S>>::with_capacity(alloc, wanted)?;
-        Ok(BiIndex { first, second })
+    fn with_capacity(alloc: Global, wanted: usize) -> Result<BiIndexOf<A, B>, AllocError> {
+        let first = <ByHashOf<A> as KeyIndex<T, S>>::with_capacity(alloc, wanted)?;
+        let second = <ByHashOf<B> as KeyIndex<T, S>>::with_capacity(alloc, wanted)?;
+        Ok(BiIndexOf { first, second })
     }
 
     fn reserve(
@@ -213,8 +220,8 @@ impl<T: BiHashItem, S: BuildHasher> KeyIndex<T, S> for BiIndex<T> {
     }
 
     fn hashes(state: &S, item: &T) -> (MapHash, MapHash) {
-        let first = <FirstTable<T> as KeyIndex<T, S>>::hashes(state, item);
-        let second = <SecondTable<T> as KeyIndex<T, S>>::hashes(state, item);
+        let first = <ByHashOf<A> as KeyIndex<T, S>>::hashes(state, item);
+        let second = <ByHashOf<B> as KeyIndex<T, S>>::hashes(state, item);
         (first, second)
     }
 
@@ -238,8 +245,8 @@ impl<T: BiHashItem, S: BuildHasher> KeyIndex<T, S> for BiIndex<T> {
     }
 
     fn insert(&mut self, hashes: (MapHash, MapHash), plan: &(), blocks: (), ix: ItemIndex) {
-        <FirstTable<T> as KeyIndex<T, S>>::insert(&mut self.first, hashes.0, plan, blocks, ix);
-        <SecondTable<T> as KeyIndex<T, S>>::insert(&mut self.second, hashes.1, plan, blocks, ix);
+        <ByHashOf<A> as KeyIndex<T, S>>::insert(&mut self.first, hashes.0, plan, blocks, ix);
+        <ByHashOf<B> as KeyIndex<T, S>>::insert(&mut self.second, hashes.1, plan, blocks, ix);
     }
 
     fn next_reported(conflict: &BiClash, before: Option<ItemIndex>) -> Option<ItemIndex> {
@@ -258,13 +265,13 @@ impl<T: BiHashItem, S: BuildHasher> KeyIndex<T, S> for BiIndex<T> {
     }
 
     fn clear(&mut self) {
-        <FirstTable<T> as KeyIndex<T, S>>::clear(&mut self.first);
-        <SecondTable<T> as KeyIndex<T, S>>::clear(&mut self.second);
+        <ByHashOf<A> as KeyIndex<T, S>>::clear(&mut self.first);
+        <ByHashOf<B> as KeyIndex<T, S>>::clear(&mut self.second);
     }
 
     fn remap(&mut self, remap: &IndexRemap) {
-        <FirstTable<T> as KeyIndex<T, S>>::remap(&mut self.first, remap);
-        <SecondTable<T> as KeyIndex<T, S>>::remap(&mut self.second, remap);
+        <ByHashOf<A> as KeyIndex<T, S>>::remap(&mut self.first, remap);
+        <ByHashOf<B> as KeyIndex<T, S>>::remap(&mut self.second, remap);
     }
 
     fn plan_move(
@@ -304,15 +311,15 @@ impl<T: BiHashItem, S: BuildHasher> KeyIndex<T, S> for BiIndex<T> {
             .commit_move(items, state, known.1, &plan.1, blocks, ix, item);
     }
 
-    fn copied(&self) -> Result<BiIndex<T>, AllocError> {
-        let first = <FirstTable<T> as KeyIndex<T, S>>::copied(&self.first)?;
-        let second = <SecondTable<T> as KeyIndex<T, S>>::copied(&self.second)?;
-        Ok(BiIndex { first, second })
+    fn copied(&self) -> Result<BiIndexOf<A, B>, AllocError> {
+        let first = <ByHashOf<A> as KeyIndex<T, S>>::copied(&self.first)?;
+        let second = <ByHashOf<B> as KeyIndex<T, S>>::copied(&self.second)?;
+        Ok(BiIndexOf { first, second })
     }
 
     fn is_same(item: &T, other: &T) -> bool {
-        <FirstTable<T> as KeyIndex<T, S>>::is_same(item, other)
-            && <SecondTable<T> as KeyIndex<T, S>>::is_same(item, other)
+        <ByHashOf<A> as KeyIndex<T, S>>::is_same(item, other)
+            && <ByHashOf<B> as KeyIndex<T, S>>::is_same(item, other)
     }
 
     fn validate(
@@ -326,25 +333,36 @@ impl<T: BiHashItem, S: BuildHasher> KeyIndex<T, S> for BiIndex<T> {
     }
 }
 
-impl<T: BiHashItem, S: BuildHasher> FindsSame<T, S> for BiIndex<T> {
+impl<T, S, A, B> FindsSame<T, S> for BiIndexOf<A, B>
+where
+    A: HashKey<T>,
+    B: HashKey<T>,
+    S: BuildHasher,
+{
     ghost use Rattle.iddqd_map.specs.Map.{shares};
     ghost use Rattle.iddqd_map.specs.PairLaws.{alike_both};
 
     fn find_same(&self, items: &ItemSet<T>, state: &S, item: &T) -> Option<ItemIndex> {
         let ix = self.first.find_same(items, state, item)?;
-        if <SecondTable<T> as KeyIndex<T, S>>::is_same(item, &items[ix]) {
+        if <ByHashOf<B> as KeyIndex<T, S>>::is_same(item, &items[ix]) {
             Some(ix)
         } else {
             None
         }
     }
 
-    ghost same_are_alike = { let first = shares T.first_key T.Key1.eq in
-        alike_both first (shares T.second_key T.Key2.eq) first (λ x y same. same) (shares T.second_key T.Key2.eq) };
+    ghost same_are_alike = { let first = shares A.key_of A.eq in
+        alike_both first (shares B.key_of B.eq) first (λ x y same. same) (shares B.key_of B.eq) };
 }
 
-impl<T: BiHashItem, S: BuildHasher, Q: HashQuery<T::Key1>> UniqueAt<First, Q, T, S> for BiIndex<T> {
-    ghost stands_for = { λ query. passes_by T.first_key (Q.stands_for query) };
+impl<T, S, A, B, Q> UniqueAt<First, Q, T, S> for BiIndexOf<A, B>
+where
+    A: HashKey<T>,
+    B: HashKey<T>,
+    S: BuildHasher,
+    Q: ItemHashQuery<T, A>,
+{
+    ghost stands_for = { Q.stands_for_item };
 
     fn find(
         &self,
@@ -363,9 +381,14 @@ impl<T: BiHashItem, S: BuildHasher, Q: HashQuery<T::Key1>> UniqueAt<First, Q, T,
     }
 }
 
-impl<T: BiHashItem, S: BuildHasher, Q: HashQuery<T::Key2>> UniqueAt<Second, Q, T, S>
-    for BiIndex<T> {
-    ghost stands_for = { λ query. passes_by T.second_key (Q.stands_for query) };
+impl<T, S, A, B, Q> UniqueAt<Second, Q, T, S> for BiIndexOf<A, B>
+where
+    A: HashKey<T>,
+    B: HashKey<T>,
+    S: BuildHasher,
+    Q: ItemHashQuery<T, B>,
+{
+    ghost stands_for = { Q.stands_for_item };
 
     fn find(
         &self,

@@ -3,12 +3,11 @@
 //! A look-up by one key goes to the table by that key, and every other call to all three tables. A caller's proof sees
 //! three keys and not the tables, each of which would cost proof time in every function that calls the map.
 ghost use Rattle.std.specs.Prelude.{◌≡◌};
-ghost use Rattle.iddqd_keys.specs.Scan.{passes_by};
 ghost use Rattle.iddqd_map.specs.Map.{shares};
 ghost use Rattle.iddqd_map.specs.Several.{both_keys};
 
 use super::clash::{TriClash, all_moves, clash_of};
-use crate::by_hash::ByHash;
+use crate::by_hash::ByHashOf;
 use crate::key_index::{FindsSame, First, KeyIndex, Second, Third, UniqueAt};
 use crate::reported::{lesser, past};
 use iddqd::index_remap::IndexRemap;
@@ -17,26 +16,35 @@ use iddqd::item_index::ItemIndex;
 use iddqd::item_set::ItemSet;
 use iddqd::map_hash::MapHash;
 use iddqd_by_hash::hashed_move::Move;
-use iddqd_keys::hash_query::HashQuery;
+use iddqd_keys::hash_key::HashKey;
+use iddqd_keys::item_hash_query::ItemHashQuery;
+use iddqd_keys::key_kinds::Field;
 use iddqd_keys::tri_hash_item::{Key1, Key2, Key3, TriHashItem};
 use std::alloc::{AllocError, Global};
 use std::hash::BuildHasher;
 
-type FirstTable<T> = ByHash<Key1, <T as TriHashItem>::Key1>;
+/// A table by each of the three keys of such items.
+pub type TriIndex<T> = TriIndexOf<
+    Field<Key1, <T as TriHashItem>::Key1>,
+    Field<Key2, <T as TriHashItem>::Key2>,
+    Field<Key3, <T as TriHashItem>::Key3>,
+>;
 
-type SecondTable<T> = ByHash<Key2, <T as TriHashItem>::Key2>;
-
-type ThirdTable<T> = ByHash<Key3, <T as TriHashItem>::Key3>;
-
-/// A table by each of the three keys.
+/// A table by each of three keys.
 #[derive(Drop)]
-pub struct TriIndex<T: TriHashItem> {
-    first: FirstTable<T>,
-    second: SecondTable<T>,
-    third: ThirdTable<T>,
+pub struct TriIndexOf<A, B, C> {
+    first: ByHashOf<A>,
+    second: ByHashOf<B>,
+    third: ByHashOf<C>,
 }
 
-impl<T: TriHashItem, S: BuildHasher> KeyIndex<T, S> for TriIndex<T> {
+impl<T, S, A, B, C> KeyIndex<T, S> for TriIndexOf<A, B, C>
+where
+    A: HashKey<T>,
+    B: HashKey<T>,
+    C: HashKey<T>,
+    S: BuildHasher,
+{
     ghost use Rattle.std.proofs.Common.{ap, refl};
     ghost use Rattle.std.proofs.lemmas.Cmp.{and_equiv};
     ghost use Rattle.std.specs.Prelude.{◌≡◌, ◌+◌, min, false, ◌≤◌, ◌||◌};
@@ -70,22 +78,22 @@ impl<T: TriHashItem, S: BuildHasher> KeyIndex<T, S> for TriIndex<T> {
 
     type Blocks = ();
 
-    ghost Keys = { T.Key1 × (T.Key2 × T.Key3) };
+    ghost Keys = { A.Key × (B.Key × C.Key) };
 
-    ghost keys = { pair_keys T.first_key (pair_keys T.second_key T.third_key) };
+    ghost keys = { pair_keys A.key_of (pair_keys B.key_of C.key_of) };
 
-    ghost alike = { any_key (shares T.first_key T.Key1.eq) (shares T.second_key T.Key2.eq)
-        (shares T.third_key T.Key3.eq) };
+    ghost alike = { any_key (shares A.key_of A.eq) (shares B.key_of B.eq)
+        (shares C.key_of C.eq) };
 
-    ghost same_keys = { all_keys (shares T.first_key T.Key1.eq) (shares T.second_key T.Key2.eq)
-        (shares T.third_key T.Key3.eq) };
+    ghost same_keys = { all_keys (shares A.key_of A.eq) (shares B.key_of B.eq)
+        (shares C.key_of C.eq) };
 
     ghost indexes = { λ x state s.
-        Indexes T.first_key (hashing_of T.Key1.eq T.Key1.hash_input S.BuildHasher S.Hasher.Hasher state) s
+        Indexes A.key_of (hashing_of A.eq A.hash_input S.BuildHasher S.Hasher.Hasher state) s
         (filed x.first.table)
-        × (Indexes T.second_key (hashing_of T.Key2.eq T.Key2.hash_input S.BuildHasher S.Hasher.Hasher state) s
+        × (Indexes B.key_of (hashing_of B.eq B.hash_input S.BuildHasher S.Hasher.Hasher state) s
         (filed x.second.table)
-        × Indexes T.third_key (hashing_of T.Key3.eq T.Key3.hash_input S.BuildHasher S.Hasher.Hasher state) s
+        × Indexes C.key_of (hashing_of C.eq C.hash_input S.BuildHasher S.Hasher.Hasher state) s
         (filed x.third.table)) };
 
     ghost capacity = { λ x. min (capacity x.first.table) (min (capacity x.second.table) (capacity x.third.table)) };
@@ -110,11 +118,11 @@ impl<T: TriHashItem, S: BuildHasher> KeyIndex<T, S> for TriIndex<T> {
 
     ghost unique_keys = { 3 };
 
-    ghost conflicts = { AreReported (shares T.first_key T.Key1.eq) (shares T.second_key T.Key2.eq)
-        (shares T.third_key T.Key3.eq) };
+    ghost conflicts = { AreReported (shares A.key_of A.eq) (shares B.key_of B.eq)
+        (shares C.key_of C.eq) };
 
-    ghost taken = { AreTaken (shares T.first_key T.Key1.eq) (shares T.second_key T.Key2.eq)
-        (shares T.third_key T.Key3.eq) };
+    ghost taken = { AreTaken (shares A.key_of A.eq) (shares B.key_of B.eq)
+        (shares C.key_of C.eq) };
 
     ghost reports = { λ at. IsOfThree at.key1 at.key2 at.key3 };
 
@@ -123,69 +131,69 @@ impl<T: TriHashItem, S: BuildHasher> KeyIndex<T, S> for TriIndex<T> {
     ghost same_as_itself = { λ x. (refl, (refl, refl)) };
 
     ghost same_indexes = { λ x y state s same is. (
-      Indexes-kept T.first_key (hashing_of T.Key1.eq T.Key1.hash_input S.BuildHasher S.Hasher.Hasher state) s
+      Indexes-kept A.key_of (hashing_of A.eq A.hash_input S.BuildHasher S.Hasher.Hasher state) s
           (filed x.first.table) (filed y.first.table) same.0 is.0,
       (
-        Indexes-kept T.second_key (hashing_of T.Key2.eq T.Key2.hash_input S.BuildHasher S.Hasher.Hasher state) s
+        Indexes-kept B.key_of (hashing_of B.eq B.hash_input S.BuildHasher S.Hasher.Hasher state) s
             (filed x.second.table) (filed y.second.table) same.1.0 is.1.0,
-        Indexes-kept T.third_key (hashing_of T.Key3.eq T.Key3.hash_input S.BuildHasher S.Hasher.Hasher state) s
+        Indexes-kept C.key_of (hashing_of C.eq C.hash_input S.BuildHasher S.Hasher.Hasher state) s
             (filed x.third.table) (filed y.third.table) same.1.1 is.1.1,
       ),
     ) };
 
-    ghost apart = { λ x state s is. let second = shares T.second_key T.Key2.eq in
-        let third = shares T.third_key T.Key3.eq in
-        AreApart-either (shares T.first_key T.Key1.eq) (either_key second third) s is.0.in_sync.apart
+    ghost apart = { λ x state s is. let second = shares B.key_of B.eq in
+        let third = shares C.key_of C.eq in
+        AreApart-either (shares A.key_of A.eq) (either_key second third) s is.0.in_sync.apart
         (AreApart-either second third s is.1.0.in_sync.apart is.1.1.in_sync.apart) };
 
     ghost modified = { λ x state s ix was item is live same. (
-      Indexes-key_kept T.first_key T.Key1.eq T.Key1.hash_input S.BuildHasher S.Hasher.Hasher T.Key1.Eq.laws
-          T.Key1.respects_eq state s (filed x.first.table) is.0 ix was item live (ap (λ keys. keys.0) same),
+      Indexes-key_kept A.key_of A.eq A.hash_input S.BuildHasher S.Hasher.Hasher A.laws
+          A.respects_eq state s (filed x.first.table) is.0 ix was item live (ap (λ keys. keys.0) same),
       (
-        Indexes-key_kept T.second_key T.Key2.eq T.Key2.hash_input S.BuildHasher S.Hasher.Hasher T.Key2.Eq.laws
-            T.Key2.respects_eq state s (filed x.second.table) is.1.0 ix was item live
+        Indexes-key_kept B.key_of B.eq B.hash_input S.BuildHasher S.Hasher.Hasher B.laws
+            B.respects_eq state s (filed x.second.table) is.1.0 ix was item live
             (ap (λ keys. keys.1.0) same),
-        Indexes-key_kept T.third_key T.Key3.eq T.Key3.hash_input S.BuildHasher S.Hasher.Hasher T.Key3.Eq.laws
-            T.Key3.respects_eq state s (filed x.third.table) is.1.1 ix was item live
+        Indexes-key_kept C.key_of C.eq C.hash_input S.BuildHasher S.Hasher.Hasher C.laws
+            C.respects_eq state s (filed x.third.table) is.1.1 ix was item live
             (ap (λ keys. keys.1.1) same),
       ),
     ) };
 
-    ghost same_items = { λ x state s t same is. let first = shares T.first_key T.Key1.eq in
-        let second = shares T.second_key T.Key2.eq in let third = shares T.third_key T.Key3.eq in
+    ghost same_items = { λ x state s t same is. let first = shares A.key_of A.eq in
+        let second = shares B.key_of B.eq in let third = shares C.key_of C.eq in
         let last = HaveSameKeys-second first (both_keys second third) s t same in (
-          Indexes-keys_shared T.first_key T.Key1.eq T.Key1.hash_input S.BuildHasher S.Hasher.Hasher T.Key1.Eq.laws
-              T.Key1.respects_eq state s (filed x.first.table) is.0 t
+          Indexes-keys_shared A.key_of A.eq A.hash_input S.BuildHasher S.Hasher.Hasher A.laws
+              A.respects_eq state s (filed x.first.table) is.0 t
               (HaveSameKeys-first first (both_keys second third) s t same),
           (
-            Indexes-keys_shared T.second_key T.Key2.eq T.Key2.hash_input S.BuildHasher S.Hasher.Hasher T.Key2.Eq.laws
-                T.Key2.respects_eq state s (filed x.second.table) is.1.0 t
+            Indexes-keys_shared B.key_of B.eq B.hash_input S.BuildHasher S.Hasher.Hasher B.laws
+                B.respects_eq state s (filed x.second.table) is.1.0 t
                 (HaveSameKeys-first second third s t last),
-            Indexes-keys_shared T.third_key T.Key3.eq T.Key3.hash_input S.BuildHasher S.Hasher.Hasher T.Key3.Eq.laws
-                T.Key3.respects_eq state s (filed x.third.table) is.1.1 t
+            Indexes-keys_shared C.key_of C.eq C.hash_input S.BuildHasher S.Hasher.Hasher C.laws
+                C.respects_eq state s (filed x.third.table) is.1.1 t
                 (HaveSameKeys-second second third s t last),
           ),
         ) };
 
-    ghost equivalence = { and_equiv (shares_laws T.first_key T.Key1.eq T.Key1.Eq.laws)
-        (and_equiv (shares_laws T.second_key T.Key2.eq T.Key2.Eq.laws)
-        (shares_laws T.third_key T.Key3.eq T.Key3.Eq.laws)) };
+    ghost equivalence = { and_equiv (shares_laws A.key_of A.eq A.laws)
+        (and_equiv (shares_laws B.key_of B.eq B.laws)
+        (shares_laws C.key_of C.eq C.laws)) };
 
-    ghost reported = { λ s item. reported_three s item (shares T.first_key T.Key1.eq) (shares T.second_key T.Key2.eq)
-        (shares T.third_key T.Key3.eq) };
+    ghost reported = { λ s item. reported_three s item (shares A.key_of A.eq) (shares B.key_of B.eq)
+        (shares C.key_of C.eq) };
 
-    ghost reported_some = { λ s item. some_three s item (shares T.first_key T.Key1.eq) (shares T.second_key T.Key2.eq)
-        (shares T.third_key T.Key3.eq) };
+    ghost reported_some = { λ s item. some_three s item (shares A.key_of A.eq) (shares B.key_of B.eq)
+        (shares C.key_of C.eq) };
 
     ghost few_reported = { λ at. few_three at.key1 at.key2 at.key3 };
 
     ghost are_hashes = { λ state item hashes.
-        (hashes.0 ≡ (hashing_of T.Key1.eq T.Key1.hash_input S.BuildHasher S.Hasher.Hasher state).hash_of
-        (T.first_key item))
-        × ((hashes.1.0 ≡ (hashing_of T.Key2.eq T.Key2.hash_input S.BuildHasher S.Hasher.Hasher state).hash_of
-        (T.second_key item))
-        × (hashes.1.1 ≡ (hashing_of T.Key3.eq T.Key3.hash_input S.BuildHasher S.Hasher.Hasher state).hash_of
-        (T.third_key item))) };
+        (hashes.0 ≡ (hashing_of A.eq A.hash_input S.BuildHasher S.Hasher.Hasher state).hash_of
+        (A.key_of item))
+        × ((hashes.1.0 ≡ (hashing_of B.eq B.hash_input S.BuildHasher S.Hasher.Hasher state).hash_of
+        (B.key_of item))
+        × (hashes.1.1 ≡ (hashing_of C.eq C.hash_input S.BuildHasher S.Hasher.Hasher state).hash_of
+        (C.key_of item))) };
 
     ghost is_position = { λ x state s item position. Unit {0} };
 
@@ -201,10 +209,10 @@ impl<T: TriHashItem, S: BuildHasher> KeyIndex<T, S> for TriIndex<T> {
     ghost same_plans = { λ x y state s item plan same is. is };
 
     ghost is_move = { λ state s ix item plan.
-        Plans T.first_key (hashing_of T.Key1.eq T.Key1.hash_input S.BuildHasher S.Hasher.Hasher state) s ix item plan.0
-        × (Plans T.second_key (hashing_of T.Key2.eq T.Key2.hash_input S.BuildHasher S.Hasher.Hasher state) s ix item
+        Plans A.key_of (hashing_of A.eq A.hash_input S.BuildHasher S.Hasher.Hasher state) s ix item plan.0
+        × (Plans B.key_of (hashing_of B.eq B.hash_input S.BuildHasher S.Hasher.Hasher state) s ix item
         plan.1.0
-        × Plans T.third_key (hashing_of T.Key3.eq T.Key3.hash_input S.BuildHasher S.Hasher.Hasher state) s ix item
+        × Plans C.key_of (hashing_of C.eq C.hash_input S.BuildHasher S.Hasher.Hasher state) s ix item
         plan.1.1) };
 
     ghost moves = { λ plan. moves plan.0 || (moves plan.1.0 || moves plan.1.1) };
@@ -216,25 +224,25 @@ impl<T: TriHashItem, S: BuildHasher> KeyIndex<T, S> for TriIndex<T> {
     }
 
     fn capacity(&self) -> usize {
-        let first = <FirstTable<T> as KeyIndex<T, S>>::capacity(&self.first);
-        let second = <SecondTable<T> as KeyIndex<T, S>>::capacity(&self.second);
-        let third = <ThirdTable<T> as KeyIndex<T, S>>::capacity(&self.third);
+        let first = <ByHashOf<A> as KeyIndex<T, S>>::capacity(&self.first);
+        let second = <ByHashOf<B> as KeyIndex<T, S>>::capacity(&self.second);
+        let third = <ByHashOf<C> as KeyIndex<T, S>>::capacity(&self.third);
         first.min(second.min(third))
     }
 
-    fn new(alloc: Global) -> TriIndex<T> {
-        TriIndex {
-            first: <FirstTable<T> as KeyIndex<T, S>>::new(alloc),
-            second: <SecondTable<T> as KeyIndex<T, S>>::new(alloc),
-            third: <ThirdTable<T> as KeyIndex<T, S>>::new(alloc),
+    fn new(alloc: Global) -> TriIndexOf<A, B, C> {
+        TriIndexOf {
+            first: <ByHashOf<A> as KeyIndex<T, S>>::new(alloc),
+            second: <ByHashOf<B> as KeyIndex<T, S>>::new(alloc),
+            third: <ByHashOf<C> as KeyIndex<T, S>>::new(alloc),
         }
     }
 
-    fn with_capacity(alloc: Global, wanted: usize) -> Result<TriIndex<T>, AllocError> {
-        let first = <FirstTable<T> as KeyIndex<T, S>>::with_capacity(alloc, wanted)?;
-        let second = <SecondTable<T> as KeyIndex<T, S>>::with_capacity(alloc, wanted)?;
-        let third = <ThirdTable<T> as KeyIndex<T, S>>::with_capacity(alloc, wanted)?;
-        Ok(TriIndex {
+    fn with_capacity(alloc: Global, wanted: usize) -> Result<TriIndexOf<A, B, C>, AllocError> {
+        let first = <ByHashOf<A> as KeyIndex<T, S>>::with_capacity(alloc, wanted)?;
+        let second = <ByHashOf<B> as KeyIndex<T, S>>::with_capacity(alloc, wanted)?;
+        let third = <ByHashOf<C> as KeyIndex<T, S>>::with_capacity(alloc, wanted)?;
+        Ok(TriIndexOf {
             first,
             second,
             third,
@@ -260,9 +268,9 @@ impl<T: TriHashItem, S: BuildHasher> KeyIndex<T, S> for TriIndex<T> {
     }
 
     fn hashes(state: &S, item: &T) -> (MapHash, (MapHash, MapHash)) {
-        let first = <FirstTable<T> as KeyIndex<T, S>>::hashes(state, item);
-        let second = <SecondTable<T> as KeyIndex<T, S>>::hashes(state, item);
-        let third = <ThirdTable<T> as KeyIndex<T, S>>::hashes(state, item);
+        let first = <ByHashOf<A> as KeyIndex<T, S>>::hashes(state, item);
+        let second = <ByHashOf<B> as KeyIndex<T, S>>::hashes(state, item);
+        let third = <ByHashOf<C> as KeyIndex<T, S>>::hashes(state, item);
         (first, (second, third))
     }
 
@@ -294,9 +302,9 @@ impl<T: TriHashItem, S: BuildHasher> KeyIndex<T, S> for TriIndex<T> {
         blocks: (),
         ix: ItemIndex,
     ) {
-        <FirstTable<T> as KeyIndex<T, S>>::insert(&mut self.first, hashes.0, plan, blocks, ix);
-        <SecondTable<T> as KeyIndex<T, S>>::insert(&mut self.second, hashes.1.0, plan, blocks, ix);
-        <ThirdTable<T> as KeyIndex<T, S>>::insert(&mut self.third, hashes.1.1, plan, blocks, ix);
+        <ByHashOf<A> as KeyIndex<T, S>>::insert(&mut self.first, hashes.0, plan, blocks, ix);
+        <ByHashOf<B> as KeyIndex<T, S>>::insert(&mut self.second, hashes.1.0, plan, blocks, ix);
+        <ByHashOf<C> as KeyIndex<T, S>>::insert(&mut self.third, hashes.1.1, plan, blocks, ix);
     }
 
     fn next_reported(conflict: &TriClash, before: Option<ItemIndex>) -> Option<ItemIndex> {
@@ -323,15 +331,15 @@ impl<T: TriHashItem, S: BuildHasher> KeyIndex<T, S> for TriIndex<T> {
     }
 
     fn clear(&mut self) {
-        <FirstTable<T> as KeyIndex<T, S>>::clear(&mut self.first);
-        <SecondTable<T> as KeyIndex<T, S>>::clear(&mut self.second);
-        <ThirdTable<T> as KeyIndex<T, S>>::clear(&mut self.third);
+        <ByHashOf<A> as KeyIndex<T, S>>::clear(&mut self.first);
+        <ByHashOf<B> as KeyIndex<T, S>>::clear(&mut self.second);
+        <ByHashOf<C> as KeyIndex<T, S>>::clear(&mut self.third);
     }
 
     fn remap(&mut self, remap: &IndexRemap) {
-        <FirstTable<T> as KeyIndex<T, S>>::remap(&mut self.first, remap);
-        <SecondTable<T> as KeyIndex<T, S>>::remap(&mut self.second, remap);
-        <ThirdTable<T> as KeyIndex<T, S>>::remap(&mut self.third, remap);
+        <ByHashOf<A> as KeyIndex<T, S>>::remap(&mut self.first, remap);
+        <ByHashOf<B> as KeyIndex<T, S>>::remap(&mut self.second, remap);
+        <ByHashOf<C> as KeyIndex<T, S>>::remap(&mut self.third, remap);
     }
 
     fn plan_move(
@@ -374,11 +382,11 @@ impl<T: TriHashItem, S: BuildHasher> KeyIndex<T, S> for TriIndex<T> {
             .commit_move(items, state, known.1.1, &plan.1.1, blocks, ix, item);
     }
 
-    fn copied(&self) -> Result<TriIndex<T>, AllocError> {
-        let first = <FirstTable<T> as KeyIndex<T, S>>::copied(&self.first)?;
-        let second = <SecondTable<T> as KeyIndex<T, S>>::copied(&self.second)?;
-        let third = <ThirdTable<T> as KeyIndex<T, S>>::copied(&self.third)?;
-        Ok(TriIndex {
+    fn copied(&self) -> Result<TriIndexOf<A, B, C>, AllocError> {
+        let first = <ByHashOf<A> as KeyIndex<T, S>>::copied(&self.first)?;
+        let second = <ByHashOf<B> as KeyIndex<T, S>>::copied(&self.second)?;
+        let third = <ByHashOf<C> as KeyIndex<T, S>>::copied(&self.third)?;
+        Ok(TriIndexOf {
             first,
             second,
             third,
@@ -386,9 +394,9 @@ impl<T: TriHashItem, S: BuildHasher> KeyIndex<T, S> for TriIndex<T> {
     }
 
     fn is_same(item: &T, other: &T) -> bool {
-        <FirstTable<T> as KeyIndex<T, S>>::is_same(item, other)
-            && <SecondTable<T> as KeyIndex<T, S>>::is_same(item, other)
-            && <ThirdTable<T> as KeyIndex<T, S>>::is_same(item, other)
+        <ByHashOf<A> as KeyIndex<T, S>>::is_same(item, other)
+            && <ByHashOf<B> as KeyIndex<T, S>>::is_same(item, other)
+            && <ByHashOf<C> as KeyIndex<T, S>>::is_same(item, other)
     }
 
     fn validate(
@@ -403,35 +411,47 @@ impl<T: TriHashItem, S: BuildHasher> KeyIndex<T, S> for TriIndex<T> {
     }
 }
 
-impl<T: TriHashItem, S: BuildHasher> FindsSame<T, S> for TriIndex<T> {
+impl<T, S, A, B, C> FindsSame<T, S> for TriIndexOf<A, B, C>
+where
+    A: HashKey<T>,
+    B: HashKey<T>,
+    C: HashKey<T>,
+    S: BuildHasher,
+{
     ghost use Rattle.iddqd_map.specs.Map.{shares};
     ghost use Rattle.iddqd_map.specs.PairLaws.{alike_both};
     ghost use Rattle.iddqd_map.specs.Several.{either_key, both_keys};
 
     fn find_same(&self, items: &ItemSet<T>, state: &S, item: &T) -> Option<ItemIndex> {
         let ix = self.first.find_same(items, state, item)?;
-        if shares_later_keys(item, &items[ix]) {
+        if shares_later_keys::<T, B, C>(item, &items[ix]) {
             Some(ix)
         } else {
             None
         }
     }
 
-    ghost same_are_alike = { let first = shares T.first_key T.Key1.eq in
-        let second = shares T.second_key T.Key2.eq in let third = shares T.third_key T.Key3.eq in
+    ghost same_are_alike = { let first = shares A.key_of A.eq in
+        let second = shares B.key_of B.eq in let third = shares C.key_of C.eq in
         alike_both first (both_keys second third) first (λ x y same. same) (either_key second third) };
 }
 
 // Whether the items share their second and their third key.
-fn shares_later_keys<T: TriHashItem>(item: &T, other: &T) -> bool
-    ensures { result ≡ both_keys (shares T.second_key T.Key2.eq) (shares T.third_key T.Key3.eq) item.now other.now }
+fn shares_later_keys<T, B: HashKey<T>, C: HashKey<T>>(item: &T, other: &T) -> bool
+    ensures { result ≡ both_keys (shares B.key_of B.eq) (shares C.key_of C.eq) item.now other.now }
 {
-    *item.key2() == *other.key2() && *item.key3() == *other.key3()
+    B::is_same(item, other) && C::is_same(item, other)
 }
 
-impl<T: TriHashItem, S: BuildHasher, Q: HashQuery<T::Key1>> UniqueAt<First, Q, T, S>
-    for TriIndex<T> {
-    ghost stands_for = { λ query. passes_by T.first_key (Q.stands_for query) };
+impl<T, S, A, B, C, Q> UniqueAt<First, Q, T, S> for TriIndexOf<A, B, C>
+where
+    A: HashKey<T>,
+    B: HashKey<T>,
+    C: HashKey<T>,
+    S: BuildHasher,
+    Q: ItemHashQuery<T, A>,
+{
+    ghost stands_for = { Q.stands_for_item };
 
     fn find(
         &self,
@@ -454,9 +474,15 @@ impl<T: TriHashItem, S: BuildHasher, Q: HashQuery<T::Key1>> UniqueAt<First, Q, T
     }
 }
 
-impl<T: TriHashItem, S: BuildHasher, Q: HashQuery<T::Key2>> UniqueAt<Second, Q, T, S>
-    for TriIndex<T> {
-    ghost stands_for = { λ query. passes_by T.second_key (Q.stands_for query) };
+impl<T, S, A, B, C, Q> UniqueAt<Second, Q, T, S> for TriIndexOf<A, B, C>
+where
+    A: HashKey<T>,
+    B: HashKey<T>,
+    C: HashKey<T>,
+    S: BuildHasher,
+    Q: ItemHashQuery<T, B>,
+{
+    ghost stands_for = { Q.stands_for_item };
 
     fn find(
         &self,
@@ -479,9 +505,15 @@ impl<T: TriHashItem, S: BuildHasher, Q: HashQuery<T::Key2>> UniqueAt<Second, Q, 
     }
 }
 
-impl<T: TriHashItem, S: BuildHasher, Q: HashQuery<T::Key3>> UniqueAt<Third, Q, T, S>
-    for TriIndex<T> {
-    ghost stands_for = { λ query. passes_by T.third_key (Q.stands_for query) };
+impl<T, S, A, B, C, Q> UniqueAt<Third, Q, T, S> for TriIndexOf<A, B, C>
+where
+    A: HashKey<T>,
+    B: HashKey<T>,
+    C: HashKey<T>,
+    S: BuildHasher,
+    Q: ItemHashQuery<T, C>,
+{
+    ghost stands_for = { Q.stands_for_item };
 
     fn find(
         &self,

@@ -1,11 +1,16 @@
-use Rattle.iddqd_by_hash.specs.Hashed.{Hashing, hashing_of}
+use Rattle.std.specs.Ordering.{on}
+use Rattle.iddqd_hash.specs.MapHashTable.{filed}
+use Rattle.iddqd_by_hash.proofs.HashedItemLemmas.{IsInSync-items, item_hashing}
 use Rattle.iddqd_map.proofs.IndexingLemmas.{StandsForOne-query}
 use Rattle.iddqd_map.proofs.hashed_query.find_under.Goals as goal
 
 pub returns : goal.returns
 returns g c =
+    let key_of = g.E.HashKey.key_of in
+    let equal = g.E.HashKey.eq in
+    let fed = g.E.HashKey.hash_input in
     let state = c.args.state.now in
-    let hashing : Hashing _ = hashing_of g.E.Key.PartialEq.eq g.E.Key.Hash.hash_input g.S.BuildHasher g.S.Hasher.Hasher state in
     let query = c.args.query in
-    let one = StandsForOne-query g.E.Key.PartialEq.eq g.E.Key.Hash.hash_input g.S.BuildHasher g.S.Hasher.Hasher state (g.Q.Hash.hash_input query) (g.Q.HashQuery.stands_for query) (g.met.Q.HashQuery.same_hash query) (g.met.Q.HashQuery.same_key query) in
-    c.find.ensures.as_scan hashing (rw c.requires.hash one) c.requires.indexed.in_sync
+    let one = StandsForOne-query (on key_of equal) (λ (x : g.row.T.Denot). fed (key_of x)) g.S.BuildHasher g.S.Hasher.Hasher state (g.Q.Hash.hash_input query) (g.Q.ItemHashQuery.stands_for_item query) (g.met.Q.ItemHashQuery.same_item_hash query) (g.met.Q.ItemHashQuery.same_item_key query) in
+    c.find.ensures.as_scan (item_hashing key_of equal fed g.S.BuildHasher g.S.Hasher.Hasher state) (rw c.requires.hash one)
+    (IsInSync-items key_of equal fed g.S.BuildHasher g.S.Hasher.Hasher state c.args.items.now.store (filed c.args.table.now) c.requires.indexed.in_sync)
