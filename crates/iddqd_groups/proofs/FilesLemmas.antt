@@ -10,7 +10,10 @@ use Rattle.iddqd.proofs.CompactionLemmas.{slot_count-compacted, live_count-compa
 use Rattle.iddqd.proofs.StoreLemmas.{contains_head}
 use Rattle.iddqd_hash.specs.MapHashTable.{Renames}
 use Rattle.iddqd_keys.specs.Scan.{IsHit, passes_by}
-use Rattle.iddqd_by_hash.specs.Hashed.{Hashing, Holds, IsLawful, StandsForOne}
+use Rattle.std.specs.declared.hash.Hasher as hasher
+use Rattle.std.specs.declared.hash.BuildHasher as builder
+use Rattle.iddqd_by_hash.specs.Hashed.{Hashing, hashing_of, Holds, IsLawful, StandsForOne}
+use Rattle.iddqd_by_hash.proofs.HashedItemLemmas.{item_hashing}
 use Rattle.iddqd_groups.specs.HashedGroup.{IsGroupOf}
 use Rattle.iddqd_by_hash.specs.HashedMove.{moved}
 use Rattle.iddqd_by_hash.specs.declared.hashed_move.Move.{Move}
@@ -232,3 +235,14 @@ module _ {T K : Type 0} (key_of : T → K) (hashing : Hashing K) where
       moves_unlike (To hash) ((y, is, differs), hashed) was live =
           let one : y ≡ was = (let e : Some y ≡ Some was = sym is ∙ live in cc) in
           rw (← one) (sym differs)
+
+-- a table that files a store by keys files it by items
+module _
+    {T K S H : Type 0} (key_of : T → K) (equal : K → K → Bool) (fed : K → List (List ℕ)) (b : builder.Ghosts S H)
+    (h : hasher.Ghosts H) (state : S)
+  where
+    pub Files-items :
+        (s : Store T) (m : FinMap nat_cmp ℕ)
+        → Files key_of (hashing_of equal fed b h state) s m
+        → Files (λ x. x) (item_hashing key_of equal fed b h state) s m
+    Files-items s m o = record { held = o.held; placed = o.placed }

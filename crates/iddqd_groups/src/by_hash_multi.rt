@@ -19,7 +19,7 @@ ghost use Rattle.std.specs.Prelude.{◌≡◌, ◌↔◌, false};
 ghost use Rattle.iddqd.specs.{live_count};
 ghost use Rattle.iddqd_by_hash.specs.Hashed.{hashing_of};
 ghost use Rattle.iddqd_map.specs.Groups.{AreHits, CountsHits};
-ghost use Rattle.iddqd_keys.specs.Scan.{HasNoHit, passes_by};
+ghost use Rattle.iddqd_keys.specs.Scan.{HasNoHit};
 
 use crate::group_query::{count_by, find_any, find_other, group_by};
 pub use crate::hashed_group::Group;
@@ -30,16 +30,17 @@ use iddqd::internal::{ValidateCompact, ValidateRefusal, ValidationError};
 use iddqd::item_index::ItemIndex;
 use iddqd::item_set::ItemSet;
 use iddqd::map_hash::MapHash;
-use iddqd_by_hash::hashed::hash_of;
+use iddqd_by_hash::hashed_item::hash_of;
 use iddqd_by_hash::hashed_move::Move;
-use iddqd_keys::hash_query::{AsEquivalent, HashQuery};
-use iddqd_keys::key_of::KeyOf;
+use iddqd_keys::hash_key::HashKey;
+use iddqd_keys::item_hash_query::ItemHashQuery;
+use iddqd_keys::key_kinds::Field;
 use iddqd_map::grouped_at::GroupedAt;
 use iddqd_map::hashed_plan::move_of;
 use iddqd_map::key_index::{Here, KeyIndex};
 pub use iddqd_map::no_conflict::NoConflict;
 use std::alloc::{AllocError, Global};
-use std::hash::{BuildHasher, Hash};
+use std::hash::BuildHasher;
 use std::marker::PhantomData;
 
 /// A table of hashes by the key that `E` names, which several items may have.
@@ -48,14 +49,16 @@ use std::marker::PhantomData;
 /// `make_room`, `shrink_to`, `copied` and `validate`, which sorts a copy of the indexes, take memory, and only they can
 /// run out of it. An insert and a removal cost the same however many indexes stand under the same hash.
 #[derive(Drop)]
-pub struct ByHashMulti<E, K> {
+pub struct ByHashMultiOf<E> {
     // Each live index, under the hash of its item's key. The slots that have a link are those of the store.
     table: LinkedTable,
     of: PhantomData<E>,
-    by: PhantomData<K>,
 }
 
-impl<E, K> ByHashMulti<E, K> {
+/// A table of hashes by the field, a `K`, that `E` borrows from the item. Several items may have it.
+pub type ByHashMulti<E, K> = ByHashMultiOf<Field<E, K>>;
+
+impl<E> ByHashMultiOf<E> {
     /// The indexes whose items have the key for which the query stands, each once, in no order that a caller can rely
     /// on.
     ///
@@ -65,14 +68,13 @@ impl<E, K> ByHashMulti<E, K> {
         items: &'a ItemSet<T>,
         state: &S,
         query: Q,
-    ) -> Group<'a, T, E, AsEquivalent<Q>>
+    ) -> Group<'a, T, E, Q>
     where
-        E: KeyOf<T, Key = K>,
-        K: Eq + Hash + Drop,
+        E: HashKey<T>,
         S: BuildHasher,
-        Q: HashQuery<K>,
-        requires { ⟦<ByHashMulti<E, K> as KeyIndex<T, S>>⟧.indexes self.now state.now items.now.store }
-        ensures hits { AreHits items.now.store (passes_by E.key_of (Q.stands_for query)) result.rest }
+        Q: ItemHashQuery<T, E>,
+        requires { ⟦<ByHashMultiOf<E> as KeyIndex<T, S>>⟧.indexes self.now state.now items.now.store }
+        ensures hits { AreHits items.now.store (Q.stands_for_item query) result.rest }
         ensures bound { result.bound ≡ live_count items.now.store }
     {
         group_by::<T, E, S, Q>(&self.table, items, state, query)
@@ -83,12 +85,11 @@ impl<E, K> ByHashMulti<E, K> {
     /// It costs a step for each item of the group: no count is stored.
     pub fn count_of<T, S, Q>(&self, items: &ItemSet<T>, state: &S, query: Q) -> usize
     where
-        E: KeyOf<T, Key = K>,
-        K: Eq + Hash + Drop,
+        E: HashKey<T>,
         S: BuildHasher,
-        Q: HashQuery<K>,
-        requires { ⟦<ByHashMulti<E, K> as KeyIndex<T, S>>⟧.indexes self.now state.now items.now.store }
-        ensures { CountsHits items.now.store (passes_by E.key_of (Q.stands_for query)) result }
+        Q: ItemHashQuery<T, E>,
+        requires { ⟦<ByHashMultiOf<E> as KeyIndex<T, S>>⟧.indexes self.now state.now items.now.store }
+        ensures { CountsHits items.now.store (Q.stands_for_item query) result }
     {
         count_by::<T, E, S, Q>(&self.table, items, state, query)
     }
@@ -96,22 +97,20 @@ impl<E, K> ByHashMulti<E, K> {
     /// Whether an item has the key for which the query stands, by one look-up.
     pub fn contains_key<T, S, Q>(&self, items: &ItemSet<T>, state: &S, query: Q) -> bool
     where
-        E: KeyOf<T, Key = K>,
-        K: Eq + Hash + Drop,
+        E: HashKey<T>,
         S: BuildHasher,
-        Q: HashQuery<K>,
-        requires { ⟦<ByHashMulti<E, K> as KeyIndex<T, S>>⟧.indexes self.now state.now items.now.store }
-        ensures { (result ≡ false) ↔ HasNoHit items.now.store (passes_by E.key_of (Q.stands_for query)) }
+        Q: ItemHashQuery<T, E>,
+        requires { ⟦<ByHashMultiOf<E> as KeyIndex<T, S>>⟧.indexes self.now state.now items.now.store }
+        ensures { (result ≡ false) ↔ HasNoHit items.now.store (Q.stands_for_item query) }
     {
         let found = find_any::<T, E, S, Q>(&self.table, items, state, query);
         found.is_some()
     }
 }
 
-impl<T, S, E, K> KeyIndex<T, S> for ByHashMulti<E, K>
+impl<T, S, E> KeyIndex<T, S> for ByHashMultiOf<E>
 where
-    E: KeyOf<T, Key = K>,
-    K: Eq + Hash + Drop,
+    E: HashKey<T>,
     S: BuildHasher,
 {
     ghost use Rattle.std.proofs.Common.{refl};
@@ -142,15 +141,15 @@ where
 
     type Blocks = ();
 
-    ghost Keys = { K };
+    ghost Keys = { E.Key };
 
     ghost keys = { E.key_of };
 
     ghost alike = { never_alike };
 
-    ghost same_keys = { shares E.key_of K.eq };
+    ghost same_keys = { shares E.key_of E.eq };
 
-    ghost indexes = { λ x state s. FilesWithin E.key_of (hashing_of K.eq K.hash_input S.BuildHasher
+    ghost indexes = { λ x state s. FilesWithin E.key_of (hashing_of E.eq E.hash_input S.BuildHasher
         S.Hasher.Hasher state) s x.table };
 
     ghost capacity = { λ x. x.table.capacity };
@@ -184,18 +183,18 @@ where
 
     ghost same_as_itself = { λ x. record { filed = refl; slots = refl } };
 
-    ghost same_indexes = { λ x y state s same is. FilesWithin-kept E.key_of (hashing_of K.eq K.hash_input S.BuildHasher
+    ghost same_indexes = { λ x y state s same is. FilesWithin-kept E.key_of (hashing_of E.eq E.hash_input S.BuildHasher
         S.Hasher.Hasher state) s x.table y.table same is };
 
     ghost apart = { λ x state s is. never_apart s };
 
-    ghost modified = { λ x state s ix was item is. FilesWithin-key_kept E.key_of K.eq K.hash_input
-        S.BuildHasher S.Hasher.Hasher K.Eq.laws K.respects_eq state s x.table is ix was item };
+    ghost modified = { λ x state s ix was item is. FilesWithin-key_kept E.key_of E.eq E.hash_input
+        S.BuildHasher S.Hasher.Hasher E.laws E.respects_eq state s x.table is ix was item };
 
-    ghost same_items = { λ x state s t have is. FilesWithin-keys_shared E.key_of K.eq K.hash_input
-        S.BuildHasher S.Hasher.Hasher K.Eq.laws K.respects_eq state s x.table is t have };
+    ghost same_items = { λ x state s t have is. FilesWithin-keys_shared E.key_of E.eq E.hash_input
+        S.BuildHasher S.Hasher.Hasher E.laws E.respects_eq state s x.table is t have };
 
-    ghost equivalence = { shares_laws E.key_of K.eq K.Eq.laws };
+    ghost equivalence = { shares_laws E.key_of E.eq E.laws };
 
     ghost reported = { λ s item at conflicts ix. absurd conflicts };
 
@@ -203,7 +202,7 @@ where
 
     ghost few_reported = { λ at. none_named };
 
-    ghost are_hashes = { λ state item hash. hash ≡ (hashing_of K.eq K.hash_input S.BuildHasher
+    ghost are_hashes = { λ state item hash. hash ≡ (hashing_of E.eq E.hash_input S.BuildHasher
         S.Hasher.Hasher state).hash_of (E.key_of item) };
 
     ghost is_position = { λ x state s item position. Unit {0} };
@@ -218,7 +217,7 @@ where
 
     ghost same_plans = { λ x y state s item plan same is. is };
 
-    ghost is_move = { λ state s ix item plan. IsMoveFor E.key_of (hashing_of K.eq K.hash_input S.BuildHasher
+    ghost is_move = { λ state s ix item plan. IsMoveFor E.key_of (hashing_of E.eq E.hash_input S.BuildHasher
         S.Hasher.Hasher state) s ix item plan };
 
     ghost moves = { moves };
@@ -231,19 +230,17 @@ where
         self.table.capacity()
     }
 
-    fn new(alloc: Global) -> ByHashMulti<E, K> {
-        ByHashMulti {
+    fn new(alloc: Global) -> ByHashMultiOf<E> {
+        ByHashMultiOf {
             table: LinkedTable::new(alloc),
             of: PhantomData,
-            by: PhantomData,
         }
     }
 
-    fn with_capacity(alloc: Global, wanted: usize) -> Result<ByHashMulti<E, K>, AllocError> {
-        Ok(ByHashMulti {
+    fn with_capacity(alloc: Global, wanted: usize) -> Result<ByHashMultiOf<E>, AllocError> {
+        Ok(ByHashMultiOf {
             table: LinkedTable::with_capacity(alloc, wanted)?,
             of: PhantomData,
-            by: PhantomData,
         })
     }
 
@@ -333,16 +330,15 @@ where
         linked_steps::commit_move(&mut self.table, items, plan, ix);
     }
 
-    fn copied(&self) -> Result<ByHashMulti<E, K>, AllocError> {
-        Ok(ByHashMulti {
+    fn copied(&self) -> Result<ByHashMultiOf<E>, AllocError> {
+        Ok(ByHashMultiOf {
             table: self.table.clone()?,
             of: PhantomData,
-            by: PhantomData,
         })
     }
 
     fn is_same(item: &T, other: &T) -> bool {
-        *E::key(item) == *E::key(other)
+        E::is_same(item, other)
     }
 
     fn validate(
@@ -355,14 +351,13 @@ where
     }
 }
 
-impl<T, S, E, K, Q> GroupedAt<Here, Q, T, S> for ByHashMulti<E, K>
+impl<T, S, E, Q> GroupedAt<Here, Q, T, S> for ByHashMultiOf<E>
 where
-    E: KeyOf<T, Key = K>,
-    K: Eq + Hash + Drop,
+    E: HashKey<T>,
     S: BuildHasher,
-    Q: HashQuery<K>,
+    Q: ItemHashQuery<T, E>,
 {
-    ghost stands_for = { λ query. passes_by E.key_of (Q.stands_for query) };
+    ghost stands_for = { Q.stands_for_item };
 
     fn find_any(&self, items: &ItemSet<T>, state: &S, query: Q) -> Option<ItemIndex> {
         find_any::<T, E, S, Q>(&self.table, items, state, query)

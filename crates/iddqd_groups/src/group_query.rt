@@ -1,7 +1,7 @@
 //! Look-ups by any query in a linked table that indexes a store: several items may have the key.
 ghost use Rattle.std.specs.Prelude.{◌≡◌};
 ghost use Rattle.iddqd.specs.{live_count};
-ghost use Rattle.iddqd_keys.specs.Scan.{IsHit, passes_by};
+ghost use Rattle.iddqd_keys.specs.Scan.{IsHit};
 ghost use Rattle.iddqd_by_hash.specs.Hashed.{hashing_of};
 ghost use Rattle.iddqd_map.specs.Files.{Files};
 ghost use Rattle.iddqd_map.specs.Groups.{AreHits, CountsHits, FindsOther, FindsSome};
@@ -11,9 +11,9 @@ use crate::linked_table::LinkedTable;
 use iddqd::item_index::ItemIndex;
 use iddqd::item_set::ItemSet;
 use iddqd_by_hash::hashed::query_hash;
-use iddqd_keys::hash_query::{AsEquivalent, HashQuery};
-use iddqd_keys::key_of::{KeyOf, key_at};
-use std::hash::{BuildHasher, Hash};
+use iddqd_keys::hash_key::HashKey;
+use iddqd_keys::item_hash_query::ItemHashQuery;
+use std::hash::BuildHasher;
 
 /// The index of some item that has the key for which the query stands. Several items may have it.
 pub fn find_any<T, E, S, Q>(
@@ -23,13 +23,12 @@ pub fn find_any<T, E, S, Q>(
     query: Q,
 ) -> Option<ItemIndex>
 where
-    E: KeyOf<T>,
-    E::Key: Eq + Hash,
+    E: HashKey<T>,
     S: BuildHasher,
-    Q: HashQuery<E::Key>,
-    requires { Files E.key_of (hashing_of E.Key.eq E.Key.hash_input S.BuildHasher S.Hasher.Hasher state.now)
+    Q: ItemHashQuery<T, E>,
+    requires { Files E.key_of (hashing_of E.eq E.hash_input S.BuildHasher S.Hasher.Hasher state.now)
         items.now.store table.now.filed }
-    ensures { FindsSome items.now.store (passes_by E.key_of (Q.stands_for query)) result }
+    ensures { FindsSome items.now.store (Q.stands_for_item query) result }
 {
     let mut group = group_by::<T, E, S, Q>(table, items, state, query);
     group.next()
@@ -47,20 +46,19 @@ pub fn find_other<T, E, S, Q>(
     ix: ItemIndex,
 ) -> Option<ItemIndex>
 where
-    E: KeyOf<T>,
-    E::Key: Eq + Hash,
+    E: HashKey<T>,
     S: BuildHasher,
-    Q: HashQuery<E::Key>,
-    requires files { Files E.key_of (hashing_of E.Key.eq E.Key.hash_input S.BuildHasher S.Hasher.Hasher state.now)
+    Q: ItemHashQuery<T, E>,
+    requires files { Files E.key_of (hashing_of E.eq E.hash_input S.BuildHasher S.Hasher.Hasher state.now)
         items.now.store table.now.filed }
-    requires hit { IsHit items.now.store (passes_by E.key_of (Q.stands_for query)) ix }
-    ensures { FindsOther items.now.store (passes_by E.key_of (Q.stands_for query)) ix result }
+    requires hit { IsHit items.now.store (Q.stands_for_item query) ix }
+    ensures { FindsOther items.now.store (Q.stands_for_item query) ix result }
 {
     let near = match table.neighbour_of(ix) {
         Some(near) => near,
         None => return None,
     };
-    if query.stands_for(key_at::<T, E>(items, near)) {
+    if query.stands_for_item(&items[near]) {
         return Some(near);
     }
     let mut group = group_by::<T, E, S, Q>(table, items, state, query);
@@ -82,31 +80,29 @@ pub fn group_by<'t, T, E, S, Q>(
     items: &'t ItemSet<T>,
     state: &S,
     query: Q,
-) -> Group<'t, T, E, AsEquivalent<Q>>
+) -> Group<'t, T, E, Q>
 where
-    E: KeyOf<T>,
-    E::Key: Eq + Hash,
+    E: HashKey<T>,
     S: BuildHasher,
-    Q: HashQuery<E::Key>,
-    requires { Files E.key_of (hashing_of E.Key.eq E.Key.hash_input S.BuildHasher S.Hasher.Hasher state.now)
+    Q: ItemHashQuery<T, E>,
+    requires { Files E.key_of (hashing_of E.eq E.hash_input S.BuildHasher S.Hasher.Hasher state.now)
         items.now.store table.now.filed }
-    ensures hits { AreHits items.now.store (passes_by E.key_of (Q.stands_for query)) result.rest }
+    ensures hits { AreHits items.now.store (Q.stands_for_item query) result.rest }
     ensures bound { result.bound ≡ live_count items.now.store }
 {
     let hash = query_hash(state, query);
-    group_of::<T, E, AsEquivalent<Q>>(table, items, hash, AsEquivalent(query))
+    group_of::<T, E, Q>(table, items, hash, query)
 }
 
 /// How many items have the key for which the query stands. It goes over all of them.
 pub fn count_by<T, E, S, Q>(table: &LinkedTable, items: &ItemSet<T>, state: &S, query: Q) -> usize
 where
-    E: KeyOf<T>,
-    E::Key: Eq + Hash,
+    E: HashKey<T>,
     S: BuildHasher,
-    Q: HashQuery<E::Key>,
-    requires { Files E.key_of (hashing_of E.Key.eq E.Key.hash_input S.BuildHasher S.Hasher.Hasher state.now)
+    Q: ItemHashQuery<T, E>,
+    requires { Files E.key_of (hashing_of E.eq E.hash_input S.BuildHasher S.Hasher.Hasher state.now)
         items.now.store table.now.filed }
-    ensures { CountsHits items.now.store (passes_by E.key_of (Q.stands_for query)) result }
+    ensures { CountsHits items.now.store (Q.stands_for_item query) result }
 {
     let group = group_by::<T, E, S, Q>(table, items, state, query);
     // The bound has 64 bits, so the count fits.

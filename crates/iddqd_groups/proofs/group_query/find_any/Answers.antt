@@ -1,8 +1,7 @@
-use Rattle.iddqd_keys.specs.Scan.{passes_by}
 use Rattle.iddqd_groups.proofs.GroupLemmas.{FindsSome-first}
 use Rattle.iddqd_groups.proofs.group_query.find_any.Goals as goal
 
 pub returns : goal.returns
 returns g c =
-    FindsSome-first (passes_by g.E.KeyOf.key_of (g.Q.HashQuery.stands_for c.args.query)) c.args.items.now.store c.group_by-group.result.rest c.next.result c.next.new.self.rest
+    FindsSome-first (g.Q.ItemHashQuery.stands_for_item c.args.query) c.args.items.now.store c.group_by-group.result.rest c.next.result c.next.new.self.rest
     c.group_by-group.ensures.hits c.next.ensures.steps

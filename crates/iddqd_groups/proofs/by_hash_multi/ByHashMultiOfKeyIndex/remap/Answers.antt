@@ -1,5 +1,5 @@
 use Rattle.iddqd_groups.proofs.FilesLemmas.{FilesWithin-compacted}
-use Rattle.iddqd_groups.proofs.by_hash_multi.ByHashMultiKeyIndex.remap.Goals as goal
+use Rattle.iddqd_groups.proofs.by_hash_multi.ByHashMultiOfKeyIndex.remap.Goals as goal
 
 pub remap-requires : goal.remap-requires
 remap-requires g c =

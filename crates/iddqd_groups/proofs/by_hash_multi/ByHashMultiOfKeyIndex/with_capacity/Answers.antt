@@ -1,5 +1,5 @@
 use Rattle.iddqd_groups.proofs.FilesLemmas.{FilesWithin-empty}
-use Rattle.iddqd_groups.proofs.by_hash_multi.ByHashMultiKeyIndex.with_capacity.Goals as goal
+use Rattle.iddqd_groups.proofs.by_hash_multi.ByHashMultiOfKeyIndex.with_capacity.Goals as goal
 
 pub returns-clause-none : goal.returns-clause-none
 returns-clause-none g c = λ state limit.

@@ -1,6 +1,6 @@
 use Rattle.iddqd_by_hash.proofs.HoldsLemmas.{next_unfiled}
 use Rattle.iddqd_groups.proofs.FilesLemmas.{FilesWithin-inserted, next_in_turn}
-use Rattle.iddqd_groups.proofs.by_hash_multi.ByHashMultiKeyIndex.insert.Goals as goal
+use Rattle.iddqd_groups.proofs.by_hash_multi.ByHashMultiOfKeyIndex.insert.Goals as goal
 
 pub insert-requires-clause-in_turn : goal.insert-requires-clause-in_turn
 insert-requires-clause-in_turn g c = λ past.

@@ -1,5 +1,5 @@
 use Rattle.iddqd_groups.proofs.FilesLemmas.{room_beside}
-use Rattle.iddqd_groups.proofs.by_hash_multi.ByHashMultiKeyIndex.make_room.Goals as goal
+use Rattle.iddqd_groups.proofs.by_hash_multi.ByHashMultiOfKeyIndex.make_room.Goals as goal
 
 pub returns-clause-ready : goal.returns-clause-ready
 returns-clause-ready g c =

@@ -1,7 +1,7 @@
 use Rattle.std.proofs.Common.{arith}
 use Rattle.iddqd.proofs.LiveLemmas.{item_at}
 use Rattle.iddqd_groups.proofs.FilesLemmas.{FilesWithin-removed}
-use Rattle.iddqd_groups.proofs.by_hash_multi.ByHashMultiKeyIndex.remove.Goals as goal
+use Rattle.iddqd_groups.proofs.by_hash_multi.ByHashMultiOfKeyIndex.remove.Goals as goal
 
 pub remove-requires : goal.remove-requires
 remove-requires g c = (c.requires.indexed.files.held c.args.ix).1 c.requires.live
