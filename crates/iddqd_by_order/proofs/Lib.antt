@@ -1,3 +1,4 @@
+pub mod ItemLemmas
 pub mod OrderedFindLemmas
 pub mod OrderedHoldsLemmas
 pub mod OrderedPlaceLemmas

@@ -19,7 +19,7 @@ use Rattle.iddqd_order.specs.Search as search
 use Rattle.iddqd_order.specs.Search.{IsSteady, IsSteadyRising, IsRising, with_ties}
 use Rattle.iddqd_order.proofs.KeyOrderLemmas.{IsRising-from_query}
 use Rattle.iddqd_keys.specs.Scan.{IsHit, HasNoHit, passes_by}
-use Rattle.iddqd_keys.specs.OrderedQuery.{IsQuery}
+use Rattle.iddqd_keys.specs.OrderedQuery.{FitsOrder, IsQuery}
 use Rattle.iddqd_by_order.specs.Ordered.{Holds, IsInPlace, Finds, LooksUp, IsEntryOf, IsVacantAt, is_equal, compared, key_at}
 use Rattle.iddqd_keys.proofs.ScanLemmas.{AnswersScan-hit}
 
@@ -40,8 +40,16 @@ module _ {K : Type 0} (compare : K → K → Ordering) where
     one_key = λ a b one other. sym (as_key a b ((equal a).1 one)) ∙ other;
   }
 
-  -- the same along optional keys, none first
-  module _ (comparing : K → Ordering) (query : IsQuery compare comparing) where
+  -- such a query fits the order
+  pub FitsOrder-lawful : (comparing : K → Ordering) → IsQuery compare comparing → FitsOrder compare comparing
+  FitsOrder-lawful comparing query = record {
+    less_after = query.less_after;
+    greater_before = query.greater_before;
+    equal_keys = query.equal_keys;
+  }
+
+  -- the laws of a query that fits the order, along optional keys, none first
+  module _ (comparing : K → Ordering) (fits : FitsOrder compare comparing) where
     less_after :
         (a b : Option K)
         → option_cmp compare a b ≡ Less
@@ -49,7 +57,7 @@ module _ {K : Type 0} (compare : K → K → Ordering) where
         → compared comparing b ≡ Less
     less_after None b before less = cc
     less_after (Some a) None before less = cc
-    less_after (Some a) (Some b) before less = query.less_after a b before less
+    less_after (Some a) (Some b) before less = fits.less_after a b before less
 
     greater_before :
         (a b : Option K)
@@ -58,21 +66,21 @@ module _ {K : Type 0} (compare : K → K → Ordering) where
         → compared comparing a ≡ Greater
     greater_before None b before greater = refl
     greater_before (Some a) None before greater = cc
-    greater_before (Some a) (Some b) before greater = query.greater_before a b before greater
+    greater_before (Some a) (Some b) before greater = fits.greater_before a b before greater
 
     equal_keys : (a b : Option K) → option_cmp compare a b ≡ Equal → compared comparing a ≡ compared comparing b
     equal_keys None None same = refl
     equal_keys None (Some b) same = cc
     equal_keys (Some a) None same = cc
-    equal_keys (Some a) (Some b) same = query.equal_keys a b same
+    equal_keys (Some a) (Some b) same = fits.equal_keys a b same
 
     -- so along a list in order the answers rise
-    pub IsRising-query :
+    pub IsRising-fitting :
         IsTotalOrder compare
         → (key : ℕ → Option K) (order : List ℕ)
         → IsInKeyOrder (option_cmp compare) key order
         → IsRising (with_ties None (λ ix. compared comparing (key ix))) order
-    IsRising-query total key order sorted =
+    IsRising-fitting total key order sorted =
         IsRising-from_query (options_total total) key (compared comparing) less_after greater_before equal_keys order (λ ix. compared comparing (key ix)) sorted (λ k d within. refl)
 
 module _
@@ -110,27 +118,37 @@ module _
       equal_miss none ix (item, is, passed) =
           All-contains (λ j. answer j ≢ Equal) order ix none ((holds.each ix).1 (live_at s ix item is)) (answer_at ix item is ∙ (Equal-is _).0 passed)
 
-      -- what a find or an entry of the table tells, where each answer reads as the comparison of the query with the key
+      -- what a find of the table tells, where each answer reads as the comparison of the query with the key
       module _
           {F R : Type 0} (g : Mut F (ℕ × Unit {0}) R) (read : R → Ordering) (old new : Asking F)
-          (total : IsTotalOrder compare) (query : IsQuery compare comparing)
+          (total : IsTotalOrder compare) (fits : FitsOrder compare comparing)
           (steady : IsSteady g order None read answer old)
         where
           rises : IsInPlace key_of compare s order → IsSteadyRising g order None read answer old
-          rises placed = record { steady = steady; rising = IsRising-query compare comparing query total (key_at key_of s) order placed }
+          rises placed = record { steady = steady; rising = IsRising-fitting compare comparing fits total (key_at key_of s) order placed }
 
-          Finds-from_finds :
+          pub Finds-from_finds :
               (r : Option ℕ)
               → search.Finds g read order old r new
               → Finds key_of compare s order comparing r
           Finds-from_finds None finds = λ placed. equal_miss (finds.miss answer (rises placed) refl)
           Finds-from_finds (Some ix) finds = equal_hit ix finds.stored (finds.hit answer steady)
 
+      -- the same, and what an entry tells, where the query stands for one key
+      module _
+          {F R : Type 0} (g : Mut F (ℕ × Unit {0}) R) (read : R → Ordering) (old new : Asking F)
+          (total : IsTotalOrder compare) (query : IsQuery compare comparing)
+          (steady : IsSteady g order None read answer old)
+        where
+          rises_by : IsInPlace key_of compare s order → IsSteadyRising g order None read answer old
+          rises_by = rises g read old new total (FitsOrder-lawful compare comparing query) steady
+
           pub LooksUp-from_finds :
               (r : Option ℕ)
               → search.Finds g read order old r new
               → LooksUp key_of compare s order comparing r
-          LooksUp-from_finds r finds = LooksUp-found query r (Finds-from_finds r finds)
+          LooksUp-from_finds r finds =
+              LooksUp-found query r (Finds-from_finds g read old new total (FitsOrder-lawful compare comparing query) steady r finds)
 
           pub IsEntryOf-from_table :
               (e : Entry)
@@ -139,9 +157,9 @@ module _
           IsEntryOf-from_table (Occupied entry) enters =
               LooksUp-found query (Some _) (equal_hit _ enters.stored (enters.hit answer steady))
           IsEntryOf-from_table (Vacant entry) enters = record {
-            missed = LooksUp-found query None (λ placed. equal_miss (enters.miss answer (rises placed)));
+            missed = LooksUp-found query None (λ placed. equal_miss (enters.miss answer (rises_by placed)));
             within = enters.within;
-            is_place = λ placed. enters.place answer (rises placed);
+            is_place = λ placed. enters.place answer (rises_by placed);
           }
 
           -- the same of a place that isn't lent
@@ -159,7 +177,7 @@ module _
               → ((a : ℕ → Ordering) → IsSteadyRising g order None read a old → All (λ ix. a ix ≢ Equal) order)
               → IsVacantAt key_of compare s order comparing place
           IsVacantAt-placed place within is_place miss = record {
-            missed = LooksUp-found query None (λ placed. equal_miss (miss answer (rises placed)));
+            missed = LooksUp-found query None (λ placed. equal_miss (miss answer (rises_by placed)));
             within = within;
-            is_place = λ placed. is_place answer (rises placed);
+            is_place = λ placed. is_place answer (rises_by placed);
           }

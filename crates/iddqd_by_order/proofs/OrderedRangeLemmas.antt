@@ -19,11 +19,11 @@ use Rattle.iddqd_order.specs.Range.{Begins, Ends, WalksBetween, indexes_ahead}
 use Rattle.iddqd_order.specs.Search.{IsSteady, IsSteadyRising, IsPlace}
 use Rattle.iddqd_order.specs.declared.btree_table.asking.Asking.{Asking}
 use Rattle.iddqd_order.specs.declared.btree_table.range.Range.{Range}
-use Rattle.iddqd_keys.specs.OrderedQuery.{IsQuery, is_from, is_up_to, is_between}
+use Rattle.iddqd_keys.specs.OrderedQuery.{FitsOrder, is_from, is_up_to, is_between}
 use Rattle.iddqd_by_order.specs.Ordered.{Holds, IsInPlace, compared, key_at}
 use Rattle.iddqd_by_order.specs.OrderedWalk.{SortsWithin}
 use Rattle.iddqd_by_order.specs.OrderedWalk.{WalksWithin}
-use Rattle.iddqd_by_order.proofs.OrderedFindLemmas.{answer_at, IsRising-query}
+use Rattle.iddqd_by_order.proofs.OrderedFindLemmas.{answer_at, IsRising-fitting}
 use Rattle.iddqd_by_order.proofs.OrderedWalkLemmas.{IsRunOf-part, Contains-run, IsDistinct-run}
 
 -- a bound that is read in two steps
@@ -158,7 +158,7 @@ module _
 
       module _
           {F : Type 0} (g : Mut F (ℕ × Unit {0}) (Bor K)) (old new : Asking F) (total : IsTotalOrder compare)
-          (lawful : (q : Q) → IsQuery compare (cmp q))
+          (fits : (q : Q) → FitsOrder compare (cmp q))
           (steady : (q : Q) → IsSteady g order None (λ k. cmp q k.now) (answers q) old)
         where
           abbrev reads : Bound Q → Bound (Bor K → Ordering)
@@ -168,7 +168,7 @@ module _
             rising : (q : Q) → IsSteadyRising g order None (λ k. cmp q k.now) (answers q) old
             rising q = record {
               steady = steady q;
-              rising = IsRising-query compare (cmp q) (lawful q) total (key_at key_of s) order placed;
+              rising = IsRising-fitting compare (cmp q) (fits q) total (key_at key_of s) order placed;
             }
 
             begins_at :

@@ -15,6 +15,10 @@ pub use Rattle.iddqd_keys.specs.OrderedQuery.{is_equal}
 use Rattle.iddqd_keys.specs.Scan.{IsLive, IsHit, HasNoHit, passes_by}
 use Rattle.iddqd_keys.specs.AnyTable.{HasExactly, TableIsInSync, TableKeeps, TableLooksUp}
 
+-- an item in place of its key: items themselves are compared
+abbrev pub itself : {T : Type 0} → T → T
+itself item = item
+
 -- `new` is `old` without the index that a look-up found, or `old` itself if it found none
 abbrev pub Takes : List ℕ → Option ℕ → List ℕ → Type 0
 Takes old (Some ix) new = new ≡ without old ix

@@ -4,6 +4,8 @@
 #![tactic(auto)]
 
 mod borrowed_key_query;
+mod item_bound;
 pub mod ordered;
+pub mod ordered_item;
 pub mod ordered_next;
 pub mod ordered_walk;

@@ -5,6 +5,7 @@
 //! table and the store all the while; here nothing is borrowed between two steps. A spot of the table says how far the
 //! caller has come, so that only the first step searches.
 ghost use Rattle.std.specs.Prelude.{◌≡◌, ℕ, true, IfSome};
+ghost use Rattle.std.specs.Ordering.{on};
 ghost use Rattle.std.specs.Range.Bound.{bound_map};
 ghost use Rattle.std.specs.declared.ops.Bound.{Bound};
 ghost use Rattle.iddqd_order.specs.{capacity, order_of, without};
@@ -12,15 +13,16 @@ ghost use Rattle.iddqd_order.specs.MapBTreeTable.{IsSpot};
 ghost use Rattle.iddqd_order.specs.Spot.{StandsAt, spot_index};
 ghost use Rattle.iddqd_keys.specs.KeyWalk.{IsNextHit};
 ghost use Rattle.iddqd_keys.specs.OrderedQuery.{is_up_to, is_within};
-ghost use Rattle.iddqd_keys.specs.Scan.{IsKeyAt, IsLive, passes_by};
-ghost use Rattle.iddqd_by_order.specs.Ordered.{IsSortedScan};
+ghost use Rattle.iddqd_keys.specs.Scan.{IsKeyAt, IsLive};
+ghost use Rattle.iddqd_by_order.specs.Ordered.{IsSortedScan, itself};
 ghost use Rattle.iddqd_by_order.specs.OrderedWalk.{FindsFirst};
 
-use crate::ordered::by_borrowed_key;
+use crate::item_bound::by_item;
+use crate::ordered_item::item_at;
 use iddqd::item_index::ItemIndex;
 use iddqd::item_set::ItemSet;
-use iddqd_keys::key_of::{KeyOf, key_at};
-use iddqd_keys::order_query::OrdQuery;
+use iddqd_keys::item_order_query::ItemRangeQuery;
+use iddqd_keys::order_key::OrdKey;
 use iddqd_order::btree_table::{Asking, MapBTreeTable, Spot};
 use std::cmp::Ordering;
 use std::ops::Bound;
@@ -36,16 +38,15 @@ pub fn first_between<T, E, Q>(
     upper: Bound<Q>,
 ) -> Option<(ItemIndex, Spot)>
 where
-    E: KeyOf<T>,
-    E::Key: Ord,
-    Q: OrdQuery<E::Key>,
-    requires { IsSortedScan E.key_of E.Key.cmp items.now.store (order_of table.now) }
-    ensures first { let within = is_within Q.compare lower upper in
-        FindsFirst E.key_of E.Key.cmp within items.now.store result }
+    E: OrdKey<T>,
+    Q: ItemRangeQuery<T, E>,
+    requires { IsSortedScan E.key_of E.cmp items.now.store (order_of table.now) }
+    ensures first { let within = is_within Q.compare_item lower upper in
+        FindsFirst itself (on E.key_of E.cmp) within items.now.store result }
     ensures spot { IfSome result (λ r. StandsAt table.now r.1 r.0) }
 {
     let (first, spot) = first_from::<T, E, Q>(table, items, lower)?;
-    if is_up_to::<E::Key, Q>(upper, key_at::<T, E>(items, first)) {
+    if is_up_to::<T, E, Q>(upper, item_at(items, first)) {
         Some((first, spot))
     } else {
         None
@@ -59,22 +60,21 @@ fn first_from<T, E, Q>(
     lower: Bound<Q>,
 ) -> Option<(ItemIndex, Spot)>
 where
-    E: KeyOf<T>,
-    E::Key: Ord,
-    Q: OrdQuery<E::Key>,
-    requires { IsSortedScan E.key_of E.Key.cmp items.now.store (order_of table.now) }
-    ensures first { let from = is_within Q.compare lower Bound.Unbounded in
-        FindsFirst E.key_of E.Key.cmp from items.now.store result }
+    E: OrdKey<T>,
+    Q: ItemRangeQuery<T, E>,
+    requires { IsSortedScan E.key_of E.cmp items.now.store (order_of table.now) }
+    ensures first { let from = is_within Q.compare_item lower Bound.Unbounded in
+        FindsFirst itself (on E.key_of E.cmp) from items.now.store result }
     ensures spot { IfSome result (λ r. StandsAt table.now r.1 r.0) }
 {
     let mut asking = Asking::new(
         |at: ItemIndex|
             requires { IsLive items.now.store at }
-            ensures { IsKeyAt E.key_of items.entry.now.store at result.now }
-        { key_at::<T, E>(items, at) },
+            ensures { IsKeyAt itself items.entry.now.store at result.now }
+        { item_at(items, at) },
     );
-    let from = by_borrowed_key(lower);
-    table.first_from(from.as_ref(), &mut asking)
+    let from = by_item::<E, Q>(lower);
+    table.first_from_reading(from.as_ref(), &mut asking)
 }
 
 /// Moves the spot of a live index to the next one behind it, by key and then by index, and returns that index, if its
@@ -88,13 +88,12 @@ pub fn next_between<T, E, Q>(
     upper: Bound<Q>,
 ) -> Option<ItemIndex>
 where
-    E: KeyOf<T>,
-    E::Key: Ord,
-    Q: OrdQuery<E::Key>,
+    E: OrdKey<T>,
+    Q: ItemRangeQuery<T, E>,
     requires spot { IsSpot table.now spot.old }
-    requires sorted { IsSortedScan E.key_of E.Key.cmp items.now.store (order_of table.now) }
-    ensures next { IsNextHit E.key_of E.Key.cmp items.now.store
-        (passes_by E.key_of (is_up_to (bound_map Q.compare upper))) (spot_index table.now spot.old) result }
+    requires sorted { IsSortedScan E.key_of E.cmp items.now.store (order_of table.now) }
+    ensures next { IsNextHit itself (on E.key_of E.cmp) items.now.store
+        (is_up_to (bound_map Q.compare_item upper)) (spot_index table.now spot.old) result }
     ensures spot { IfSome result (λ next. StandsAt table.now spot.new next) }
 {
     let next = table.step(spot);
@@ -112,13 +111,12 @@ pub fn take_between<T, E, Q>(
     upper: Bound<Q>,
 ) -> Option<ItemIndex>
 where
-    E: KeyOf<T>,
-    E::Key: Ord,
-    Q: OrdQuery<E::Key>,
+    E: OrdKey<T>,
+    Q: ItemRangeQuery<T, E>,
     requires spot { IsSpot table.old spot.old }
-    requires sorted { IsSortedScan E.key_of E.Key.cmp items.now.store (order_of table.old) }
-    ensures next { IsNextHit E.key_of E.Key.cmp items.now.store
-        (passes_by E.key_of (is_up_to (bound_map Q.compare upper))) (spot_index table.old spot.old) result }
+    requires sorted { IsSortedScan E.key_of E.cmp items.now.store (order_of table.old) }
+    ensures next { IsNextHit itself (on E.key_of E.cmp) items.now.store
+        (is_up_to (bound_map Q.compare_item upper)) (spot_index table.old spot.old) result }
     ensures spot { IfSome result (λ next. StandsAt table.new spot.new next) }
     ensures taken { order_of table.new ≡ without (order_of table.old) (spot_index table.old spot.old) }
     ensures memory { capacity table.new ≡ capacity table.old }
@@ -135,30 +133,32 @@ fn if_up_to<T, E, Q>(
     upper: Bound<Q>,
 ) -> Option<ItemIndex>
 where
-    E: KeyOf<T>,
-    E::Key: Ord,
-    Q: OrdQuery<E::Key>,
+    E: OrdKey<T>,
+    Q: ItemRangeQuery<T, E>,
     requires { IfSome next (IsLive items.now.store) }
-    ensures next { (after : ℕ) → IsNextHit E.key_of E.Key.cmp items.now.store (λ _. true) after next →
-        IsNextHit E.key_of E.Key.cmp items.now.store (passes_by E.key_of (is_up_to (bound_map Q.compare upper)))
+    ensures next { (after : ℕ) → IsNextHit itself (on E.key_of E.cmp) items.now.store (λ _. true) after next →
+        IsNextHit itself (on E.key_of E.cmp) items.now.store (is_up_to (bound_map Q.compare_item upper))
         after result }
     ensures same { IfSome result (λ ix. next ≡ Some ix) }
 {
     let ix = next?;
-    if is_up_to::<E::Key, Q>(upper, key_at::<T, E>(items, ix)) {
+    if is_up_to::<T, E, Q>(upper, item_at(items, ix)) {
         Some(ix)
     } else {
         None
     }
 }
 
-// Whether a key is within an upper bound.
-fn is_up_to<K: Ord, Q: OrdQuery<K>>(upper: Bound<Q>, key: &K) -> bool
-    ensures { result ≡ is_up_to (bound_map Q.compare upper) key.now }
+// Whether an item is within an upper bound.
+fn is_up_to<T, E, Q>(upper: Bound<Q>, item: &T) -> bool
+where
+    E: OrdKey<T>,
+    Q: ItemRangeQuery<T, E>,
+    ensures { result ≡ is_up_to (bound_map Q.compare_item upper) item.now }
 {
     match upper {
-        Bound::Included(query) => query.compare(key) != Ordering::Less,
-        Bound::Excluded(query) => query.compare(key) == Ordering::Greater,
+        Bound::Included(query) => query.compare_item(item) != Ordering::Less,
+        Bound::Excluded(query) => query.compare_item(item) == Ordering::Greater,
         Bound::Unbounded => true,
     }
 }

@@ -1,7 +1,33 @@
 -- For callers. What stands between two bounds is what is within both.
 use Rattle.iddqd_order.proofs.Names.{◌≡◌, ℕ, zero, suc, ◌-◌, Bool, not, List, [], ◌∷◌, take, drop, filter, refl, sym, ap, ◌∙◌, arith, Ordering, Less, Greater, IsPlace, part}
 use Rattle.std.specs.Prelude.{◌&&◌}
+use Rattle.std.specs.Borrow.{Bor}
 use Rattle.std.specs.Ordering.{is_gt}
+use Rattle.std.specs.Range.Bound.{bound_map}
+use Rattle.std.specs.declared.ops.Bound.{Bound}
+use Rattle.std.specs.declared.ops.Bound.TheVariants.{Included, Excluded, Unbounded}
+use Rattle.iddqd_order.specs.Range.{bound_reading}
+use Rattle.iddqd_order.specs.declared.btree_table.reading.ByQuery.{ByQuery}
+
+bound_map-twice :
+    {A B C : Type 0} (g : B → C) (f : A → B) (b : Bound A)
+    → bound_map g (bound_map f b) ≡ bound_map (λ x. g (f x)) b
+bound_map-twice g f (Included x) = refl
+bound_map-twice g f (Excluded x) = refl
+bound_map-twice g f Unbounded = refl
+
+-- a borrowed bound by a query reads a key as the query compares with it
+pub reads_by_query :
+    {Q K : Type 0} (compare : Q → K → Ordering) (lent : Bound (Bor (ByQuery Q))) (own : Bound (ByQuery Q))
+    (bound : Bound (Bor Q))
+    → bound_map (λ by. by.now) lent ≡ own
+    → bound_map (λ (by : ByQuery Q). by.0) own ≡ bound
+    → bound_reading (λ by k. compare by.0.now k) lent ≡ bound_reading compare bound
+reads_by_query {Q} {K} compare lent own bound is_own is_bound =
+    let read : Bor Q → K → Ordering = λ q. compare q.now in
+    sym (bound_map-twice (λ (by : ByQuery Q). read by.0) (λ (by : Bor (ByQuery Q)). by.now) lent)
+    ∙ ap (bound_map (λ (by : ByQuery Q). read by.0)) is_own
+    ∙ sym (bound_map-twice read (λ (by : ByQuery Q). by.0) own) ∙ ap (bound_map read) is_bound
 
 -- whether an index stands behind the lower bound and before the upper one
 abbrev pub is_within : (ℕ → Ordering) → (ℕ → Ordering) → ℕ → Bool

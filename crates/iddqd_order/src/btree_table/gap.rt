@@ -11,7 +11,7 @@ ghost use Rattle.iddqd_order.specs.Search.{CanSearch, TwoSearchesAsk};
 use crate::btree_table::asking::Asking;
 use crate::btree_table::blocks::Blocks;
 use crate::btree_table::path::Path;
-use crate::btree_table::reading::{AsOrdering, ByKey};
+use crate::btree_table::reading::{AsOrdering, ByKey, Reads};
 use crate::btree_table::table::MapBTreeTable;
 use iddqd::item_index::ItemIndex;
 use std::alloc::AllocError;
@@ -121,7 +121,28 @@ impl MapBTreeTable {
             (order_of self.new) }
         ensures memory { capacity self.new ≡ capacity self.old }
     {
-        self.remove_by_search(ix, asking, &ByKey(old_key));
-        self.insert_again(ix, asking, &ByKey(new_key), blocks);
+        self.move_index_reading(ix, &ByKey(old_key), &ByKey(new_key), asking, blocks);
+    }
+
+    /// The same as `move_index`, where `leaving` and `entering` read an answer as the old key and the new one compare
+    /// with it.
+    pub fn move_index_reading<R, H: Reads<R>, F: FnMut(ItemIndex) -> R>(
+        &mut self,
+        ix: ItemIndex,
+        leaving: &H,
+        entering: &H,
+        asking: &mut Asking<F>,
+        blocks: Blocks,
+    )
+        requires stored { Contains (order_of self.old) ix }
+        requires can_search { CanSearch F.FnMut (order_of self.old) (Some ix) asking.old }
+        requires enough { move_blocks self.old ≤ blocks }
+        ensures asked { TwoSearchesAsk F.FnMut (order_of self.old) (Some ix) asking.old asking.new }
+        ensures moved { PutsIn F.FnMut (H.reading entering.now) (without (order_of self.old) ix) ix asking.old
+            (order_of self.new) }
+        ensures memory { capacity self.new ≡ capacity self.old }
+    {
+        self.remove_by_search(ix, asking, leaving);
+        self.insert_again(ix, asking, entering, blocks);
     }
 }

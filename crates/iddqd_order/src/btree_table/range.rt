@@ -23,7 +23,7 @@ use crate::btree_table::cursor::{Cursor, End};
 use crate::btree_table::front::Start;
 use crate::btree_table::node::Node;
 use crate::btree_table::path::Path;
-use crate::btree_table::reading::{AsOrdering, ByQuery, Reads, Unequal};
+use crate::btree_table::reading::{AsOrdering, ByQuery, Reads, Unequal, by_query};
 use crate::btree_table::table::MapBTreeTable;
 use iddqd::item_index::ItemIndex;
 use iddqd::map_hash::Comparable;
@@ -242,6 +242,23 @@ impl MapBTreeTable {
         ensures { WalksBetween F.FnMut (order_of self.now) (bound_reading Q.compare lower.entry)
             (bound_reading Q.compare upper.entry) asking.old result asking.new }
     {
+        let (from, to) = (by_query(lower), by_query(upper));
+        self.range_reading(from.as_ref(), to.as_ref(), asking)
+    }
+
+    /// The same as `range`, where each bound says itself how it reads an answer.
+    ///
+    /// A bound may be Equal at keys that differ, as a query for the first of several keys is.
+    pub fn range_reading<R, H: Reads<R>, F: FnMut(ItemIndex) -> R>(
+        &self,
+        lower: Bound<&H>,
+        upper: Bound<&H>,
+        asking: &mut Asking<F>,
+    ) -> Range<'_>
+        requires { CanSearch F.FnMut (order_of self.now) None asking.old }
+        ensures { WalksBetween F.FnMut (order_of self.now) (bound_reading H.reading lower.entry)
+            (bound_reading H.reading upper.entry) asking.old result asking.new }
+    {
         let front = self.find_lower(lower, asking);
         let back = self.find_upper(upper, asking);
         self.walk_between(&front, &back)
@@ -265,39 +282,39 @@ impl MapBTreeTable {
     }
 
     // The path to the gap where a range with this lower bound begins.
-    pub(super) fn find_lower<K: Ord + Drop, Q: Comparable<K>, F: FnMut(ItemIndex) -> K>(
+    pub(super) fn find_lower<R, H: Reads<R>, F: FnMut(ItemIndex) -> R>(
         &self,
-        lower: Bound<&Q>,
+        lower: Bound<&H>,
         asking: &mut Asking<F>,
     ) -> Path
         requires { CanSearch F.FnMut (order_of self.now) None asking.old }
         ensures goes { ReachesGapIn self.now.root self.now.height result }
         ensures asked { SearchAsks F.FnMut (order_of self.now) None asking.old asking.new }
-        ensures begins { Begins F.FnMut (order_of self.now) (bound_reading Q.compare lower.entry) asking.old
+        ensures begins { Begins F.FnMut (order_of self.now) (bound_reading H.reading lower.entry) asking.old
             (place_in self.now.root self.now.height result) }
     {
         match lower {
-            Bound::Included(query) => self.find_bound(asking, &ByQuery(query), Ordering::Less),
-            Bound::Excluded(query) => self.find_bound(asking, &ByQuery(query), Ordering::Greater),
+            Bound::Included(how) => self.find_bound(asking, how, Ordering::Less),
+            Bound::Excluded(how) => self.find_bound(asking, how, Ordering::Greater),
             Bound::Unbounded => self.end_path(End::Front),
         }
     }
 
     // The path to the gap where a range with this upper bound ends.
-    fn find_upper<K: Ord + Drop, Q: Comparable<K>, F: FnMut(ItemIndex) -> K>(
+    fn find_upper<R, H: Reads<R>, F: FnMut(ItemIndex) -> R>(
         &self,
-        upper: Bound<&Q>,
+        upper: Bound<&H>,
         asking: &mut Asking<F>,
     ) -> Path
         requires { CanSearch F.FnMut (order_of self.now) None asking.old }
         ensures goes { ReachesGapIn self.now.root self.now.height result }
         ensures asked { SearchAsks F.FnMut (order_of self.now) None asking.old asking.new }
-        ensures ends { Ends F.FnMut (order_of self.now) (bound_reading Q.compare upper.entry) asking.old
+        ensures ends { Ends F.FnMut (order_of self.now) (bound_reading H.reading upper.entry) asking.old
             (place_in self.now.root self.now.height result) }
     {
         match upper {
-            Bound::Included(query) => self.find_bound(asking, &ByQuery(query), Ordering::Greater),
-            Bound::Excluded(query) => self.find_bound(asking, &ByQuery(query), Ordering::Less),
+            Bound::Included(how) => self.find_bound(asking, how, Ordering::Greater),
+            Bound::Excluded(how) => self.find_bound(asking, how, Ordering::Less),
             Bound::Unbounded => self.end_path(End::Back),
         }
     }

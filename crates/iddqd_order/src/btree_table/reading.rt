@@ -2,14 +2,19 @@
 ghost use Rattle.std.specs.Prelude.{◌≡◌};
 ghost use Rattle.std.specs.declared.cmp.Ordering.{Ordering};
 ghost use Rattle.std.specs.Ordering.{ordering_then};
+ghost use Rattle.std.specs.Range.Bound.{bound_map};
 
 use iddqd::map_hash::Comparable;
 use std::cmp::Ordering;
+use std::ops::Bound;
 
-// Reads an answer about a stored index as an `Ordering`. Less means that what is sought stands before the index.
-pub(crate) trait Reads<R> {
+/// Reads an answer about a stored index as an `Ordering`. Less means that what is sought stands before the index.
+///
+/// Implement it for a bound of a range whose query is no [`Comparable`]: one that may be Equal at keys that differ.
+pub trait Reads<R> {
     ghost reading: { Self → R → Ordering };
 
+    /// Reads an answer.
     fn read(&self, answer: R) -> Ordering
         ensures { result ≡ reading self.now answer };
 }
@@ -35,6 +40,17 @@ impl<'a, K: Ord + Drop, Q: Comparable<K>> Reads<K> for ByQuery<'a, Q> {
 
     fn read(&self, answer: K) -> Ordering {
         self.0.compare(&answer)
+    }
+}
+
+// The same bound, by a query.
+pub(super) fn by_query<Q>(bound: Bound<&Q>) -> Bound<ByQuery<'_, Q>>
+    ensures { bound_map (λ by. by.0) result ≡ bound.entry }
+{
+    match bound {
+        Bound::Included(query) => Bound::Included(ByQuery(query)),
+        Bound::Excluded(query) => Bound::Excluded(ByQuery(query)),
+        Bound::Unbounded => Bound::Unbounded,
     }
 }
 

@@ -16,6 +16,7 @@ ghost use Rattle.iddqd_order.specs.Tree.{ReachesGapIn, ReachesIndexIn, place_at_
 use crate::btree_table::asking::Asking;
 use crate::btree_table::node::Node;
 use crate::btree_table::path::Path;
+use crate::btree_table::reading::{Reads, by_query};
 use crate::btree_table::table::MapBTreeTable;
 use iddqd::item_index::ItemIndex;
 use iddqd::map_hash::Comparable;
@@ -41,6 +42,21 @@ impl MapBTreeTable {
     ) -> Option<(ItemIndex, Spot)>
         requires { CanSearch F.FnMut (order_of self.now) None asking.old }
         ensures { FindsFrom F.FnMut self.now (bound_reading Q.compare lower.entry) asking.old result asking.new }
+    {
+        let from = by_query(lower);
+        self.first_from_reading(from.as_ref(), asking)
+    }
+
+    /// The same as `first_from`, where the bound says itself how it reads an answer.
+    ///
+    /// A bound may be Equal at keys that differ, as a query for the first of several keys is.
+    pub fn first_from_reading<R, H: Reads<R>, F: FnMut(ItemIndex) -> R>(
+        &self,
+        lower: Bound<&H>,
+        asking: &mut Asking<F>,
+    ) -> Option<(ItemIndex, Spot)>
+        requires { CanSearch F.FnMut (order_of self.now) None asking.old }
+        ensures { FindsFrom F.FnMut self.now (bound_reading H.reading lower.entry) asking.old result asking.new }
     {
         let path = self.find_lower(lower, asking);
         let (ix, level) = self.behind(&path)?;

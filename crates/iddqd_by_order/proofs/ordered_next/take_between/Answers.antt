@@ -1,20 +1,24 @@
 use Rattle.std.proofs.Common.{slice_index}
+use Rattle.std.specs.Cmp.{on_total}
+use Rattle.std.specs.Ordering.{on}
 use Rattle.iddqd_order.specs.MapBTreeTable.{order_of, spot_place}
 use Rattle.iddqd_order.specs.Spot.{StandsAt}
+use Rattle.iddqd_by_order.proofs.ItemLemmas.{IsSortedScan-items}
 use Rattle.iddqd_by_order.proofs.OrderedNextLemmas.{IfSome-same, IsLive-behind, IsNextHit-behind}
+use Rattle.iddqd_by_order.specs.Ordered.{itself}
 use Rattle.iddqd_by_order.proofs.ordered_next.take_between.Goals as goal
 
 pub if_up_to-requires : goal.if_up_to-requires
 if_up_to-requires g c =
     let did = c.take_at-next.ensures in
-    IsLive-behind g.E.KeyOf.key_of g.E.Key.Ord.cmp g.met.E.Key.Ord.total c.args.items.now.store (order_of c.args.table.now) c.requires.sorted (spot_place c.args.table.now c.args.spot.now) did.within c.take_at-next.result did.next
+    IsLive-behind itself (on g.E.OrdKey.key_of g.E.OrdKey.cmp) (on_total g.E.OrdKey.key_of g.met.E.OrdKey.total) c.args.items.now.store (order_of c.args.table.now) (IsSortedScan-items g.E.OrdKey.key_of g.E.OrdKey.cmp c.args.items.now.store (order_of c.args.table.now) c.requires.sorted) (spot_place c.args.table.now c.args.spot.now) did.within c.take_at-next.result did.next
 
 pub returns-clause-next : goal.returns-clause-next
 returns-clause-next g c =
     let order = order_of c.args.table.now in
     let at = spot_place c.args.table.now c.args.spot.now in
     let did = c.take_at-next.ensures in
-    c.if_up_to.ensures.next (slice_index order at) (IsNextHit-behind g.E.KeyOf.key_of g.E.Key.Ord.cmp g.met.E.Key.Ord.total c.args.items.now.store order c.requires.sorted at did.within c.take_at-next.result did.next)
+    c.if_up_to.ensures.next (slice_index order at) (IsNextHit-behind itself (on g.E.OrdKey.key_of g.E.OrdKey.cmp) (on_total g.E.OrdKey.key_of g.met.E.OrdKey.total) c.args.items.now.store order (IsSortedScan-items g.E.OrdKey.key_of g.E.OrdKey.cmp c.args.items.now.store order c.requires.sorted) at did.within c.take_at-next.result did.next)
 
 pub returns-clause-spot : goal.returns-clause-spot
 returns-clause-spot g c =

@@ -1,5 +1,5 @@
 use Rattle.iddqd_order.proofs.MoveLemmas.{absent-without, move-left, asked-both, can-insert_then, puts-then, without-fewer}
-use Rattle.iddqd_order.proofs.btree_table.table.MapBTreeTable.move_index.Goals as goal
+use Rattle.iddqd_order.proofs.btree_table.table.MapBTreeTable.move_index_reading.Goals as goal
 
 pub insert_again-requires-clause-absent : goal.insert_again-requires-clause-absent
 insert_again-requires-clause-absent g c = rw c.remove_by_search.ensures.removed (absent-without _ _)

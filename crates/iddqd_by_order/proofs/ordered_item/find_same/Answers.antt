@@ -1,0 +1,33 @@
+use Rattle.std.proofs.Common.{rules, ◌≡◌, ◌∙◌, refl, sym}
+use Rattle.iddqd_order.specs.Asking.{closure_of}
+use Rattle.iddqd_order.specs.MapBTreeTable.{order_of}
+use Rattle.iddqd_order.proofs.AskLemmas.{CanAsk-by, Steady-by}
+use Rattle.iddqd_keys.specs.OrderedQuery.{IsQuery-key}
+use Rattle.iddqd_keys.specs.Scan.{IsLive, IsKeyAt}
+use Rattle.iddqd_by_order.proofs.OrderedFindLemmas.{answer_at, LooksUp-from_finds}
+use Rattle.iddqd_by_order.proofs.ordered_item.find_same.Goals as goal
+
+pub find_by-requires : goal.find_by-requires
+find_by-requires g c =
+    CanAsk-by _ _ (λ f. f ≡ closure_of c.new-asking.result) (λ f f' ix r i h e. search rules)
+    (λ f ix i h.
+    let live : IsLive c.args.items.now.store ix = (c.requires.each ix).0 h in
+    search rules)
+    _ refl
+
+pub returns : goal.returns
+returns g c =
+    let key_of = g.E.OrdKey.key_of in
+    let compare = g.E.OrdKey.cmp in
+    let total = g.met.E.OrdKey.total in
+    let comparing = compare (key_of c.args.item.now) in
+    let s = c.args.items.now.store in
+    let order = order_of c.args.table.now in
+    LooksUp-from_finds key_of compare s order comparing c.requires _ _ c.new-asking.result c.find_by.new.asking total
+    (IsQuery-key compare total (key_of c.args.item.now))
+    (Steady-by _ _ (λ f. f ≡ closure_of c.new-asking.result) (λ f f' ix r i h e. search rules) _ _
+    (λ f f' ix r i h e.
+    let read : IsKeyAt (λ other. comparing (key_of other)) s ix r = search (rules, i, e) in
+    read.2 ∙ sym (answer_at key_of compare s order comparing ix read.0 read.1))
+    _ refl)
+    c.find_by.result c.find_by.ensures
