@@ -20,7 +20,10 @@ pub use iddqd::{
 };
 pub use iddqd_by_order::ordered_walk as ordered_walk;
 pub use iddqd_groups::{by_hash_multi as by_hash_multi, hashed_group as hashed_group};
-pub use iddqd_keys::{hash_query as hash_query, key_of as key_of, order_query as order_query};
+pub use iddqd_keys::{
+    hash_query as hash_query, item_order_query as item_order_query, key_kinds as key_kinds,
+    key_of as key_of, order_key as order_key, order_query as order_query,
+};
 pub use iddqd_map::{
     bi_hash_map as bi_hash_map, by_hash as by_hash, grouped_at as grouped_at,
     id_hash_map as id_hash_map, key_index as key_index, map as map, no_conflict as no_conflict,

@@ -1,12 +1,12 @@
 -- For callers: the ends of a group, which is a list of the live indexes whose items have one key.
 use Rattle.std.proofs.Common.{◌≡◌, ◌∙◌, ◌++◌, ◌<◌, inl, inr, ◌↔◌, ℕ, false, is_some, List, [], ◌∷◌, Option, Some, None, MatchOption, refl, Ordering, arith}
 use Rattle.std.specs.Cmp.{Equal-is, nat_cmp_is}
-use Rattle.std.specs.Ordering.{nat_cmp}
+use Rattle.std.specs.Ordering.{nat_cmp, on}
 use Rattle.std.specs.declared.cmp.Ordering.TheVariants.{Less, Equal, Greater}
 use Rattle.std.proofs.lemmas.Bool.{cases_lt, cases_eq}
 use Rattle.iddqd.specs.Store.{Store}
 use Rattle.iddqd_by_order.specs.Ordered.{is_equal, Finds, IsInPlace}
-use Rattle.iddqd_keys.specs.OrderedQuery.{IsQuery}
+use Rattle.iddqd_keys.specs.OrderedQuery.{IsOneKey}
 use Rattle.iddqd_by_order.specs.OrderedWalk.{SortsWithin, ComesBefore}
 use Rattle.iddqd_keys.specs.Scan.{IsHit, HasNoHit, passes_by}
 use Rattle.iddqd_keys.proofs.KeyWalkLemmas.{IsFirstHit-none, IsFirstHit-head, IsLastHit-end}
@@ -24,7 +24,7 @@ less_from a b is =
     ]
 
 module _ {T K : Type 0} (key_of : T → K) (compare : K → K → Ordering) (s : Store T) (comparing : K → Ordering)
-    (query : IsQuery compare comparing) where
+    (one_key : IsOneKey (on key_of compare) (λ x. comparing (key_of x))) where
   -- of two with equal keys the one that comes before has the lesser index
   lesser_index :
       (i j : ℕ)
@@ -34,7 +34,7 @@ module _ {T K : Type 0} (key_of : T → K) (compare : K → K → Ordering) (s :
       → i < j
   lesser_index i j (x, p, x_equal) (y, q, y_equal) before =
       let same : compare (key_of x) (key_of y) ≡ Equal =
-      query.one_key (key_of x) (key_of y) ((Equal-is (comparing (key_of x))).0 x_equal) ((Equal-is (comparing (key_of y))).0 y_equal) in
+      one_key x y ((Equal-is (comparing (key_of x))).0 x_equal) ((Equal-is (comparing (key_of y))).0 y_equal) in
       less_from i j (rw (p, q, same) at before)
 
   module _ (indexes : List ℕ) (sorts : SortsWithin key_of compare (is_equal comparing) s indexes) where

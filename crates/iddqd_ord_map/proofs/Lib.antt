@@ -1,7 +1,6 @@
 pub mod ByOrderLemmas
 pub mod GroupLemmas
 mod InOrderLemmas
-mod ItemOrderLemmas
 pub mod SizeLemmas
 pub mod SortedScanLemmas
 pub mod OrderedIndexingLemmas

@@ -1,6 +1,5 @@
 -- For callers: an index is put where its item's key belongs: a live one that is given another item, or the next one.
 use Rattle.std.proofs.Common.{◌≡◌, ◌≢◌, ◌∙◌, ◌<◌, ◌≤◌, inl, inr, ◌↔◌, ℕ, Bool, true, false, List, length, get_or, insert, Option, Some, None, option_map, refl, sym, ap, subst, Ordering}
-use Rattle.std.specs.Borrow.{Bor}
 use Rattle.std.specs.Fn.{Mut}
 use Rattle.std.specs.List.{Contains}
 use Rattle.std.specs.Option.{option_cmp}
@@ -158,7 +157,7 @@ module _
 
     -- the index was put where a search for the new key led
     pub IsSortedScan-put_in :
-        {F : Type 0} (g : Mut F (ℕ × Unit {0}) (Bor K)) (read : Bor K → Ordering) (xs : List ℕ) (i : ℕ)
+        {F R : Type 0} (g : Mut F (ℕ × Unit {0}) R) (read : R → Ordering) (xs : List ℕ) (i : ℕ)
         (asking : Asking F) (new left : List ℕ)
         → xs ≡ order
         → i ≡ ix

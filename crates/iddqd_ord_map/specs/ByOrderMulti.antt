@@ -1,5 +1,5 @@
 -- An index by the order of a key that several items may have: where it puts an index, and what it finds.
-use Rattle.std.specs.Prelude.{◌≡◌, ◌≤◌, ℕ, Bool, not, List, Option, Some, None, length}
+use Rattle.std.specs.Prelude.{◌≤◌, ℕ, Bool, not, Option, Some, None, length}
 use Rattle.std.specs.declared.cmp.Ordering.{Ordering}
 use Rattle.iddqd.specs.Store.{Store, next_index}
 use Rattle.iddqd_order.specs.MapBTreeTable.{Order, order_of}
@@ -8,7 +8,6 @@ use Rattle.iddqd_order.specs.Search.{IsPlace, with_ties}
 use Rattle.iddqd_order.specs.declared.btree_table.gap.Gap.{Gap}
 use Rattle.iddqd_keys.specs.Scan.{IsHit, HasNoHit}
 use Rattle.iddqd_by_order.specs.Ordered.{compared, key_at}
-use Rattle.iddqd_by_order.specs.OrderedWalk.{SortsWithin}
 use Rattle.iddqd_ord_map.specs.OrderedIndexing.{has_key}
 use Rattle.iddqd_ord_map.specs.declared.ordered_move.Move.{Move}
 use Rattle.iddqd_ord_map.specs.declared.ordered_move.Move.TheVariants.{Stays, Moves}
@@ -24,10 +23,6 @@ module _ {T : Type 0} where
   IsGreatestHit s test None = HasNoHit s test
 
 module _ {T K : Type 0} (key_of : T → K) (compare : K → K → Ordering) where
-  -- `count` is the number of live indexes whose items' keys are within
-  abbrev pub Counts : (K → Bool) → Store T → ℕ → Type 0
-  Counts within s count = (indexes : List ℕ) × SortsWithin key_of compare within s indexes × (count ≡ length indexes)
-
   -- how the key of an item compares with the key of a live index
   abbrev pub item_answer : Store T → T → ℕ → Ordering
   item_answer s item ix = compared (compare (key_of item)) (key_at key_of s ix)

@@ -20,7 +20,6 @@ ghost use Rattle.iddqd_keys.specs.Scan.{AnswersScan, IsLive, IsKeyAt, passes_by}
 ghost use Rattle.iddqd_keys.specs.KeyWalk.{IsFirstHit, IsNextHit};
 ghost use Rattle.iddqd_keys.specs.OrderedQuery.{is_up_to, is_within};
 ghost use Rattle.iddqd_map.specs.Ranges.{itself};
-ghost use Rattle.iddqd_ord_map.specs.ItemOrder.{compare_by};
 ghost use Rattle.iddqd_ord_map.specs.OrderedSteps.{reserved_for};
 ghost use Rattle.std.specs.Option.{option_map};
 ghost use Rattle.std.specs.Ordering.{on};
@@ -33,10 +32,11 @@ use iddqd::index_remap::IndexRemap;
 use iddqd::internal::{ValidateCompact, ValidateRefusal, ValidationError};
 use iddqd::item_index::ItemIndex;
 use iddqd::item_set::ItemSet;
-use iddqd_by_order::ordered;
+use iddqd_by_order::ordered_item::{find_same, item_at};
 use iddqd_by_order::ordered_next::{first_between, next_between, take_between};
-use iddqd_keys::key_of::{KeyOf, KeyQuery, key_at};
-use iddqd_keys::order_query::OrdQuery;
+use iddqd_keys::item_order_query::{ItemOrdQuery, ItemRangeQuery};
+use iddqd_keys::key_kinds::Field;
+use iddqd_keys::order_key::OrdKey;
 use iddqd_map::key_index::{FindsSame, Here, KeyIndex, OrderedAt, UniqueAt};
 use iddqd_order::btree_table::{Asking, Blocks, Gap, Iter, MapBTreeTable, Range, Spot};
 use std::alloc::{AllocError, Global};
@@ -44,25 +44,27 @@ use std::cmp::Ordering;
 use std::marker::PhantomData;
 use std::ops::Bound;
 
-/// A key index in the order of the key that `E` names.
+/// A key index in the order of a field: of the key, a `K`, that `E` borrows from an item.
+pub type ByOrder<E, K> = ByOrderOf<Field<E, K>>;
+
+/// A key index in the order of the key `E`.
 #[derive(Drop)]
-pub struct ByOrder<E> {
+pub struct ByOrderOf<E> {
     pub(crate) table: MapBTreeTable,
     of: PhantomData<E>,
 }
 
-impl<E> ByOrder<E> {
+impl<E> ByOrderOf<E> {
     /// The index of the item that has the key for which the query stands.
     ///
     /// It is one search of the ordered table, whose contract allows at most 4 + 2d comparisons, where the number of
     /// items has d binary digits. The contract here doesn't count them.
     pub fn find<T, S, Q>(&self, items: &ItemSet<T>, state: &S, query: Q) -> Option<ItemIndex>
     where
-        E: KeyOf<T>,
-        E::Key: Ord,
-        Q: OrdQuery<E::Key>,
-        requires { ⟦<ByOrder<E> as KeyIndex<T, S>>⟧.indexes self.now state.now items.now.store }
-        ensures { AnswersScan items.now.store (passes_by E.key_of (is_equal (Q.compare query))) result }
+        E: OrdKey<T>,
+        Q: ItemOrdQuery<T, E>,
+        requires { ⟦<ByOrderOf<E> as KeyIndex<T, S>>⟧.indexes self.now state.now items.now.store }
+        ensures { AnswersScan items.now.store (is_equal (Q.compare_item query)) result }
     {
         find_by::<T, E, Q>(&self.table, items, query)
     }
@@ -70,10 +72,9 @@ impl<E> ByOrder<E> {
     /// The index of the item with the least key.
     pub fn first<T, S>(&self, items: &ItemSet<T>, state: &S) -> Option<ItemIndex>
     where
-        E: KeyOf<T>,
-        E::Key: Ord,
-        requires { ⟦<ByOrder<E> as KeyIndex<T, S>>⟧.indexes self.now state.now items.now.store }
-        ensures { FindsLeast E.key_of E.Key.cmp items.now.store result }
+        E: OrdKey<T>,
+        requires { ⟦<ByOrderOf<E> as KeyIndex<T, S>>⟧.indexes self.now state.now items.now.store }
+        ensures { FindsLeast E.key_of E.cmp items.now.store result }
     {
         first_by::<T, E>(&self.table, items)
     }
@@ -81,10 +82,9 @@ impl<E> ByOrder<E> {
     /// The index of the item with the greatest key.
     pub fn last<T, S>(&self, items: &ItemSet<T>, state: &S) -> Option<ItemIndex>
     where
-        E: KeyOf<T>,
-        E::Key: Ord,
-        requires { ⟦<ByOrder<E> as KeyIndex<T, S>>⟧.indexes self.now state.now items.now.store }
-        ensures { FindsGreatest E.key_of E.Key.cmp items.now.store result }
+        E: OrdKey<T>,
+        requires { ⟦<ByOrderOf<E> as KeyIndex<T, S>>⟧.indexes self.now state.now items.now.store }
+        ensures { FindsGreatest E.key_of E.cmp items.now.store result }
     {
         last_by::<T, E>(&self.table, items)
     }
@@ -92,10 +92,9 @@ impl<E> ByOrder<E> {
     /// The live indexes, in the order of the keys, from both ends. It takes no memory.
     pub fn iter<T, S>(&self, items: &ItemSet<T>, state: &S) -> Iter<'_>
     where
-        E: KeyOf<T>,
-        E::Key: Ord,
-        requires { ⟦<ByOrder<E> as KeyIndex<T, S>>⟧.indexes self.now state.now items.now.store }
-        ensures { IsSortedScan E.key_of E.Key.cmp items.now.store (indexes_left result) }
+        E: OrdKey<T>,
+        requires { ⟦<ByOrderOf<E> as KeyIndex<T, S>>⟧.indexes self.now state.now items.now.store }
+        ensures { IsSortedScan E.key_of E.cmp items.now.store (indexes_left result) }
     {
         iter_by::<T, E>(&self.table, items)
     }
@@ -112,12 +111,11 @@ impl<E> ByOrder<E> {
         upper: Bound<Q>,
     ) -> Range<'_>
     where
-        E: KeyOf<T>,
-        E::Key: Ord,
-        Q: OrdQuery<E::Key>,
-        requires { ⟦<ByOrder<E> as KeyIndex<T, S>>⟧.indexes self.now state.now items.now.store }
-        ensures { let within = is_within Q.compare lower upper in
-            SortsWithin E.key_of E.Key.cmp within items.now.store (indexes_ahead result) }
+        E: OrdKey<T>,
+        Q: ItemRangeQuery<T, E>,
+        requires { ⟦<ByOrderOf<E> as KeyIndex<T, S>>⟧.indexes self.now state.now items.now.store }
+        ensures { let within = is_within Q.compare_item lower upper in
+            SortsWithin itself (on E.key_of E.cmp) within items.now.store (indexes_ahead result) }
     {
         range_by::<T, E, Q>(&self.table, items, lower, upper)
     }
@@ -126,25 +124,23 @@ impl<E> ByOrder<E> {
 // The place of an item's key, or the index of the item that has it.
 fn place_of<T, E>(table: &MapBTreeTable, items: &ItemSet<T>, item: &T) -> Result<Gap, ItemIndex>
 where
-    E: KeyOf<T>,
-    E::Key: Ord,
-    requires { Sorts E.key_of E.Key.cmp items.now.store (order_of table.now) }
-    ensures { LooksPlaceUp E.key_of E.Key.cmp items.now.store table.now item.now result }
+    E: OrdKey<T>,
+    requires { Sorts E.key_of E.cmp items.now.store (order_of table.now) }
+    ensures { LooksPlaceUp E.key_of E.cmp items.now.store table.now item.now result }
 {
-    let key = E::key(item);
     let mut asking = Asking::new(
         |at: ItemIndex| -> Ordering
             requires { IsLive items.now.store at }
-            ensures { IsKeyAt (λ other. E.Key.cmp key.entry.now (E.key_of other)) items.entry.now.store at result }
-        { key.cmp(key_at::<T, E>(items, at)) },
+            ensures { IsKeyAt (λ other. E.cmp (E.key_of item.entry.now) (E.key_of other)) items.entry.now.store at
+                result }
+        { E::compare(item, item_at(items, at)) },
     );
     table.find_gap_by(&mut asking)
 }
 
-impl<T, S, E> KeyIndex<T, S> for ByOrder<E>
+impl<T, S, E> KeyIndex<T, S> for ByOrderOf<E>
 where
-    E: KeyOf<T>,
-    E::Key: Ord,
+    E: OrdKey<T>,
 {
     ghost use Rattle.std.proofs.Common.{refl};
     ghost use Rattle.std.specs.Prelude.{◌≢◌, Some, true, Ok};
@@ -176,11 +172,11 @@ where
 
     ghost keys = { E.key_of };
 
-    ghost alike = { shares E.key_of (eq_by_cmp E.Key.cmp) };
+    ghost alike = { shares E.key_of (eq_by_cmp E.cmp) };
 
-    ghost same_keys = { shares E.key_of (eq_by_cmp E.Key.cmp) };
+    ghost same_keys = { shares E.key_of (eq_by_cmp E.cmp) };
 
-    ghost indexes = { λ x state s. Sorts E.key_of E.Key.cmp s (order_of x.table) };
+    ghost indexes = { λ x state s. Sorts E.key_of E.cmp s (order_of x.table) };
 
     ghost capacity = { λ x. reserved_for x.table };
 
@@ -202,9 +198,9 @@ where
 
     ghost unique_keys = { 1 };
 
-    ghost conflicts = { λ s item at. AnswersScan s (shares E.key_of (eq_by_cmp E.Key.cmp) item) (Some at) };
+    ghost conflicts = { λ s item at. AnswersScan s (shares E.key_of (eq_by_cmp E.cmp) item) (Some at) };
 
-    ghost taken = { λ s ix item at. (at ≢ ix) × AnswersScan s (shares E.key_of (eq_by_cmp E.Key.cmp) item) (Some at) };
+    ghost taken = { λ s ix item at. (at ≢ ix) × AnswersScan s (shares E.key_of (eq_by_cmp E.cmp) item) (Some at) };
 
     ghost reports = { λ at ix. ix ≡ at };
 
@@ -212,19 +208,19 @@ where
 
     ghost same_as_itself = { λ x. record { root = refl; height = refl } };
 
-    ghost same_indexes = { λ x y state s same is. Sorts-same_tree E.key_of E.Key.cmp s x.table y.table same is };
+    ghost same_indexes = { λ x y state s same is. Sorts-same_tree E.key_of E.cmp s x.table y.table same is };
 
     ghost apart = { λ x state s is. is.in_sync.apart };
 
     ghost modified = { λ x state s ix was item is live same.
-        Sorts-modified E.key_of E.Key.cmp E.Key.total s (order_of x.table) is ix item was live same };
+        Sorts-modified E.key_of E.cmp E.total s (order_of x.table) is ix item was live same };
 
     ghost same_items = { λ x state s t same is.
-        Sorts-alike E.key_of E.Key.cmp E.Key.total s t same (order_of x.table) is };
+        Sorts-alike E.key_of E.cmp E.total s t same (order_of x.table) is };
 
-    ghost equivalence = { shares_equivalence E.key_of E.Key.cmp E.Key.total };
+    ghost equivalence = { shares_equivalence E.key_of E.cmp E.total };
 
-    ghost reported = { λ s item at scan ix. reported_one s (shares E.key_of (eq_by_cmp E.Key.cmp) item) at scan ix };
+    ghost reported = { λ s item at scan ix. reported_one s (shares E.key_of (eq_by_cmp E.cmp) item) at scan ix };
 
     ghost reported_some = { λ s item at scan. (at, refl) };
 
@@ -232,9 +228,9 @@ where
 
     ghost are_hashes = { λ state item hashes. Unit {0} };
 
-    ghost is_position = { λ x state s item gap. IsGapFor E.key_of E.Key.cmp s x.table item gap };
+    ghost is_position = { λ x state s item gap. IsGapFor E.key_of E.cmp s x.table item gap };
 
-    ghost is_planned = { λ x state s item gap. IsGapFor E.key_of E.Key.cmp s x.table item gap };
+    ghost is_planned = { λ x state s item gap. IsGapFor E.key_of E.cmp s x.table item gap };
 
     ghost are_none = { λ blocks. blocks ≡ 0 };
 
@@ -243,9 +239,9 @@ where
     ghost are_enough_after = { λ x blocks. HasBlocksAnywhere x.table blocks };
 
     ghost same_plans = { λ x y state s item gap same is.
-        IsGapFor-same_tree E.key_of E.Key.cmp s x.table y.table item gap same is };
+        IsGapFor-same_tree E.key_of E.cmp s x.table y.table item gap same is };
 
-    ghost is_move = { λ state s ix item plan. PlansOrConflicts E.key_of E.Key.cmp s ix item (Ok plan) };
+    ghost is_move = { λ state s ix item plan. PlansOrConflicts E.key_of E.cmp s ix item (Ok plan) };
 
     ghost moves = { moves };
 
@@ -257,15 +253,15 @@ where
         ordered_steps::capacity(&self.table)
     }
 
-    fn new(alloc: Global) -> ByOrder<E> {
-        ByOrder {
+    fn new(alloc: Global) -> ByOrderOf<E> {
+        ByOrderOf {
             table: MapBTreeTable::new(alloc),
             of: PhantomData,
         }
     }
 
-    fn with_capacity(alloc: Global, wanted: usize) -> Result<ByOrder<E>, AllocError> {
-        Ok(ByOrder {
+    fn with_capacity(alloc: Global, wanted: usize) -> Result<ByOrderOf<E>, AllocError> {
+        Ok(ByOrderOf {
             table: ordered_steps::with_capacity(alloc, wanted)?,
             of: PhantomData,
         })
@@ -371,15 +367,15 @@ where
         ordered_steps::commit_move::<T, E>(&mut self.table, items, plan, blocks, ix, item);
     }
 
-    fn copied(&self) -> Result<ByOrder<E>, AllocError> {
-        Ok(ByOrder {
+    fn copied(&self) -> Result<ByOrderOf<E>, AllocError> {
+        Ok(ByOrderOf {
             table: self.table.clone()?,
             of: PhantomData,
         })
     }
 
     fn is_same(item: &T, other: &T) -> bool {
-        E::key(item).cmp(E::key(other)) == Ordering::Equal
+        E::compare(item, other) == Ordering::Equal
     }
 
     fn validate(
@@ -392,25 +388,23 @@ where
     }
 }
 
-impl<T, S, E> FindsSame<T, S> for ByOrder<E>
+impl<T, S, E> FindsSame<T, S> for ByOrderOf<E>
 where
-    E: KeyOf<T>,
-    E::Key: Ord,
+    E: OrdKey<T>,
 {
     ghost same_are_alike = { λ x y same. same };
 
     fn find_same(&self, items: &ItemSet<T>, state: &S, item: &T) -> Option<ItemIndex> {
-        ordered::find::<T, E, KeyQuery<E::Key>>(&self.table, items, &KeyQuery(E::key(item)))
+        find_same::<T, E>(&self.table, items, item)
     }
 }
 
-impl<T, S, E, Q> UniqueAt<Here, Q, T, S> for ByOrder<E>
+impl<T, S, E, Q> UniqueAt<Here, Q, T, S> for ByOrderOf<E>
 where
-    E: KeyOf<T>,
-    E::Key: Ord,
-    Q: OrdQuery<E::Key>,
+    E: OrdKey<T>,
+    Q: ItemOrdQuery<T, E>,
 {
-    ghost stands_for = { λ query. passes_by E.key_of (is_equal (Q.compare query)) };
+    ghost stands_for = { λ query. is_equal (Q.compare_item query) };
 
     fn find(&self, items: &ItemSet<T>, state: &S, query: Q) -> (Option<ItemIndex>, ()) {
         (find_by::<T, E, Q>(&self.table, items, query), ())
@@ -421,26 +415,24 @@ where
     }
 }
 
-impl<T, S, E, Q> OrderedAt<Here, Q, T, S> for ByOrder<E>
+impl<T, S, E, Q> OrderedAt<Here, Q, T, S> for ByOrderOf<E>
 where
-    E: KeyOf<T>,
-    E::Key: Ord,
-    Q: OrdQuery<E::Key>,
+    E: OrdKey<T>,
+    Q: ItemRangeQuery<T, E>,
 {
-    ghost use Rattle.iddqd_keys.specs.OrderedQuery.{IsQuery-on};
     ghost use Rattle.std.proofs.lemmas.Cmp.{on_total};
 
     type Spot = Spot;
 
-    ghost order = { on E.key_of E.Key.cmp };
+    ghost order = { on E.key_of E.cmp };
 
-    ghost compare = { compare_by E.key_of Q.compare };
+    ghost compare = { Q.compare_item };
 
     ghost stands = { λ x spot ix. StandsAt x.table spot ix };
 
-    ghost total = { on_total E.key_of E.Key.total };
+    ghost total = { on_total E.key_of E.total };
 
-    ghost fits = { λ query. IsQuery-on E.key_of E.Key.cmp (Q.compare query) (Q.lawful query) };
+    ghost fits = { Q.fits };
 
     fn first_between(
         &self,
@@ -449,9 +441,9 @@ where
         lower: Bound<Q>,
         upper: Bound<Q>,
     ) -> Option<(ItemIndex, Spot)>
-        requires indexed { Sorts E.key_of E.Key.cmp items.now.store (order_of self.now.table) }
-        ensures first { let within = is_within (compare_by E.key_of Q.compare) lower upper in
-            IsFirstHit itself (on E.key_of E.Key.cmp) items.now.store within
+        requires indexed { Sorts E.key_of E.cmp items.now.store (order_of self.now.table) }
+        ensures first { let within = is_within Q.compare_item lower upper in
+            IsFirstHit itself (on E.key_of E.cmp) items.now.store within
             (option_map (λ (r : ℕ × SpotInTable). r.0) result) }
         ensures stands { IfSome result (λ r. StandsAt self.now.table r.1 r.0) }
     {
@@ -467,10 +459,10 @@ where
         upper: Bound<Q>,
     ) -> Option<ItemIndex>
         requires live { IsLive items.now.store ix }
-        requires indexed { Sorts E.key_of E.Key.cmp items.now.store (order_of self.now.table) }
+        requires indexed { Sorts E.key_of E.cmp items.now.store (order_of self.now.table) }
         requires stands { StandsAt self.now.table spot.old ix }
-        ensures next { let within = is_up_to (bound_map (compare_by E.key_of Q.compare) upper) in
-            IsNextHit itself (on E.key_of E.Key.cmp) items.now.store within ix result }
+        ensures next { let within = is_up_to (bound_map Q.compare_item upper) in
+            IsNextHit itself (on E.key_of E.cmp) items.now.store within ix result }
         ensures stands { IfSome result (StandsAt self.now.table spot.new) }
     {
         next_between::<T, E, Q>(&self.table, items, spot, upper)
@@ -485,12 +477,12 @@ where
         upper: Bound<Q>,
     ) -> Option<ItemIndex>
         requires live { IsLive items.now.store ix }
-        requires indexed { Sorts E.key_of E.Key.cmp items.now.store (order_of self.old.table) }
+        requires indexed { Sorts E.key_of E.cmp items.now.store (order_of self.old.table) }
         requires stands { StandsAt self.old.table spot.old ix }
-        ensures next { let within = is_up_to (bound_map (compare_by E.key_of Q.compare) upper) in
-            IsNextHit itself (on E.key_of E.Key.cmp) items.now.store within ix result }
+        ensures next { let within = is_up_to (bound_map Q.compare_item upper) in
+            IsNextHit itself (on E.key_of E.cmp) items.now.store within ix result }
         ensures stands { IfSome result (StandsAt self.new.table spot.new) }
-        ensures indexed { Sorts E.key_of E.Key.cmp (removed items.now.store ix) (order_of self.new.table) }
+        ensures indexed { Sorts E.key_of E.cmp (removed items.now.store ix) (order_of self.new.table) }
         ensures capacity { reserved_for self.new.table ≡ reserved_for self.old.table }
     {
         take_between::<T, E, Q>(&mut self.table, items, spot, upper)

@@ -14,14 +14,14 @@ ghost use Rattle.iddqd_order.specs.Spot.{StandsAt};
 ghost use Rattle.iddqd_order.specs.declared.btree_table.spot.Spot.{Spot as SpotInTable};
 ghost use Rattle.iddqd_order.specs.MapBTreeTable.{order_of};
 ghost use Rattle.iddqd_ord_map.specs.ByOrder.{FindsGreatest, FindsLeast};
-ghost use Rattle.iddqd_ord_map.specs.ByOrderMulti.{Counts, IsGreatestHit, IsLeastHit, IsOwnGapFor};
+ghost use Rattle.iddqd_map.specs.Groups.{CountsHits};
+ghost use Rattle.iddqd_ord_map.specs.ByOrderMulti.{IsGreatestHit, IsLeastHit, IsOwnGapFor};
 ghost use Rattle.iddqd_by_order.specs.Ordered.{is_equal, IsSortedScan};
 ghost use Rattle.iddqd_by_order.specs.OrderedWalk.{SortsWithin};
 ghost use Rattle.iddqd_keys.specs.Scan.{HasNoHit, IsLive, IsKeyAt, passes_by};
 ghost use Rattle.iddqd_keys.specs.KeyWalk.{IsFirstHit, IsNextHit};
 ghost use Rattle.iddqd_keys.specs.OrderedQuery.{is_up_to, is_within};
 ghost use Rattle.iddqd_map.specs.Ranges.{itself};
-ghost use Rattle.iddqd_ord_map.specs.ItemOrder.{compare_by};
 ghost use Rattle.iddqd_ord_map.specs.OrderedSteps.{reserved_for};
 ghost use Rattle.std.specs.Option.{option_map};
 ghost use Rattle.std.specs.Ordering.{on};
@@ -34,10 +34,11 @@ use iddqd::index_remap::IndexRemap;
 use iddqd::internal::{ValidateCompact, ValidateRefusal, ValidationError};
 use iddqd::item_index::ItemIndex;
 use iddqd::item_set::ItemSet;
-use iddqd_by_order::ordered;
+use iddqd_by_order::ordered_item::{find, item_at};
 use iddqd_by_order::ordered_next::{first_between, next_between, take_between};
-use iddqd_keys::key_of::{KeyOf, key_at};
-use iddqd_keys::order_query::{AsComparable, OrdQuery};
+use iddqd_keys::item_order_query::{ItemOrdQuery, ItemRangeQuery};
+use iddqd_keys::key_kinds::Field;
+use iddqd_keys::order_key::OrdKey;
 use iddqd_map::key_index::{Here, KeyIndex, OrderedAt};
 pub use iddqd_map::no_conflict::NoConflict;
 use iddqd_order::btree_table::{Asking, Blocks, Gap, Iter, MapBTreeTable, Range, Spot};
@@ -46,25 +47,29 @@ use std::cmp::Ordering;
 use std::marker::PhantomData;
 use std::ops::Bound;
 
-/// A key index in the order of the key that `E` names, which several items may have.
+/// A key index in the order of a field that several items may share: of the key, a `K`, that `E` borrows from an item.
+pub type ByOrderMulti<E, K> = ByOrderMultiOf<Field<E, K>>;
+
+/// A key index in the order of the key `E`, which several items may have.
 #[derive(Drop)]
-pub struct ByOrderMulti<E> {
+pub struct ByOrderMultiOf<E> {
     pub(crate) table: MapBTreeTable,
     of: PhantomData<E>,
 }
 
-impl<E> ByOrderMulti<E> {
-    /// The indexes whose items have the key for which the query stands, by index, from both ends.
+impl<E> ByOrderMultiOf<E> {
+    /// The indexes whose items have the key for which the query stands, by index, from both ends. A query for the first
+    /// of several keys, as a `Prefix`, gives all items with that first key, by key and then by index.
     ///
     /// It is two searches of the ordered table, and takes no memory. The contract of the table allows each of them 4 +
     /// 2d comparisons, where the number of items has d binary digits; the contract here doesn't count them.
     pub fn group<T, S, Q>(&self, items: &ItemSet<T>, state: &S, query: Q) -> Range<'_>
     where
-        E: KeyOf<T>,
-        E::Key: Ord,
-        Q: OrdQuery<E::Key>,
-        requires { ⟦<ByOrderMulti<E> as KeyIndex<T, S>>⟧.indexes self.now state.now items.now.store }
-        ensures { SortsWithin E.key_of E.Key.cmp (is_equal (Q.compare query)) items.now.store (indexes_ahead result) }
+        E: OrdKey<T>,
+        Q: ItemRangeQuery<T, E>,
+        requires { ⟦<ByOrderMultiOf<E> as KeyIndex<T, S>>⟧.indexes self.now state.now items.now.store }
+        ensures { SortsWithin itself (on E.key_of E.cmp) (is_equal (Q.compare_item query)) items.now.store
+            (indexes_ahead result) }
     {
         group_by::<T, E, Q>(&self.table, items, query)
     }
@@ -81,12 +86,11 @@ impl<E> ByOrderMulti<E> {
         upper: Bound<Q>,
     ) -> Range<'_>
     where
-        E: KeyOf<T>,
-        E::Key: Ord,
-        Q: OrdQuery<E::Key>,
-        requires { ⟦<ByOrderMulti<E> as KeyIndex<T, S>>⟧.indexes self.now state.now items.now.store }
-        ensures { let within = is_within Q.compare lower upper in
-            SortsWithin E.key_of E.Key.cmp within items.now.store (indexes_ahead result) }
+        E: OrdKey<T>,
+        Q: ItemRangeQuery<T, E>,
+        requires { ⟦<ByOrderMultiOf<E> as KeyIndex<T, S>>⟧.indexes self.now state.now items.now.store }
+        ensures { let within = is_within Q.compare_item lower upper in
+            SortsWithin itself (on E.key_of E.cmp) within items.now.store (indexes_ahead result) }
     {
         range_by::<T, E, Q>(&self.table, items, lower, upper)
     }
@@ -94,10 +98,9 @@ impl<E> ByOrderMulti<E> {
     /// The live indexes, by key and then by index, from both ends. It takes no memory.
     pub fn iter<T, S>(&self, items: &ItemSet<T>, state: &S) -> Iter<'_>
     where
-        E: KeyOf<T>,
-        E::Key: Ord,
-        requires { ⟦<ByOrderMulti<E> as KeyIndex<T, S>>⟧.indexes self.now state.now items.now.store }
-        ensures { IsSortedScan E.key_of E.Key.cmp items.now.store (indexes_left result) }
+        E: OrdKey<T>,
+        requires { ⟦<ByOrderMultiOf<E> as KeyIndex<T, S>>⟧.indexes self.now state.now items.now.store }
+        ensures { IsSortedScan E.key_of E.cmp items.now.store (indexes_left result) }
     {
         iter_by::<T, E>(&self.table, items)
     }
@@ -105,10 +108,9 @@ impl<E> ByOrderMulti<E> {
     /// The index of an item with the least key.
     pub fn first<T, S>(&self, items: &ItemSet<T>, state: &S) -> Option<ItemIndex>
     where
-        E: KeyOf<T>,
-        E::Key: Ord,
-        requires { ⟦<ByOrderMulti<E> as KeyIndex<T, S>>⟧.indexes self.now state.now items.now.store }
-        ensures { FindsLeast E.key_of E.Key.cmp items.now.store result }
+        E: OrdKey<T>,
+        requires { ⟦<ByOrderMultiOf<E> as KeyIndex<T, S>>⟧.indexes self.now state.now items.now.store }
+        ensures { FindsLeast E.key_of E.cmp items.now.store result }
     {
         first_by::<T, E>(&self.table, items)
     }
@@ -116,10 +118,9 @@ impl<E> ByOrderMulti<E> {
     /// The index of an item with the greatest key.
     pub fn last<T, S>(&self, items: &ItemSet<T>, state: &S) -> Option<ItemIndex>
     where
-        E: KeyOf<T>,
-        E::Key: Ord,
-        requires { ⟦<ByOrderMulti<E> as KeyIndex<T, S>>⟧.indexes self.now state.now items.now.store }
-        ensures { FindsGreatest E.key_of E.Key.cmp items.now.store result }
+        E: OrdKey<T>,
+        requires { ⟦<ByOrderMultiOf<E> as KeyIndex<T, S>>⟧.indexes self.now state.now items.now.store }
+        ensures { FindsGreatest E.key_of E.cmp items.now.store result }
     {
         last_by::<T, E>(&self.table, items)
     }
@@ -127,11 +128,10 @@ impl<E> ByOrderMulti<E> {
     /// The least index whose item has the key for which the query stands. It costs as much as `group`.
     pub fn first_of<T, S, Q>(&self, items: &ItemSet<T>, state: &S, query: Q) -> Option<ItemIndex>
     where
-        E: KeyOf<T>,
-        E::Key: Ord,
-        Q: OrdQuery<E::Key>,
-        requires { ⟦<ByOrderMulti<E> as KeyIndex<T, S>>⟧.indexes self.now state.now items.now.store }
-        ensures { IsLeastHit items.now.store (passes_by E.key_of (is_equal (Q.compare query))) result }
+        E: OrdKey<T>,
+        Q: ItemOrdQuery<T, E>,
+        requires { ⟦<ByOrderMultiOf<E> as KeyIndex<T, S>>⟧.indexes self.now state.now items.now.store }
+        ensures { IsLeastHit items.now.store (is_equal (Q.compare_item query)) result }
     {
         self.group(items, state, query).next()
     }
@@ -139,11 +139,10 @@ impl<E> ByOrderMulti<E> {
     /// The greatest index whose item has the key for which the query stands. It costs as much as `group`.
     pub fn last_of<T, S, Q>(&self, items: &ItemSet<T>, state: &S, query: Q) -> Option<ItemIndex>
     where
-        E: KeyOf<T>,
-        E::Key: Ord,
-        Q: OrdQuery<E::Key>,
-        requires { ⟦<ByOrderMulti<E> as KeyIndex<T, S>>⟧.indexes self.now state.now items.now.store }
-        ensures { IsGreatestHit items.now.store (passes_by E.key_of (is_equal (Q.compare query))) result }
+        E: OrdKey<T>,
+        Q: ItemOrdQuery<T, E>,
+        requires { ⟦<ByOrderMultiOf<E> as KeyIndex<T, S>>⟧.indexes self.now state.now items.now.store }
+        ensures { IsGreatestHit items.now.store (is_equal (Q.compare_item query)) result }
     {
         self.group(items, state, query).next_back()
     }
@@ -153,13 +152,12 @@ impl<E> ByOrderMulti<E> {
     /// It is one search, as one of the two of `group`.
     pub fn contains_key<T, S, Q>(&self, items: &ItemSet<T>, state: &S, query: Q) -> bool
     where
-        E: KeyOf<T>,
-        E::Key: Ord,
-        Q: OrdQuery<E::Key>,
-        requires { ⟦<ByOrderMulti<E> as KeyIndex<T, S>>⟧.indexes self.now state.now items.now.store }
-        ensures { (result ≡ false) ↔ HasNoHit items.now.store (passes_by E.key_of (is_equal (Q.compare query))) }
+        E: OrdKey<T>,
+        Q: ItemRangeQuery<T, E>,
+        requires { ⟦<ByOrderMultiOf<E> as KeyIndex<T, S>>⟧.indexes self.now state.now items.now.store }
+        ensures { (result ≡ false) ↔ HasNoHit items.now.store (is_equal (Q.compare_item query)) }
     {
-        ordered::find::<T, E, AsComparable<Q>>(&self.table, items, &AsComparable(query)).is_some()
+        find::<T, E, Q>(&self.table, items, query).is_some()
     }
 
     /// How many items have the key for which the query stands.
@@ -167,11 +165,10 @@ impl<E> ByOrderMulti<E> {
     /// It costs as much as `group`, and a step for each of them: no table counts a group.
     pub fn count_of<T, S, Q>(&self, items: &ItemSet<T>, state: &S, query: Q) -> usize
     where
-        E: KeyOf<T>,
-        E::Key: Ord,
-        Q: OrdQuery<E::Key>,
-        requires { ⟦<ByOrderMulti<E> as KeyIndex<T, S>>⟧.indexes self.now state.now items.now.store }
-        ensures { Counts E.key_of E.Key.cmp (is_equal (Q.compare query)) items.now.store result }
+        E: OrdKey<T>,
+        Q: ItemRangeQuery<T, E>,
+        requires { ⟦<ByOrderMultiOf<E> as KeyIndex<T, S>>⟧.indexes self.now state.now items.now.store }
+        ensures { CountsHits items.now.store (is_equal (Q.compare_item query)) result }
     {
         count_by::<T, E, Q>(&self.table, items, query)
     }
@@ -180,27 +177,25 @@ impl<E> ByOrderMulti<E> {
 // The place of the next index under an item's key.
 fn place_of<T, E>(table: &MapBTreeTable, items: &ItemSet<T>, ix: ItemIndex, item: &T) -> Gap
 where
-    E: KeyOf<T>,
-    E::Key: Ord,
+    E: OrdKey<T>,
     requires valid { IsValid items.now.store }
-    requires sorted { IsSortedScan E.key_of E.Key.cmp items.now.store (order_of table.now) }
+    requires sorted { IsSortedScan E.key_of E.cmp items.now.store (order_of table.now) }
     requires next { ix ≡ next_index items.now.store }
-    ensures { IsOwnGapFor E.key_of E.Key.cmp items.now.store table.now item.now result }
+    ensures { IsOwnGapFor E.key_of E.cmp items.now.store table.now item.now result }
 {
-    let key = E::key(item);
     let mut asking = Asking::new(
         |at: ItemIndex| -> Ordering
             requires { IsLive items.now.store at }
-            ensures { IsKeyAt (λ other. E.Key.cmp key.entry.now (E.key_of other)) items.entry.now.store at result }
-        { key.cmp(key_at::<T, E>(items, at)) },
+            ensures { IsKeyAt (λ other. E.cmp (E.key_of item.entry.now) (E.key_of other)) items.entry.now.store at
+                result }
+        { E::compare(item, item_at(items, at)) },
     );
     table.find_own_gap_by(ix, &mut asking)
 }
 
-impl<T, S, E> KeyIndex<T, S> for ByOrderMulti<E>
+impl<T, S, E> KeyIndex<T, S> for ByOrderMultiOf<E>
 where
-    E: KeyOf<T>,
-    E::Key: Ord,
+    E: OrdKey<T>,
 {
     ghost use Rattle.std.proofs.Common.{refl};
     ghost use Rattle.std.specs.Prelude.{true};
@@ -233,9 +228,9 @@ where
 
     ghost alike = { never_alike };
 
-    ghost same_keys = { shares E.key_of (eq_by_cmp E.Key.cmp) };
+    ghost same_keys = { shares E.key_of (eq_by_cmp E.cmp) };
 
-    ghost indexes = { λ x state s. IsSortedScan E.key_of E.Key.cmp s (order_of x.table) };
+    ghost indexes = { λ x state s. IsSortedScan E.key_of E.cmp s (order_of x.table) };
 
     ghost capacity = { λ x. reserved_for x.table };
 
@@ -268,17 +263,17 @@ where
     ghost same_as_itself = { λ x. record { root = refl; height = refl } };
 
     ghost same_indexes = { λ x y state s same is.
-        IsSortedScan-same_tree E.key_of E.Key.cmp s x.table y.table same is };
+        IsSortedScan-same_tree E.key_of E.cmp s x.table y.table same is };
 
     ghost apart = { λ x state s is. never_apart s };
 
     ghost modified = { λ x state s ix was item is live same.
-        IsSortedScan-modified E.key_of E.Key.cmp E.Key.total s (order_of x.table) is ix item was live same };
+        IsSortedScan-modified E.key_of E.cmp E.total s (order_of x.table) is ix item was live same };
 
     ghost same_items = { λ x state s t same is.
-        IsSortedScan-alike E.key_of E.Key.cmp E.Key.total s t same (order_of x.table) is };
+        IsSortedScan-alike E.key_of E.cmp E.total s t same (order_of x.table) is };
 
-    ghost equivalence = { shares_equivalence E.key_of E.Key.cmp E.Key.total };
+    ghost equivalence = { shares_equivalence E.key_of E.cmp E.total };
 
     ghost reported = { λ s item at conflicts ix. absurd conflicts };
 
@@ -290,7 +285,7 @@ where
 
     ghost is_position = { λ x state s item position. Unit {0} };
 
-    ghost is_planned = { λ x state s item gap. IsOwnGapFor E.key_of E.Key.cmp s x.table item gap };
+    ghost is_planned = { λ x state s item gap. IsOwnGapFor E.key_of E.cmp s x.table item gap };
 
     ghost are_none = { λ blocks. blocks ≡ 0 };
 
@@ -299,9 +294,9 @@ where
     ghost are_enough_after = { λ x blocks. HasBlocksAnywhere x.table blocks };
 
     ghost same_plans = { λ x y state s item gap same is.
-        IsOwnGapFor-same_tree E.key_of E.Key.cmp s x.table y.table item gap same is };
+        IsOwnGapFor-same_tree E.key_of E.cmp s x.table y.table item gap same is };
 
-    ghost is_move = { λ state s ix item plan. IsMoveFor E.key_of E.Key.cmp s ix item plan };
+    ghost is_move = { λ state s ix item plan. IsMoveFor E.key_of E.cmp s ix item plan };
 
     ghost moves = { moves };
 
@@ -313,15 +308,15 @@ where
         ordered_steps::capacity(&self.table)
     }
 
-    fn new(alloc: Global) -> ByOrderMulti<E> {
-        ByOrderMulti {
+    fn new(alloc: Global) -> ByOrderMultiOf<E> {
+        ByOrderMultiOf {
             table: MapBTreeTable::new(alloc),
             of: PhantomData,
         }
     }
 
-    fn with_capacity(alloc: Global, wanted: usize) -> Result<ByOrderMulti<E>, AllocError> {
-        Ok(ByOrderMulti {
+    fn with_capacity(alloc: Global, wanted: usize) -> Result<ByOrderMultiOf<E>, AllocError> {
+        Ok(ByOrderMultiOf {
             table: ordered_steps::with_capacity(alloc, wanted)?,
             of: PhantomData,
         })
@@ -399,7 +394,7 @@ where
         ix: ItemIndex,
         item: &T,
     ) -> Result<Move, NoConflict> {
-        if E::key(item).cmp(key_at::<T, E>(items, ix)).is_eq() {
+        if E::compare(item, item_at(items, ix)).is_eq() {
             return Ok(Move::Stays);
         }
         Ok(Move::Moves)
@@ -422,15 +417,15 @@ where
         ordered_steps::commit_move::<T, E>(&mut self.table, items, plan, blocks, ix, item);
     }
 
-    fn copied(&self) -> Result<ByOrderMulti<E>, AllocError> {
-        Ok(ByOrderMulti {
+    fn copied(&self) -> Result<ByOrderMultiOf<E>, AllocError> {
+        Ok(ByOrderMultiOf {
             table: self.table.clone()?,
             of: PhantomData,
         })
     }
 
     fn is_same(item: &T, other: &T) -> bool {
-        E::key(item).cmp(E::key(other)) == Ordering::Equal
+        E::compare(item, other) == Ordering::Equal
     }
 
     fn validate(
@@ -443,26 +438,24 @@ where
     }
 }
 
-impl<T, S, E, Q> OrderedAt<Here, Q, T, S> for ByOrderMulti<E>
+impl<T, S, E, Q> OrderedAt<Here, Q, T, S> for ByOrderMultiOf<E>
 where
-    E: KeyOf<T>,
-    E::Key: Ord,
-    Q: OrdQuery<E::Key>,
+    E: OrdKey<T>,
+    Q: ItemRangeQuery<T, E>,
 {
-    ghost use Rattle.iddqd_keys.specs.OrderedQuery.{IsQuery-on};
     ghost use Rattle.std.proofs.lemmas.Cmp.{on_total};
 
     type Spot = Spot;
 
-    ghost order = { on E.key_of E.Key.cmp };
+    ghost order = { on E.key_of E.cmp };
 
-    ghost compare = { compare_by E.key_of Q.compare };
+    ghost compare = { Q.compare_item };
 
     ghost stands = { λ x spot ix. StandsAt x.table spot ix };
 
-    ghost total = { on_total E.key_of E.Key.total };
+    ghost total = { on_total E.key_of E.total };
 
-    ghost fits = { λ query. IsQuery-on E.key_of E.Key.cmp (Q.compare query) (Q.lawful query) };
+    ghost fits = { Q.fits };
 
     fn first_between(
         &self,
@@ -471,9 +464,9 @@ where
         lower: Bound<Q>,
         upper: Bound<Q>,
     ) -> Option<(ItemIndex, Spot)>
-        requires indexed { IsSortedScan E.key_of E.Key.cmp items.now.store (order_of self.now.table) }
-        ensures first { let within = is_within (compare_by E.key_of Q.compare) lower upper in
-            IsFirstHit itself (on E.key_of E.Key.cmp) items.now.store within
+        requires indexed { IsSortedScan E.key_of E.cmp items.now.store (order_of self.now.table) }
+        ensures first { let within = is_within Q.compare_item lower upper in
+            IsFirstHit itself (on E.key_of E.cmp) items.now.store within
             (option_map (λ (r : ℕ × SpotInTable). r.0) result) }
         ensures stands { IfSome result (λ r. StandsAt self.now.table r.1 r.0) }
     {
@@ -489,10 +482,10 @@ where
         upper: Bound<Q>,
     ) -> Option<ItemIndex>
         requires live { IsLive items.now.store ix }
-        requires indexed { IsSortedScan E.key_of E.Key.cmp items.now.store (order_of self.now.table) }
+        requires indexed { IsSortedScan E.key_of E.cmp items.now.store (order_of self.now.table) }
         requires stands { StandsAt self.now.table spot.old ix }
-        ensures next { let within = is_up_to (bound_map (compare_by E.key_of Q.compare) upper) in
-            IsNextHit itself (on E.key_of E.Key.cmp) items.now.store within ix result }
+        ensures next { let within = is_up_to (bound_map Q.compare_item upper) in
+            IsNextHit itself (on E.key_of E.cmp) items.now.store within ix result }
         ensures stands { IfSome result (StandsAt self.now.table spot.new) }
     {
         next_between::<T, E, Q>(&self.table, items, spot, upper)
@@ -507,12 +500,12 @@ where
         upper: Bound<Q>,
     ) -> Option<ItemIndex>
         requires live { IsLive items.now.store ix }
-        requires indexed { IsSortedScan E.key_of E.Key.cmp items.now.store (order_of self.old.table) }
+        requires indexed { IsSortedScan E.key_of E.cmp items.now.store (order_of self.old.table) }
         requires stands { StandsAt self.old.table spot.old ix }
-        ensures next { let within = is_up_to (bound_map (compare_by E.key_of Q.compare) upper) in
-            IsNextHit itself (on E.key_of E.Key.cmp) items.now.store within ix result }
+        ensures next { let within = is_up_to (bound_map Q.compare_item upper) in
+            IsNextHit itself (on E.key_of E.cmp) items.now.store within ix result }
         ensures stands { IfSome result (StandsAt self.new.table spot.new) }
-        ensures indexed { IsSortedScan E.key_of E.Key.cmp (removed items.now.store ix) (order_of self.new.table) }
+        ensures indexed { IsSortedScan E.key_of E.cmp (removed items.now.store ix) (order_of self.new.table) }
         ensures capacity { reserved_for self.new.table ≡ reserved_for self.old.table }
     {
         take_between::<T, E, Q>(&mut self.table, items, spot, upper)

@@ -30,14 +30,16 @@ mod retain;
 mod values;
 mod walks;
 
-use crate::by_order::ByOrder;
+use crate::by_order::ByOrderOf;
 use crate::ordered_query::find_by;
 pub use clones::IdOrdClone;
 use iddqd::index_remap::IndexRemap;
 use iddqd::item_index::ItemIndex;
 use iddqd::item_set::ItemSet;
+use iddqd_keys::item_order_query::ItemOrdQuery;
+use iddqd_keys::key_kinds::Field;
 use iddqd_keys::key_of::KeyOf;
-use iddqd_keys::order_query::OrdQuery;
+use iddqd_keys::order_key::OrdKey;
 use iddqd_map::key_index::Here;
 use iddqd_map::map::Map;
 use iddqd_map::refusal::{InsertRefusal, OverwriteRefusal};
@@ -74,15 +76,19 @@ impl<T: IdOrdItem> KeyOf<T> for ItsKey {
     }
 }
 
-/// Items under stable indexes, which all have different keys.
+/// A map of items that say themselves what their key is.
+pub type IdOrdMap<T> = OrdMapBy<T, Field<ItsKey, <T as IdOrdItem>::Key>>;
+
+/// Items under stable indexes, which all have different keys. The key `E` is a `Field`, a `Computed` value, a
+/// `Reversed` key, or a tuple of keys.
 ///
 /// A contract sees it as the store of its items, and its memory beside that.
 #[derive(Drop)]
-pub struct IdOrdMap<T: IdOrdItem> {
-    map: Map<T, ByOrder<ItsKey>, ()>,
+pub struct OrdMapBy<T: Drop, E: OrdKey<T>> {
+    map: Map<T, ByOrderOf<E>, ()>,
 }
 
-impl<T: IdOrdItem> Model for IdOrdMap<T> {
+impl<T: Drop, E: OrdKey<T>> Model for OrdMapBy<T, E> {
     ghost use Rattle.iddqd_map.specs.Map.{MapState, map_code};
 
     ghost Value = { MapState T };
@@ -94,34 +100,34 @@ impl<T: IdOrdItem> Model for IdOrdMap<T> {
     ghost inverse = { λ m. record { map = m } };
 }
 
-impl<T: IdOrdItem> IdOrdMap<T> {
+impl<T: Drop, E: OrdKey<T>> OrdMapBy<T, E> {
     /// Empty. It may grow to `u32::MAX` items, one for each index but `SENTINEL`. It takes no memory.
-    pub fn new(alloc: Global) -> IdOrdMap<T>
+    pub fn new(alloc: Global) -> OrdMapBy<T, E>
         ensures { result ≡ empty_map u32.MAX }
     {
-        IdOrdMap::with_limit(alloc, u32::MAX)
+        OrdMapBy::with_limit(alloc, u32::MAX)
     }
 
     /// Empty, and never with more slots than the limit. It takes no memory.
     ///
     /// No call changes the limit.
-    pub fn with_limit(alloc: Global, limit: u32) -> IdOrdMap<T>
+    pub fn with_limit(alloc: Global, limit: u32) -> OrdMapBy<T, E>
         ensures { result ≡ empty_map limit }
     {
-        IdOrdMap {
+        OrdMapBy {
             map: Map::with_limit_and_hasher(alloc, limit, ()),
         }
     }
 
     /// Empty, with memory for `wanted` items. With 0 it takes none.
-    pub fn with_capacity(alloc: Global, wanted: usize) -> Result<IdOrdMap<T>, AllocError>
+    pub fn with_capacity(alloc: Global, wanted: usize) -> Result<OrdMapBy<T, E>, AllocError>
         ensures contents { IfOk result (λ m. m.store ≡ empty) }
         ensures room { IfOk result (λ m. min wanted slot_limit ≤ room m) }
         ensures slots { IfOk result (λ m. m.memory.slots ≡ wanted) }
         ensures cells { IfOk result (λ m. m.memory.cells ≤ most_cells wanted) }
         ensures none { wanted ≡ 0 → IsOk result }
     {
-        Ok(IdOrdMap {
+        Ok(OrdMapBy {
             map: Map::with_capacity_and_hasher(alloc, wanted, ())?,
         })
     }
@@ -129,7 +135,7 @@ impl<T: IdOrdItem> IdOrdMap<T> {
     // The items, and the table that sorts them.
     fn parts(&self) -> (&ItemSet<T>, &MapBTreeTable)
         ensures items { result.0.now.store ≡ self.now.store }
-        ensures sorted { Sorts T.key_of T.Key.cmp result.0.now.store (order_of result.1.now) }
+        ensures sorted { Sorts E.key_of E.cmp result.0.now.store (order_of result.1.now) }
     {
         let parts = self.map.parts();
         (parts.items, &parts.indexes.table)
@@ -140,7 +146,7 @@ impl<T: IdOrdItem> IdOrdMap<T> {
         ensures value { result ≡ live_count self.now.store }
 
         // What every map keeps.
-        ensures state { IsMap (shares T.key_of (eq_by_cmp T.Key.cmp)) self.now.store }
+        ensures state { IsMap (shares E.key_of (eq_by_cmp E.cmp)) self.now.store }
     {
         self.map.len()
     }
@@ -154,26 +160,27 @@ impl<T: IdOrdItem> IdOrdMap<T> {
 
     /// The index of the item that has the key for which the query stands.
     ///
-    /// The query is a `&T::Key`, or another query that stands for such a key. It is one search of the ordered table,
+    /// The query is a `&K` for a field `K`, a tuple of queries for a tuple of keys, or another query that stands for
+    /// one key. It is one search of the ordered table,
     /// whose contract allows at most 4 + 2d comparisons, where the number of items has d binary digits. The contract
     /// here doesn't count them; tests do.
-    pub fn find<Q: OrdQuery<T::Key>>(&self, query: Q) -> Option<ItemIndex>
-        ensures { AnswersScan self.now.store (passes_by T.key_of (is_equal (Q.compare query))) result }
+    pub fn find<Q: ItemOrdQuery<T, E>>(&self, query: Q) -> Option<ItemIndex>
+        ensures { AnswersScan self.now.store (is_equal (Q.compare_item query)) result }
     {
         let (items, table) = self.parts();
-        find_by::<T, ItsKey, Q>(table, items, query)
+        find_by::<T, E, Q>(table, items, query)
     }
 
     /// Whether an item has the key.
-    pub fn contains_key<Q: OrdQuery<T::Key>>(&self, query: Q) -> bool
-        ensures { (result ≡ false) ↔ HasNoHit self.now.store (passes_by T.key_of (is_equal (Q.compare query))) }
+    pub fn contains_key<Q: ItemOrdQuery<T, E>>(&self, query: Q) -> bool
+        ensures { (result ≡ false) ↔ HasNoHit self.now.store (is_equal (Q.compare_item query)) }
     {
         self.find(query).is_some()
     }
 
     /// The item that has the key.
-    pub fn get<Q: OrdQuery<T::Key>>(&self, query: Q) -> Option<&T>
-        ensures { FindsItem self.now.store (passes_by T.key_of (is_equal (Q.compare query))) (option_copied result) }
+    pub fn get<Q: ItemOrdQuery<T, E>>(&self, query: Q) -> Option<&T>
+        ensures { FindsItem self.now.store (is_equal (Q.compare_item query)) (option_copied result) }
     {
         self.map.get_at(self.find(query)?)
     }
@@ -191,7 +198,7 @@ impl<T: IdOrdItem> IdOrdMap<T> {
     /// refusal returns the item, and the contents stay. If there is `room`, only a duplicate is refused. The table is
     /// searched once.
     pub fn insert_unique(&mut self, item: T) -> Result<ItemIndex, InsertRefusal<T, ItemIndex>>
-        ensures inserts { let alike = shares T.key_of (eq_by_cmp T.Key.cmp) in
+        ensures inserts { let alike = shares E.key_of (eq_by_cmp E.cmp) in
             Inserts alike (λ count. 0) (IsReported alike) self.old item result self.new }
         ensures index { IfOk result (λ ix. ix ≡ next_index self.old.store) }
         ensures stored { OnOk result (self.new.store ≡ inserted self.old.store item) }
@@ -213,7 +220,7 @@ impl<T: IdOrdItem> IdOrdMap<T> {
         &mut self,
         item: T,
     ) -> Result<(ItemIndex, Option<T>), OverwriteRefusal<T>>
-        ensures inserts { OverwritesOne (shares T.key_of (eq_by_cmp T.Key.cmp)) (λ count. 0) self.old item result
+        ensures inserts { OverwritesOne (shares E.key_of (eq_by_cmp E.cmp)) (λ count. 0) self.old item result
             self.new }
         ensures one_more { IfOk result (λ put. IfNone put.1
             (live_count self.new.store ≡ live_count self.old.store + 1)) }
@@ -235,9 +242,9 @@ impl<T: IdOrdItem> IdOrdMap<T> {
     }
 
     /// Removes the item that has the key, and returns it. The table is searched once. It takes no memory.
-    pub fn remove<Q: OrdQuery<T::Key>>(&mut self, query: Q) -> Option<T>
-        ensures removes { Removes self.old (passes_by T.key_of (is_equal (Q.compare query))) result self.new }
-        ensures gone { HasNoHit self.new.store (passes_by T.key_of (is_equal (Q.compare query))) }
+    pub fn remove<Q: ItemOrdQuery<T, E>>(&mut self, query: Q) -> Option<T>
+        ensures removes { Removes self.old (is_equal (Q.compare_item query)) result self.new }
+        ensures gone { HasNoHit self.new.store (is_equal (Q.compare_item query)) }
         ensures room { room self.old ≤ room self.new }
         ensures count { OnSome result (live_count self.old.store ≡ live_count self.new.store + 1) }
         ensures unchanged { IfNone result (self.new ≡ self.old) }

@@ -8,13 +8,16 @@ ghost use Rattle.iddqd.specs.{rebound};
 ghost use Rattle.iddqd_order.specs.MapBTreeTable.{order_of, capacity, move_blocks};
 ghost use Rattle.iddqd_by_order.specs.Ordered.{IsSortedScan};
 ghost use Rattle.iddqd_keys.specs.Scan.{IsLive, IsKeyAt};
+ghost use Rattle.iddqd_map.specs.Ranges.{itself};
 ghost use Rattle.iddqd_ord_map.specs.OrderedIndexing.{PlansOrConflicts, Sorts};
 
 use iddqd::item_index::ItemIndex;
 use iddqd::item_set::ItemSet;
-use iddqd_by_order::ordered;
-use iddqd_keys::key_of::{KeyOf, KeyQuery, key_at};
-use iddqd_order::btree_table::{Asking, Blocks, MapBTreeTable};
+use iddqd_by_order::ordered_item::{find_same, item_at};
+use iddqd_keys::order_key::OrdKey;
+use iddqd_order::btree_table::{Asking, Blocks, MapBTreeTable, Reads};
+use std::cmp::Ordering;
+use std::marker::PhantomData;
 
 /// Whether a live index moves in an ordered table when its item is replaced.
 #[derive(Clone, Copy)]
@@ -36,17 +39,15 @@ pub fn plan_move<T, E>(
     item: &T,
 ) -> Result<Move, ItemIndex>
 where
-    E: KeyOf<T>,
-    E::Key: Ord,
+    E: OrdKey<T>,
     requires live { IsLive items.now.store ix }
-    requires sorted { Sorts E.key_of E.Key.cmp items.now.store (order_of table.now) }
-    ensures { PlansOrConflicts E.key_of E.Key.cmp items.now.store ix item.now result }
+    requires sorted { Sorts E.key_of E.cmp items.now.store (order_of table.now) }
+    ensures { PlansOrConflicts E.key_of E.cmp items.now.store ix item.now result }
 {
-    let key = E::key(item);
-    if key.cmp(key_at::<T, E>(items, ix)).is_eq() {
+    if E::compare(item, item_at(items, ix)).is_eq() {
         return Ok(Move::Stays);
     }
-    match ordered::find::<T, E, KeyQuery<E::Key>>(table, items, &KeyQuery(key)) {
+    match find_same::<T, E>(table, items, item) {
         Some(at) => Err(at),
         None => Ok(Move::Moves),
     }
@@ -61,20 +62,41 @@ pub fn relocate<T, E>(
     blocks: Blocks,
 )
 where
-    E: KeyOf<T>,
-    E::Key: Ord,
+    E: OrdKey<T>,
     requires live { IsLive items.now.store ix }
-    requires sorted { IsSortedScan E.key_of E.Key.cmp items.now.store (order_of table.old) }
+    requires sorted { IsSortedScan E.key_of E.cmp items.now.store (order_of table.old) }
     requires enough { move_blocks table.old ≤ blocks }
-    ensures moved { IsSortedScan E.key_of E.Key.cmp (rebound items.now.store ix item.now) (order_of table.new) }
+    ensures moved { IsSortedScan E.key_of E.cmp (rebound items.now.store ix item.now) (order_of table.new) }
     ensures memory { capacity table.new ≡ capacity table.old }
 {
-    let (old_key, new_key) = (key_at::<T, E>(items, ix), E::key(item));
+    let leaving = ByItsKey::<T, E> {
+        item: item_at(items, ix),
+        of: PhantomData,
+    };
+    let entering = ByItsKey::<T, E> {
+        item,
+        of: PhantomData,
+    };
     let mut asking = Asking::new(
         |at: ItemIndex|
             requires { IsLive items.now.store at }
-            ensures { IsKeyAt E.key_of items.entry.now.store at result.now }
-        { key_at::<T, E>(items, at) },
+            ensures { IsKeyAt itself items.entry.now.store at result.now }
+        { item_at(items, at) },
     );
-    table.move_index(ix, &old_key, &new_key, &mut asking, blocks);
+    table.move_index_reading(ix, &leaving, &entering, &mut asking, blocks);
+}
+
+// An item whose key `E` is compared with the keys of the items that the table's closure borrows.
+#[derive(Drop)]
+struct ByItsKey<'a, T, E> {
+    item: &'a T,
+    of: PhantomData<E>,
+}
+
+impl<'a, 'b, T, E: OrdKey<T>> Reads<&'b T> for ByItsKey<'a, T, E> {
+    ghost reading = { λ by other. E.cmp (E.key_of by.item.now) (E.key_of other.now) };
+
+    fn read(&self, other: &'b T) -> Ordering {
+        E::compare(self.item, other)
+    }
 }

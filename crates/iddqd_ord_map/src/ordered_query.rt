@@ -3,20 +3,22 @@
 //! If the table is sorted by the keys as they are now, and no two items share a key, a look-up returns what a scan
 //! would. A range allows equal keys: items with equal keys are in it by index.
 ghost use Rattle.std.specs.Prelude.{◌≡◌};
+ghost use Rattle.std.specs.Ordering.{on};
 ghost use Rattle.iddqd_order.specs.{capacity, indexes_ahead, indexes_left, order_of};
 ghost use Rattle.iddqd_keys.specs.Scan.{AnswersScan, passes_by};
 ghost use Rattle.iddqd_keys.specs.OrderedQuery.{is_within};
 ghost use Rattle.iddqd_by_order.specs.Ordered.{Takes, IsSortedScan, is_equal};
 ghost use Rattle.iddqd_by_order.specs.OrderedWalk.{SortsWithin};
 ghost use Rattle.iddqd_ord_map.specs.ByOrder.{FindsGreatest, FindsLeast};
-ghost use Rattle.iddqd_ord_map.specs.ByOrderMulti.{Counts};
+ghost use Rattle.iddqd_map.specs.Groups.{CountsHits};
+ghost use Rattle.iddqd_map.specs.Ranges.{itself};
 ghost use Rattle.iddqd_ord_map.specs.OrderedIndexing.{Sorts};
 
 use iddqd::item_index::ItemIndex;
 use iddqd::item_set::ItemSet;
-use iddqd_by_order::ordered;
-use iddqd_keys::key_of::KeyOf;
-use iddqd_keys::order_query::{AsComparable, OrdQuery};
+use iddqd_by_order::ordered_item;
+use iddqd_keys::item_order_query::{ItemOrdQuery, ItemRangeQuery};
+use iddqd_keys::order_key::OrdKey;
 use iddqd_order::btree_table::{Iter, MapBTreeTable, Range};
 use std::ops::Bound;
 
@@ -26,13 +28,12 @@ use std::ops::Bound;
 /// says where this is proved.
 pub fn find_by<T, E, Q>(table: &MapBTreeTable, items: &ItemSet<T>, query: Q) -> Option<ItemIndex>
 where
-    E: KeyOf<T>,
-    E::Key: Ord,
-    Q: OrdQuery<E::Key>,
-    requires { Sorts E.key_of E.Key.cmp items.now.store (order_of table.now) }
-    ensures { AnswersScan items.now.store (passes_by E.key_of (is_equal (Q.compare query))) result }
+    E: OrdKey<T>,
+    Q: ItemOrdQuery<T, E>,
+    requires { Sorts E.key_of E.cmp items.now.store (order_of table.now) }
+    ensures { AnswersScan items.now.store (is_equal (Q.compare_item query)) result }
 {
-    ordered::find::<T, E, AsComparable<Q>>(table, items, &AsComparable(query))
+    ordered_item::find::<T, E, Q>(table, items, query)
 }
 
 /// Finds as `find_by` does, and removes the index from the table, by one search. It takes no memory.
@@ -42,15 +43,14 @@ pub fn take_by<T, E, Q>(
     query: Q,
 ) -> Option<ItemIndex>
 where
-    E: KeyOf<T>,
-    E::Key: Ord,
-    Q: OrdQuery<E::Key>,
-    requires { Sorts E.key_of E.Key.cmp items.now.store (order_of table.old) }
-    ensures found { AnswersScan items.now.store (passes_by E.key_of (is_equal (Q.compare query))) result }
+    E: OrdKey<T>,
+    Q: ItemOrdQuery<T, E>,
+    requires { Sorts E.key_of E.cmp items.now.store (order_of table.old) }
+    ensures found { AnswersScan items.now.store (is_equal (Q.compare_item query)) result }
     ensures taken { Takes (order_of table.old) result (order_of table.new) }
     ensures memory { capacity table.new ≡ capacity table.old }
 {
-    ordered::take::<T, E, AsComparable<Q>>(table, items, &AsComparable(query))
+    ordered_item::take::<T, E, Q>(table, items, query)
 }
 
 /// The indexes whose items have keys between two bounds, in the order of the keys: none if the lower bound is above the
@@ -64,23 +64,21 @@ pub fn range_by<'t, T, E, Q>(
     upper: Bound<Q>,
 ) -> Range<'t>
 where
-    E: KeyOf<T>,
-    E::Key: Ord,
-    Q: OrdQuery<E::Key>,
-    requires { IsSortedScan E.key_of E.Key.cmp items.now.store (order_of table.now) }
-    ensures { let within = is_within Q.compare lower upper in
-        SortsWithin E.key_of E.Key.cmp within items.now.store (indexes_ahead result) }
+    E: OrdKey<T>,
+    Q: ItemRangeQuery<T, E>,
+    requires { IsSortedScan E.key_of E.cmp items.now.store (order_of table.now) }
+    ensures { let within = is_within Q.compare_item lower upper in
+        SortsWithin itself (on E.key_of E.cmp) within items.now.store (indexes_ahead result) }
 {
-    ordered::range::<T, E, Q>(table, items, lower, upper)
+    ordered_item::range::<T, E, Q>(table, items, lower, upper)
 }
 
 /// The index of an item with the least key.
 pub fn first_by<T, E>(table: &MapBTreeTable, items: &ItemSet<T>) -> Option<ItemIndex>
 where
-    E: KeyOf<T>,
-    E::Key: Ord,
-    requires { IsSortedScan E.key_of E.Key.cmp items.now.store (order_of table.now) }
-    ensures { FindsLeast E.key_of E.Key.cmp items.now.store result }
+    E: OrdKey<T>,
+    requires { IsSortedScan E.key_of E.cmp items.now.store (order_of table.now) }
+    ensures { FindsLeast E.key_of E.cmp items.now.store result }
 {
     table.first()
 }
@@ -88,10 +86,9 @@ where
 /// The index of an item with the greatest key.
 pub fn last_by<T, E>(table: &MapBTreeTable, items: &ItemSet<T>) -> Option<ItemIndex>
 where
-    E: KeyOf<T>,
-    E::Key: Ord,
-    requires { IsSortedScan E.key_of E.Key.cmp items.now.store (order_of table.now) }
-    ensures { FindsGreatest E.key_of E.Key.cmp items.now.store result }
+    E: OrdKey<T>,
+    requires { IsSortedScan E.key_of E.cmp items.now.store (order_of table.now) }
+    ensures { FindsGreatest E.key_of E.cmp items.now.store result }
 {
     table.last()
 }
@@ -99,10 +96,9 @@ where
 /// The live indexes, in the order of the keys, and those with equal keys by index, from both ends. It takes no memory.
 pub fn iter_by<'t, T, E>(table: &'t MapBTreeTable, items: &ItemSet<T>) -> Iter<'t>
 where
-    E: KeyOf<T>,
-    E::Key: Ord,
-    requires { IsSortedScan E.key_of E.Key.cmp items.now.store (order_of table.now) }
-    ensures { IsSortedScan E.key_of E.Key.cmp items.now.store (indexes_left result) }
+    E: OrdKey<T>,
+    requires { IsSortedScan E.key_of E.cmp items.now.store (order_of table.now) }
+    ensures { IsSortedScan E.key_of E.cmp items.now.store (indexes_left result) }
 {
     table.iter()
 }
@@ -112,11 +108,11 @@ where
 /// It is two searches of the table, each as `find_by`, and takes no memory.
 pub fn group_by<'t, T, E, Q>(table: &'t MapBTreeTable, items: &ItemSet<T>, query: Q) -> Range<'t>
 where
-    E: KeyOf<T>,
-    E::Key: Ord,
-    Q: OrdQuery<E::Key>,
-    requires { IsSortedScan E.key_of E.Key.cmp items.now.store (order_of table.now) }
-    ensures { SortsWithin E.key_of E.Key.cmp (is_equal (Q.compare query)) items.now.store (indexes_ahead result) }
+    E: OrdKey<T>,
+    Q: ItemRangeQuery<T, E>,
+    requires { IsSortedScan E.key_of E.cmp items.now.store (order_of table.now) }
+    ensures { SortsWithin itself (on E.key_of E.cmp) (is_equal (Q.compare_item query)) items.now.store
+        (indexes_ahead result) }
 {
     range_by::<T, E, Q>(table, items, Bound::Included(query), Bound::Included(query))
 }
@@ -124,14 +120,13 @@ where
 /// How many items have the key for which the query stands. It costs one step for each of them more than `group_by`.
 pub fn count_by<T, E, Q>(table: &MapBTreeTable, items: &ItemSet<T>, query: Q) -> usize
 where
-    E: KeyOf<T>,
-    E::Key: Ord,
-    Q: OrdQuery<E::Key>,
-    requires { IsSortedScan E.key_of E.Key.cmp items.now.store (order_of table.now) }
-    ensures { Counts E.key_of E.Key.cmp (is_equal (Q.compare query)) items.now.store result }
+    E: OrdKey<T>,
+    Q: ItemRangeQuery<T, E>,
+    requires { IsSortedScan E.key_of E.cmp items.now.store (order_of table.now) }
+    ensures { CountsHits items.now.store (is_equal (Q.compare_item query)) result }
 {
     // The table counts its indexes in 64 bits.
     let _len = table.len();
     let (from, to) = (Bound::Included(query), Bound::Included(query));
-    ordered::range::<T, E, Q>(table, items, from, to).count()
+    ordered_item::range::<T, E, Q>(table, items, from, to).count()
 }

@@ -19,8 +19,8 @@ use iddqd::index_remap::IndexRemap;
 use iddqd::internal::{ValidateCompact, ValidateRefusal, ValidationError};
 use iddqd::item_index::ItemIndex;
 use iddqd::item_set::ItemSet;
-use iddqd_by_order::ordered::remove_index;
-use iddqd_keys::key_of::KeyOf;
+use iddqd_by_order::ordered_item::remove_index;
+use iddqd_keys::order_key::OrdKey;
 use iddqd_order::btree_table::{Blocks, Gap, MapBTreeTable};
 use std::alloc::{AllocError, Global};
 
@@ -134,8 +134,7 @@ pub fn blocks_for<T>(
 /// Removes a live index. An insert after it needs at most as many blocks as a move before it. It takes no memory.
 pub fn take_out<T, E>(table: &mut MapBTreeTable, items: &ItemSet<T>, ix: ItemIndex)
 where
-    E: KeyOf<T>,
-    E::Key: Ord,
+    E: OrdKey<T>,
     requires live { IsLive items.now.store ix }
     requires held { Holds items.now.store (order_of table.old) }
     ensures taken { order_of table.new ≡ without (order_of table.old) ix }
@@ -157,13 +156,12 @@ pub fn commit_move<T, E>(
     item: &T,
 )
 where
-    E: KeyOf<T>,
-    E::Key: Ord,
+    E: OrdKey<T>,
     requires live { IsLive items.now.store ix }
-    requires sorted { IsSortedScan E.key_of E.Key.cmp items.now.store (order_of table.old) }
-    requires stays { StaysByKey E.key_of E.Key.cmp items.now.store ix item.now plan.now }
+    requires sorted { IsSortedScan E.key_of E.cmp items.now.store (order_of table.old) }
+    requires stays { StaysByKey E.key_of E.cmp items.now.store ix item.now plan.now }
     requires enough { HasBlocksFor table.old blocks plan.now }
-    ensures moved { IsSortedScan E.key_of E.Key.cmp (rebound items.now.store ix item.now) (order_of table.new) }
+    ensures moved { IsSortedScan E.key_of E.cmp (rebound items.now.store ix item.now) (order_of table.new) }
     ensures memory { table_capacity table.new ≡ table_capacity table.old }
 {
     match plan {

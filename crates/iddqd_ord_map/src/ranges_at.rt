@@ -5,21 +5,20 @@ ghost use Rattle.std.specs.Range.Bound.{bound_map};
 ghost use Rattle.std.specs.Ordering.{on};
 ghost use Rattle.iddqd_by_order.specs.Ordered.{IsSortedScan};
 ghost use Rattle.iddqd_keys.specs.OrderedQuery.{is_equal, is_within};
-ghost use Rattle.iddqd_keys.specs.Scan.{passes_by};
 ghost use Rattle.iddqd_map.specs.Groups.{CountsHits};
 ghost use Rattle.iddqd_map.specs.Ranges.{itself};
 ghost use Rattle.iddqd_ord_map.specs.InOrder.{ListsInOrder};
-ghost use Rattle.iddqd_ord_map.specs.ItemOrder.{compare_by};
 ghost use Rattle.iddqd_ord_map.specs.OrderedIndexing.{Sorts};
 ghost use Rattle.iddqd_order.specs.{indexes_ahead};
 ghost use Rattle.iddqd_order.specs.MapBTreeTable.{order_of};
 
-use crate::by_order::ByOrder;
-use crate::by_order_multi::ByOrderMulti;
+use crate::by_order::ByOrderOf;
+use crate::by_order_multi::ByOrderMultiOf;
+use crate::ordered_query::count_by;
 use iddqd::item_set::ItemSet;
-use iddqd_by_order::ordered;
-use iddqd_keys::key_of::KeyOf;
-use iddqd_keys::order_query::OrdQuery;
+use iddqd_by_order::ordered_item;
+use iddqd_keys::item_order_query::ItemRangeQuery;
+use iddqd_keys::order_key::OrdKey;
 use iddqd_map::key_index::{Here, KeyIndex, Left, OrderedAt, Right};
 use iddqd_map::pair::Pair;
 use iddqd_order::btree_table::{MapBTreeTable, Range};
@@ -53,24 +52,22 @@ pub trait RangesAt<P, Q, T, S>: OrderedAt<P, Q, T, S> {
         ensures { CountsHits items.now.store (is_equal (Self.OrderedAt.compare query)) result };
 }
 
-impl<T, S, E> SortedAt<Here, T, S> for ByOrder<E>
+impl<T, S, E> SortedAt<Here, T, S> for ByOrderOf<E>
 where
-    E: KeyOf<T>,
-    E::Key: Ord,
+    E: OrdKey<T>,
 {
-    ghost sorts_by = { on E.key_of E.Key.cmp };
+    ghost sorts_by = { on E.key_of E.cmp };
 
     fn table_at(&self, items: &ItemSet<T>, state: &S) -> &MapBTreeTable {
         &self.table
     }
 }
 
-impl<T, S, E> SortedAt<Here, T, S> for ByOrderMulti<E>
+impl<T, S, E> SortedAt<Here, T, S> for ByOrderMultiOf<E>
 where
-    E: KeyOf<T>,
-    E::Key: Ord,
+    E: OrdKey<T>,
 {
-    ghost sorts_by = { on E.key_of E.Key.cmp };
+    ghost sorts_by = { on E.key_of E.cmp };
 
     fn table_at(&self, items: &ItemSet<T>, state: &S) -> &MapBTreeTable {
         &self.table
@@ -101,41 +98,39 @@ where
     }
 }
 
-impl<T, S, E, Q> RangesAt<Here, Q, T, S> for ByOrder<E>
+impl<T, S, E, Q> RangesAt<Here, Q, T, S> for ByOrderOf<E>
 where
-    E: KeyOf<T>,
-    E::Key: Ord,
-    Q: OrdQuery<E::Key>,
+    E: OrdKey<T>,
+    Q: ItemRangeQuery<T, E>,
 {
     fn range_at(&self, items: &ItemSet<T>, state: &S, lower: Bound<Q>, upper: Bound<Q>) -> Range<'_>
-        requires indexed { Sorts E.key_of E.Key.cmp items.now.store (order_of self.now.table) }
-        ensures { let within = is_within (compare_by E.key_of Q.compare) lower upper in
-            ListsInOrder (on E.key_of E.Key.cmp) within items.now.store (indexes_ahead result) }
+        requires indexed { Sorts E.key_of E.cmp items.now.store (order_of self.now.table) }
+        ensures { let within = is_within Q.compare_item lower upper in
+            ListsInOrder (on E.key_of E.cmp) within items.now.store (indexes_ahead result) }
     {
-        ordered::range::<T, E, Q>(&self.table, items, lower, upper)
+        ordered_item::range::<T, E, Q>(&self.table, items, lower, upper)
     }
 
     fn count_at(&self, items: &ItemSet<T>, state: &S, query: Q) -> usize {
-        count_in::<T, E, Q>(&self.table, items, query)
+        count_by::<T, E, Q>(&self.table, items, query)
     }
 }
 
-impl<T, S, E, Q> RangesAt<Here, Q, T, S> for ByOrderMulti<E>
+impl<T, S, E, Q> RangesAt<Here, Q, T, S> for ByOrderMultiOf<E>
 where
-    E: KeyOf<T>,
-    E::Key: Ord,
-    Q: OrdQuery<E::Key>,
+    E: OrdKey<T>,
+    Q: ItemRangeQuery<T, E>,
 {
     fn range_at(&self, items: &ItemSet<T>, state: &S, lower: Bound<Q>, upper: Bound<Q>) -> Range<'_>
-        requires indexed { IsSortedScan E.key_of E.Key.cmp items.now.store (order_of self.now.table) }
-        ensures { let within = is_within (compare_by E.key_of Q.compare) lower upper in
-            ListsInOrder (on E.key_of E.Key.cmp) within items.now.store (indexes_ahead result) }
+        requires indexed { IsSortedScan E.key_of E.cmp items.now.store (order_of self.now.table) }
+        ensures { let within = is_within Q.compare_item lower upper in
+            ListsInOrder (on E.key_of E.cmp) within items.now.store (indexes_ahead result) }
     {
-        ordered::range::<T, E, Q>(&self.table, items, lower, upper)
+        ordered_item::range::<T, E, Q>(&self.table, items, lower, upper)
     }
 
     fn count_at(&self, items: &ItemSet<T>, state: &S, query: Q) -> usize {
-        count_in::<T, E, Q>(&self.table, items, query)
+        count_by::<T, E, Q>(&self.table, items, query)
     }
 }
 
@@ -175,19 +170,4 @@ where
     fn count_at(&self, items: &ItemSet<T>, state: &S, query: Q) -> usize {
         self.second.count_at(items, state, query)
     }
-}
-
-// How many items have the key for which the query stands.
-fn count_in<T, E, Q>(table: &MapBTreeTable, items: &ItemSet<T>, query: Q) -> usize
-where
-    E: KeyOf<T>,
-    E::Key: Ord,
-    Q: OrdQuery<E::Key>,
-    requires { IsSortedScan E.key_of E.Key.cmp items.now.store (order_of table.now) }
-    ensures { CountsHits items.now.store (passes_by E.key_of (is_equal (Q.compare query))) result }
-{
-    // The table counts its indexes in 64 bits.
-    let _len = table.len();
-    let (from, to) = (Bound::Included(query), Bound::Included(query));
-    ordered::range::<T, E, Q>(table, items, from, to).count()
 }

@@ -3,10 +3,11 @@ ghost use Rattle.std.specs.Prelude.{length, IfErr};
 ghost use Rattle.iddqd.specs.{Allows, Validates};
 ghost use Rattle.iddqd.specs.Validation.{Tells, not_compact_text};
 
-use super::{IdOrdItem, IdOrdMap};
+use super::OrdMapBy;
 use iddqd::internal::{ValidateCompact, ValidateRefusal, ValidationError};
+use iddqd_keys::order_key::OrdKey;
 
-impl<T: IdOrdItem> IdOrdMap<T> {
+impl<T: Drop, E: OrdKey<T>> OrdMapBy<T, E> {
     /// Whether store and table are sound, as they are in every map; for `Compact`, whether no slot is vacant.
     ///
     /// Memory is taken only for the text of a refusal.

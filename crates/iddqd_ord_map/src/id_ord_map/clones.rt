@@ -1,5 +1,5 @@
 //! Copies of a map.
-use super::{IdOrdItem, IdOrdMap};
+use super::{IdOrdItem, IdOrdMap, OrdMapBy};
 use std::alloc::AllocError;
 
 /// Items whose clones have the same key, so that a map of them can be cloned without a look-up.
@@ -22,7 +22,7 @@ impl<T: IdOrdClone> Clone for IdOrdMap<T> {
     ghost is_clone = { IsMapClone T.is_clone };
 
     fn clone(&self) -> Result<IdOrdMap<T>, AllocError> {
-        Ok(IdOrdMap {
+        Ok(OrdMapBy {
             map: self.map.copied()?,
         })
     }

@@ -3,32 +3,34 @@ ghost use Rattle.std.specs.Prelude.{◌≡◌, ◌≤◌, ◌+◌};
 ghost use Rattle.std.specs.Fn.{TakesAt, CalledAt};
 ghost use Rattle.iddqd.specs.{live_count};
 ghost use Rattle.iddqd.specs.LiveItems.{live_items};
-ghost use Rattle.iddqd_ord_map.specs.ItemOrder.{is_within_by, RemovesBetween, RetainsBetween};
+ghost use Rattle.iddqd_keys.specs.OrderedQuery.{is_within};
+ghost use Rattle.iddqd_ord_map.specs.ItemOrder.{RemovesBetween, RetainsBetween};
 ghost use Rattle.std.specs.Ordering.{on};
 ghost use Rattle.iddqd_map.specs.Map.{capacity, room};
 ghost use Rattle.iddqd_map.specs.RangeRetain.{KeepsMisses, MayAskWithin};
 ghost use Rattle.iddqd_map.specs.Ranges.{GivesItem, LeavesOthers, MayGive};
 
-use super::{IdOrdItem, IdOrdMap};
-use iddqd_keys::order_query::OrdQuery;
+use super::OrdMapBy;
+use iddqd_keys::item_order_query::ItemRangeQuery;
+use iddqd_keys::order_key::OrdKey;
 use iddqd_map::key_index::Here;
 use std::ops::Bound;
 
-impl<T: IdOrdItem> IdOrdMap<T> {
+impl<T: Drop, E: OrdKey<T>> OrdMapBy<T, E> {
     /// Removes the items whose keys are within the bounds, and returns how many there were.
     ///
     /// The closure receives each of them, by key. It takes no memory. It costs one search, and for each item a
     /// comparison with the upper bound.
-    pub fn remove_range<Q: OrdQuery<T::Key>, F: FnMut(T)>(
+    pub fn remove_range<Q: ItemRangeQuery<T, E>, F: FnMut(T)>(
         &mut self,
         lower: Bound<Q>,
         upper: Bound<Q>,
         f: F,
     ) -> usize
         requires { MayGive F.FnMut f (live_items self.old.store) }
-        ensures left { LeavesOthers self.old.store (is_within_by T.key_of Q.compare lower upper)
+        ensures left { LeavesOthers self.old.store (is_within Q.compare_item lower upper)
             self.new.store }
-        ensures handed { RemovesBetween T.key_of T.Key.cmp Q.compare lower upper (GivesItem F.FnMut) f
+        ensures handed { RemovesBetween (on E.key_of E.cmp) Q.compare_item lower upper (GivesItem F.FnMut) f
             self.old.store self.new.store }
         ensures memory { self.new.memory ≡ self.old.memory }
         ensures room { room self.old ≤ room self.new }
@@ -44,17 +46,17 @@ impl<T: IdOrdItem> IdOrdMap<T> {
     /// The closure is called once at each of them, by key. Those at which it answers false are removed; all other items
     /// stay under their indexes. It takes no memory. It costs one search, and for each item a comparison with the upper
     /// bound.
-    pub fn retain_range<Q: OrdQuery<T::Key>, F: FnMut(&T) -> bool>(
+    pub fn retain_range<Q: ItemRangeQuery<T, E>, F: FnMut(&T) -> bool>(
         &mut self,
         lower: Bound<Q>,
         upper: Bound<Q>,
         f: F,
     ) -> usize
-        requires { MayAskWithin (on T.key_of T.Key.cmp) (is_within_by T.key_of Q.compare lower upper)
+        requires { MayAskWithin (on E.key_of E.cmp) (is_within Q.compare_item lower upper)
             (TakesAt F.FnMut) (CalledAt F.FnMut) f self.old.store }
-        ensures asked { RetainsBetween T.key_of T.Key.cmp Q.compare lower upper (CalledAt F.FnMut) f
+        ensures asked { RetainsBetween (on E.key_of E.cmp) Q.compare_item lower upper (CalledAt F.FnMut) f
             self.old.store self.new.store }
-        ensures others { KeepsMisses self.old.store (is_within_by T.key_of Q.compare lower upper)
+        ensures others { KeepsMisses self.old.store (is_within Q.compare_item lower upper)
             self.new.store }
         ensures memory { self.new.memory ≡ self.old.memory }
         ensures room { room self.old ≤ room self.new }

@@ -9,25 +9,26 @@ ghost use Rattle.iddqd_ord_map.specs.OrdMap.{ReplacesInOrder, ReplacesInOrderIfL
 ghost use Rattle.iddqd_by_order.specs.Ordered.{is_equal};
 ghost use Rattle.iddqd_keys.specs.Scan.{IsLive, passes_by};
 
+use super::OrdMapBy;
 use super::iter::item_at;
-use super::{IdOrdItem, IdOrdMap};
 use iddqd::item_index::ItemIndex;
-use iddqd_keys::order_query::OrdQuery;
+use iddqd_keys::item_order_query::ItemOrdQuery;
+use iddqd_keys::order_key::OrdKey;
 use iddqd_map::refusal::ReplaceRefusal;
 
-impl<T: IdOrdItem> IdOrdMap<T> {
+impl<T: Drop, E: OrdKey<T>> OrdMapBy<T, E> {
     /// Replaces the item that has the key, and returns the old one.
     ///
     /// The new item may have another key. It gets the same index. If no item has the key (`Missing`), another item has
     /// the new item's key, or memory runs out, the new item comes back, and the map stays as it was. If the key stays
     /// the table isn't touched. Up to the capacity no memory is needed.
-    pub fn replace<Q: OrdQuery<T::Key>>(
+    pub fn replace<Q: ItemOrdQuery<T, E>>(
         &mut self,
         query: Q,
         item: T,
     ) -> Result<T, ReplaceRefusal<T, ItemIndex>>
-        ensures replaces { ReplacesInOrder T.key_of T.Key.cmp self.old
-            (passes_by T.key_of (is_equal (Q.compare query))) item result self.new }
+        ensures replaces { ReplacesInOrder E.key_of E.cmp self.old
+            (is_equal (Q.compare_item query)) item result self.new }
         ensures room { room self.new ≡ room self.old }
         ensures count { live_count self.new.store ≡ live_count self.old.store }
     {
@@ -41,7 +42,7 @@ impl<T: IdOrdItem> IdOrdMap<T> {
     ///
     /// If there is none it refuses with `Missing`. Otherwise it behaves as `replace`.
     pub fn replace_at(&mut self, ix: ItemIndex, item: T) -> Result<T, ReplaceRefusal<T, ItemIndex>>
-        ensures replaces { ReplacesInOrderIfLive T.key_of T.Key.cmp self.old ix item result self.new }
+        ensures replaces { ReplacesInOrderIfLive E.key_of E.cmp self.old ix item result self.new }
         ensures room { room self.new ≡ room self.old }
         ensures count { live_count self.new.store ≡ live_count self.old.store }
     {
@@ -52,14 +53,14 @@ impl<T: IdOrdItem> IdOrdMap<T> {
     /// has the key.
     ///
     /// The closure is called at most once, and not at all if no item has the key. Otherwise it behaves as `replace`.
-    pub fn change<Q: OrdQuery<T::Key>, F: FnOnce(&T) -> T>(
+    pub fn change<Q: ItemOrdQuery<T, E>, F: FnOnce(&T) -> T>(
         &mut self,
         query: Q,
         f: F,
     ) -> Result<Option<T>, ReplaceRefusal<T, ItemIndex>>
-        requires { MayChange F.FnOnce f self.old.store (passes_by T.key_of (is_equal (Q.compare query))) }
-        ensures changes { ChangesInOrder T.key_of T.Key.cmp (FnOnceReturnsAt F.FnOnce f) self.old
-            (passes_by T.key_of (is_equal (Q.compare query))) result self.new }
+        requires { MayChange F.FnOnce f self.old.store (is_equal (Q.compare_item query)) }
+        ensures changes { ChangesInOrder E.key_of E.cmp (FnOnceReturnsAt F.FnOnce f) self.old
+            (is_equal (Q.compare_item query)) result self.new }
         ensures room { room self.new ≡ room self.old }
         ensures count { live_count self.new.store ≡ live_count self.old.store }
     {

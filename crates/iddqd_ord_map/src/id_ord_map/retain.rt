@@ -14,28 +14,29 @@ ghost use Rattle.iddqd_ord_map.specs.KeyOrder.{IsKeyWalk};
 ghost use Rattle.iddqd_keys.specs.KeyWalk.{pairs_at};
 ghost use Rattle.iddqd_ord_map.specs.Retain.{AsksAlong, MayAskAlong, RetainsAlong, RetainsAlongTo};
 
+use super::OrdMapBy;
 use super::iter::item_at;
-use super::{IdOrdItem, IdOrdMap};
 use iddqd::item_set::ItemSet;
+use iddqd_keys::order_key::OrdKey;
 use iddqd_map::map::Map;
 use iddqd_order::btree_table::MapBTreeTable;
 use std::mem;
 
-impl<T: IdOrdItem> IdOrdMap<T> {
+impl<T: Drop, E: OrdKey<T>> OrdMapBy<T, E> {
     /// Keeps exactly the items at which the closure answers true, under their indexes, and returns how many it removed.
     ///
     /// The closure is called once at each item, in the order of the keys. The items at which it answers false are
     /// removed, in this order. No memory is taken, no key is compared, and it costs a few steps for each item.
     pub fn retain<F: FnMut(&T) -> bool>(&mut self, mut f: F) -> usize
-        requires { MayAskAlong (IsKeyWalk T.key_of T.Key.cmp) (TakesAt F.FnMut) (CalledAt F.FnMut) f self.old.store }
-        ensures retained { RetainsAlong (IsKeyWalk T.key_of T.Key.cmp) (CalledAt F.FnMut) f self.old self.new }
+        requires { MayAskAlong (IsKeyWalk E.key_of E.cmp) (TakesAt F.FnMut) (CalledAt F.FnMut) f self.old.store }
+        ensures retained { RetainsAlong (IsKeyWalk E.key_of E.cmp) (CalledAt F.FnMut) f self.old self.new }
         ensures count { result + live_count self.new.store ≡ live_count self.old.store }
     {
         let before = self.len();
         let (_, table) = self.parts();
         let none = Map::with_limit_and_hasher(table.allocator(), 0, ());
         let (mut items, mut index, state) = mem::replace(&mut self.map, none).into_parts();
-        retain_in(&mut items, &mut index.table, &mut f);
+        retain_in::<T, E, F>(&mut items, &mut index.table, &mut f);
         let removed = before - items.len();
         self.map = Map::from_parts(items, index, state);
         removed
@@ -43,18 +44,18 @@ impl<T: IdOrdItem> IdOrdMap<T> {
 }
 
 // Keeps the items at which the closure answers true. The closure stays in the state that its last call leaves.
-fn retain_in<T: IdOrdItem, F: FnMut(&T) -> bool>(
+fn retain_in<T: Drop, E: OrdKey<T>, F: FnMut(&T) -> bool>(
     items: &mut ItemSet<T>,
     table: &mut MapBTreeTable,
     f: &mut F,
 )
     requires valid { IsValid items.old.store }
-    requires sorted { Sorts T.key_of T.Key.cmp items.old.store (order_of table.old) }
-    requires can_ask { AsksAlong (IsKeyWalk T.key_of T.Key.cmp) (TakesAt F.FnMut) (CalledAt F.FnMut)
+    requires sorted { Sorts E.key_of E.cmp items.old.store (order_of table.old) }
+    requires can_ask { AsksAlong (IsKeyWalk E.key_of E.cmp) (TakesAt F.FnMut) (CalledAt F.FnMut)
         f.old items.old.store }
     ensures valid { IsValid items.new.store }
-    ensures sorted { Sorts T.key_of T.Key.cmp items.new.store (order_of table.new) }
-    ensures retained { RetainsAlongTo (IsKeyWalk T.key_of T.Key.cmp) (CalledAt F.FnMut)
+    ensures sorted { Sorts E.key_of E.cmp items.new.store (order_of table.new) }
+    ensures retained { RetainsAlongTo (IsKeyWalk E.key_of E.cmp) (CalledAt F.FnMut)
         f.old items.old.store items.new.store f.new }
     ensures fewer { live_count items.new.store ≤ live_count items.old.store }
     ensures slots { items.new.capacity ≡ items.old.capacity }

@@ -3,21 +3,24 @@ ghost use Rattle.std.specs.Prelude.{◌≡◌, ◌≤◌, ◌+◌, length, optio
 ghost use Rattle.std.specs.declared.cmp.Ordering.TheVariants.{Less, Greater};
 ghost use Rattle.iddqd.specs.{live_count};
 ghost use Rattle.iddqd_keys.specs.OrderedQuery.{is_within};
+ghost use Rattle.std.specs.Ordering.{on};
 ghost use Rattle.iddqd_map.specs.Map.{capacity, room};
+ghost use Rattle.iddqd_map.specs.Ranges.{itself};
 ghost use Rattle.iddqd_ord_map.specs.ByOrder.{FindsGreatest, FindsLeast};
 ghost use Rattle.iddqd_ord_map.specs.KeyOrder.{AreInKeyOrder, FindsEnd, IsKeyWalk, IsWalkWithin, PopsEnd};
 
-use super::{IdOrdItem, IdOrdMap, IntoValues, Iter, ItsKey, Range, Values};
+use super::{IdOrdItem, IdOrdMap, IntoValues, Iter, OrdMapBy, Range, Values};
 use crate::ordered_query::range_by;
 use iddqd::item_index::ItemIndex;
-use iddqd_keys::order_query::OrdQuery;
+use iddqd_keys::item_order_query::ItemRangeQuery;
+use iddqd_keys::order_key::OrdKey;
 use std::fmt;
 use std::ops::Bound;
 
-impl<T: IdOrdItem> IdOrdMap<T> {
+impl<T: Drop, E: OrdKey<T>> OrdMapBy<T, E> {
     /// The live indexes with their items, in the order of the keys, from both ends.
     pub fn iter(&self) -> Iter<'_, T>
-        ensures walk { IsKeyWalk T.key_of T.Key.cmp self.now.store result }
+        ensures walk { IsKeyWalk E.key_of E.cmp self.now.store result }
         ensures len { length result ≡ live_count self.now.store }
     {
         let (items, table) = self.parts();
@@ -29,7 +32,7 @@ impl<T: IdOrdItem> IdOrdMap<T> {
 
     /// The items, in the order of the keys, from both ends.
     pub fn values(&self) -> Values<'_, T>
-        ensures items { AreInKeyOrder T.key_of T.Key.cmp self.now.store result }
+        ensures items { AreInKeyOrder E.key_of E.cmp self.now.store result }
         ensures len { length result ≡ live_count self.now.store }
     {
         Values { pairs: self.iter() }
@@ -37,7 +40,7 @@ impl<T: IdOrdItem> IdOrdMap<T> {
 
     /// The items by value, in the order of the keys, from both ends.
     pub fn into_values(self) -> IntoValues<T>
-        ensures items { AreInKeyOrder T.key_of T.Key.cmp self.store result }
+        ensures items { AreInKeyOrder E.key_of E.cmp self.store result }
         ensures len { length result ≡ live_count self.store }
     {
         let (items, index, _) = self.map.into_parts();
@@ -51,17 +54,17 @@ impl<T: IdOrdItem> IdOrdMap<T> {
     /// none if the lower bound is above the upper one.
     ///
     /// It is one search of the table for each bound that there is, as `find`.
-    pub fn range<Q: OrdQuery<T::Key>>(&self, lower: Bound<Q>, upper: Bound<Q>) -> Range<'_, T>
-        ensures { let within = is_within Q.compare lower upper in
-            IsWalkWithin T.key_of T.Key.cmp within self.now.store result }
+    pub fn range<Q: ItemRangeQuery<T, E>>(&self, lower: Bound<Q>, upper: Bound<Q>) -> Range<'_, T>
+        ensures { let within = is_within Q.compare_item lower upper in
+            IsWalkWithin itself (on E.key_of E.cmp) within self.now.store result }
     {
         let (items, table) = self.parts();
-        Range::new(range_by::<T, ItsKey, Q>(table, items, lower, upper), items)
+        Range::new(range_by::<T, E, Q>(table, items, lower, upper), items)
     }
 
     /// The item with the least key.
     pub fn first(&self) -> Option<&T>
-        ensures { FindsEnd T.key_of T.Key.cmp Less self.now.store (option_copied result) }
+        ensures { FindsEnd E.key_of E.cmp Less self.now.store (option_copied result) }
     {
         let (items, table) = self.parts();
         items.get(table.first()?)
@@ -69,7 +72,7 @@ impl<T: IdOrdItem> IdOrdMap<T> {
 
     /// The item with the greatest key.
     pub fn last(&self) -> Option<&T>
-        ensures { FindsEnd T.key_of T.Key.cmp Greater self.now.store (option_copied result) }
+        ensures { FindsEnd E.key_of E.cmp Greater self.now.store (option_copied result) }
     {
         let (items, table) = self.parts();
         items.get(table.last()?)
@@ -77,7 +80,7 @@ impl<T: IdOrdItem> IdOrdMap<T> {
 
     // The index of the item with the least key.
     fn first_index(&self) -> Option<ItemIndex>
-        ensures { FindsLeast T.key_of T.Key.cmp self.now.store result }
+        ensures { FindsLeast E.key_of E.cmp self.now.store result }
     {
         let (_, table) = self.parts();
         table.first()
@@ -85,7 +88,7 @@ impl<T: IdOrdItem> IdOrdMap<T> {
 
     // The index of the item with the greatest key.
     fn last_index(&self) -> Option<ItemIndex>
-        ensures { FindsGreatest T.key_of T.Key.cmp self.now.store result }
+        ensures { FindsGreatest E.key_of E.cmp self.now.store result }
     {
         let (_, table) = self.parts();
         table.last()
@@ -93,7 +96,7 @@ impl<T: IdOrdItem> IdOrdMap<T> {
 
     /// Removes the item with the least key, and returns it.
     pub fn pop_first(&mut self) -> Option<T>
-        ensures pops { PopsEnd T.key_of T.Key.cmp Less self.old result self.new }
+        ensures pops { PopsEnd E.key_of E.cmp Less self.old result self.new }
         ensures room { room self.old ≤ room self.new }
         ensures count { OnSome result (live_count self.old.store ≡ live_count self.new.store + 1) }
         ensures unchanged { IfNone result (self.new ≡ self.old) }
@@ -106,7 +109,7 @@ impl<T: IdOrdItem> IdOrdMap<T> {
 
     /// Removes the item with the greatest key, and returns it.
     pub fn pop_last(&mut self) -> Option<T>
-        ensures pops { PopsEnd T.key_of T.Key.cmp Greater self.old result self.new }
+        ensures pops { PopsEnd E.key_of E.cmp Greater self.old result self.new }
         ensures room { room self.old ≤ room self.new }
         ensures count { OnSome result (live_count self.old.store ≡ live_count self.new.store + 1) }
         ensures unchanged { IfNone result (self.new ≡ self.old) }
@@ -119,12 +122,12 @@ impl<T: IdOrdItem> IdOrdMap<T> {
 }
 
 /// As `into_values`: each item, in the order of the keys.
-impl<T: IdOrdItem> IntoIterator for IdOrdMap<T> {
+impl<T: Drop, E: OrdKey<T>> IntoIterator for OrdMapBy<T, E> {
     type Item = T;
 
     type IntoIter = IntoValues<T>;
 
-    ghost into_iter_gives = { λ m items. AreInKeyOrder T.IdOrdItem.key_of T.Key.cmp m.store items };
+    ghost into_iter_gives = { λ m items. AreInKeyOrder E.key_of E.cmp m.store items };
 
     fn into_iter(self) -> IntoValues<T> {
         self.into_values()
@@ -132,12 +135,12 @@ impl<T: IdOrdItem> IntoIterator for IdOrdMap<T> {
 }
 
 /// As `iter`: each index with its item, in the order of the keys.
-impl<'a, T: IdOrdItem> IntoIterator for &'a IdOrdMap<T> {
+impl<'a, T: Drop, E: OrdKey<T>> IntoIterator for &'a OrdMapBy<T, E> {
     type Item = (ItemIndex, &'a T);
 
     type IntoIter = Iter<'a, T>;
 
-    ghost into_iter_gives = { λ m pairs. IsKeyWalk T.IdOrdItem.key_of T.Key.cmp m.now.store pairs };
+    ghost into_iter_gives = { λ m pairs. IsKeyWalk E.key_of E.cmp m.now.store pairs };
 
     fn into_iter(self) -> Iter<'a, T> {
         self.iter()

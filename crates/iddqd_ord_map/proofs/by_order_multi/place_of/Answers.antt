@@ -1,4 +1,4 @@
-use Rattle.std.proofs.Common.{rules, ◌≡◌, ◌∙◌, Some, refl, sym, ap, subst}
+use Rattle.std.proofs.Common.{rules, ◌≡◌, ◌∙◌, Some, refl, sym, subst}
 use Rattle.std.specs.List.{Contains}
 use Rattle.iddqd_order.specs.Asking.{closure_of}
 use Rattle.iddqd_order.specs.Gap.{gap_place}
@@ -26,19 +26,19 @@ find_own_gap_by-requires-clause-can_ask g c =
 
 pub returns : goal.returns
 returns g c =
-    let key_of = g.E.KeyOf.key_of in
-    let compare = g.E.Key.Ord.cmp in
+    let key_of = g.E.OrdKey.key_of in
+    let compare = g.E.OrdKey.cmp in
     let item = c.args.item.now in
     let s = c.args.items.now.store in
     let order = order_of c.args.table.now in
     let answer = item_answer key_of compare s item in
     let did = c.find_own_gap_by.ensures in
-    let rising = IsRising-next key_of compare g.met.E.Key.Ord.total s order c.requires.sorted item c.requires.valid in
+    let rising = IsRising-next key_of compare g.met.E.OrdKey.total s order c.requires.sorted item c.requires.valid in
     let is_place = did.place answer (record {
       steady = Steady-by _ _ (λ f. f ≡ closure_of c.new-asking.result) (λ f f' ix r i h e. search rules) _ _
           (λ f f' ix r i h e.
-          let read : IsKeyAt (λ other. compare c.key-key.result.now (key_of other)) s ix r = search (rules, i, e) in
-          read.2 ∙ ap (λ k. compare k (key_of read.0)) c.key-key.ensures ∙ sym (answer_at key_of compare s order (compare (key_of item)) ix read.0 read.1))
+          let read : IsKeyAt (λ other. compare (key_of item) (key_of other)) s ix r = search (rules, i, e) in
+          read.2 ∙ sym (answer_at key_of compare s order (compare (key_of item)) ix read.0 read.1))
           _ refl;
       rising = subst (λ ix. IsRising (with_ties (Some ix) answer) order) (sym c.requires.next) rising;
     }) in

@@ -8,7 +8,7 @@ returns-in-Stays-clause-moved g c =
     let s = c.args.items.now.store in
     let (was, live) = item_at s c.args.ix c.requires.live in
     let kept = rw c.in-Stays.is at c.requires.stays in
-    IsSortedScan-kept g.E.KeyOf.key_of g.E.Key.Ord.cmp g.met.E.Key.Ord.total s (order_of c.args.table.now) c.requires.sorted c.args.ix c.args.item.now was live kept
+    IsSortedScan-kept g.E.OrdKey.key_of g.E.OrdKey.cmp g.met.E.OrdKey.total s (order_of c.args.table.now) c.requires.sorted c.args.ix c.args.item.now was live kept
 
 pub relocate-requires-clause-enough : goal.relocate-requires-clause-enough
 relocate-requires-clause-enough g c = rw c.in-Moves.is at c.requires.enough

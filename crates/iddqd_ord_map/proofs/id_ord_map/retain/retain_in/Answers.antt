@@ -9,22 +9,22 @@ use Rattle.iddqd_ord_map.proofs.id_ord_map.retain.retain_in.Goals as goal
 
 pub remove_refused-requires-clause-can_ask : goal.remove_refused-requires-clause-can_ask
 remove_refused-requires-clause-can_ask g c =
-    AsksAlong-sorted (TakesAt g.F.FnMut) (CalledAt g.F.FnMut) g.T.IdOrdItem.key_of g.T.Key.Ord.cmp c.args.f.now c.args.items.now.store (order_of c.args.table.now) c.requires.sorted c.requires.can_ask
+    AsksAlong-sorted (TakesAt g.F.FnMut) (CalledAt g.F.FnMut) g.E.OrdKey.key_of g.E.OrdKey.cmp c.args.f.now c.args.items.now.store (order_of c.args.table.now) c.requires.sorted c.requires.can_ask
 
 pub returns-clause-sorted : goal.returns-clause-sorted
 returns-clause-sorted g c =
-    Sorts-retained g.T.IdOrdItem.key_of g.T.Key.Ord.cmp g.met.T.Key.Ord.total (CalledAt g.F.FnMut) c.args.f.now c.remove_refused.new.f c.args.items.now.store c.remove_refused.new.items.store (order_of c.args.table.now) (order_of c.forget_removed.new.table) c.requires.sorted c.remove_refused.ensures.retained c.forget_removed.ensures.forgot
+    Sorts-retained g.E.OrdKey.key_of g.E.OrdKey.cmp g.met.E.OrdKey.total (CalledAt g.F.FnMut) c.args.f.now c.remove_refused.new.f c.args.items.now.store c.remove_refused.new.items.store (order_of c.args.table.now) (order_of c.forget_removed.new.table) c.requires.sorted c.remove_refused.ensures.retained c.forget_removed.ensures.forgot
 
 pub returns-clause-retained : goal.returns-clause-retained
 returns-clause-retained g c =
-    RetainsAlongTo-keys g.T.IdOrdItem.key_of g.T.Key.Ord.cmp g.met.T.Key.Ord.total (CalledAt g.F.FnMut) c.args.f.now c.remove_refused.new.f c.args.items.now.store c.remove_refused.new.items.store (order_of c.args.table.now) (order_of c.forget_removed.new.table) c.requires.sorted c.remove_refused.ensures.retained
+    RetainsAlongTo-keys g.E.OrdKey.key_of g.E.OrdKey.cmp g.met.E.OrdKey.total (CalledAt g.F.FnMut) c.args.f.now c.remove_refused.new.f c.args.items.now.store c.remove_refused.new.items.store (order_of c.args.table.now) (order_of c.forget_removed.new.table) c.requires.sorted c.remove_refused.ensures.retained
 
 pub returns-clause-fewer : goal.returns-clause-fewer
 returns-clause-fewer g c =
     let order = order_of c.args.table.now in
     let left = c.remove_refused.new.items.store in
     let kept = λ (ix : ℕ). is_some (get left ix) in
-    let sorted = Sorts-retained g.T.IdOrdItem.key_of g.T.Key.Ord.cmp g.met.T.Key.Ord.total (CalledAt g.F.FnMut)
+    let sorted = Sorts-retained g.E.OrdKey.key_of g.E.OrdKey.cmp g.met.E.OrdKey.total (CalledAt g.F.FnMut)
     c.args.f.now c.remove_refused.new.f c.args.items.now.store left order (order_of c.forget_removed.new.table)
     c.requires.sorted c.remove_refused.ensures.retained c.forget_removed.ensures.forgot in
     omega (

@@ -1,9 +1,0 @@
-use Rattle.iddqd_keys.specs.Scan.{passes_by}
-use Rattle.iddqd_by_order.specs.Ordered.{is_equal}
-use Rattle.iddqd_map.proofs.FoundLemmas.{scan_misses}
-use Rattle.iddqd_ord_map.proofs.id_ord_map.IdOrdMap.contains_key.Goals as goal
-
-pub returns : goal.returns
-returns g c =
-    let test = passes_by g.T.IdOrdItem.key_of (is_equal (g.Q.OrdQuery.compare c.args.query)) in
-    rw c.is_some.ensures (scan_misses c.args.self.now.store test c.find.result c.find.ensures)

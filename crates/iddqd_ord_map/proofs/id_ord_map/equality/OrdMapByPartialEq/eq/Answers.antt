@@ -1,0 +1,15 @@
+use Rattle.std.proofs.Common.{◌∙◌, ap}
+use Rattle.std.specs.Cmp.Lexicographic.{pointwise}
+use Rattle.iddqd_ord_map.specs.Equality.{items_in_order}
+use Rattle.iddqd_ord_map.proofs.EqualityLemmas.{items_of_walk}
+use Rattle.iddqd_ord_map.proofs.id_ord_map.equality.OrdMapByPartialEq.eq.Goals as goal
+
+pub returns : goal.returns
+returns g c =
+    let key_of = g.E.OrdKey.key_of in
+    let compare = g.E.OrdKey.cmp in
+    let equal = g.T.PartialEq.eq in
+    let left = items_of_walk key_of compare g.met.E.OrdKey.total c.args.self.now.store c.values.result c.values.ensures.items in
+    let right = items_of_walk key_of compare g.met.E.OrdKey.total c.args.other.now.store c.values-2.result c.values-2.ensures.items in
+    c.are_equal.ensures ∙ ap (λ l. pointwise equal l c.values-2.result) left
+    ∙ ap (pointwise equal (items_in_order key_of compare c.args.self.now.store)) right
