@@ -6,3 +6,4 @@ pub mod KeyWalk
 pub mod Removals
 pub mod Tuples
 pub mod Turned
+pub mod Beginnings

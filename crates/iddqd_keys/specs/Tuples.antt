@@ -55,7 +55,7 @@ pairs_same false b c d e f left right both = cc
 -- Two keys in turn. r and s compare the first and the second keys of two pairs; x and y are what two queries answer
 -- at the first pair, u and v at the second one.
 
-pair_less :
+pub pair_less :
     (r s x y u v : Ordering)
     → (r ≡ Less → x ≡ Less → u ≡ Less)
     → (r ≡ Less → u ≡ Greater → x ≡ Greater)
@@ -75,7 +75,7 @@ pair_less Equal s Equal y u v f g h k m before less = ap (λ o. ordering_then o 
 pair_less Equal s Greater y u v f g h k m before less = cc
 pair_less Greater s x y u v f g h k m before less = cc
 
-pair_greater :
+pub pair_greater :
     (r s x y u v : Ordering)
     → (r ≡ Less → x ≡ Less → u ≡ Less)
     → (r ≡ Less → u ≡ Greater → x ≡ Greater)
@@ -95,7 +95,7 @@ pair_greater Equal s x y Equal v f g h k m before greater = ap (λ o. ordering_t
 pair_greater Equal s x y Greater v f g h k m before greater = ap (λ o. ordering_then o y) (h refl)
 pair_greater Greater s x y u v f g h k m before greater = cc
 
-pair_equal :
+pub pair_equal :
     (r s x y u v : Ordering)
     → (r ≡ Equal → x ≡ u)
     → (s ≡ Equal → y ≡ v)

@@ -13,4 +13,5 @@ pub mod key_kinds;
 pub mod key_of;
 pub mod order_key;
 pub mod order_query;
+pub mod starts_with;
 pub mod tri_hash_item;

@@ -58,15 +58,16 @@ impl<T, E: ComputedKey<T, Key = K>, K: Ord + Drop> OrdKey<T> for Computed<E, K> 
 }
 
 impl<T, E: OrdKey<T>> OrdKey<T> for Reversed<E> {
-    ghost use Rattle.iddqd_keys.specs.Turned.{turned, turned_total};
+    ghost use Rattle.std.specs.Ordering.{flip_args};
+    ghost use Rattle.std.proofs.lemmas.Cmp.{back_total};
 
     ghost Key = { E.Key };
 
     ghost key_of = { E.key_of };
 
-    ghost cmp = { turned E.cmp };
+    ghost cmp = { flip_args E.cmp };
 
-    ghost total = { turned_total E.total };
+    ghost total = { back_total E.total };
 
     fn compare(item: &T, other: &T) -> Ordering {
         E::compare(other, item)
