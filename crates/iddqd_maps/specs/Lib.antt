@@ -9,6 +9,8 @@ pub use Rattle.iddqd_keys.specs.Scan
 pub use Rattle.iddqd_keys.specs.KeyKeeping
 pub use Rattle.iddqd_keys.specs.OrderedQuery
 pub use Rattle.iddqd_keys.specs.Removals
+pub use Rattle.iddqd_keys.specs.Tuples
+pub use Rattle.iddqd_keys.specs.Beginnings
 pub use Rattle.iddqd_by_order.specs.OrderedWalk
 pub use Rattle.iddqd_order.specs.Range
 pub use Rattle.iddqd_map.specs.Map

@@ -4,6 +4,9 @@
 //! indexes, each a [`by_hash::ByHash`], a [`by_order::ByOrder`], a [`by_hash_multi::ByHashMulti`] or a
 //! [`by_order_multi::ByOrderMulti`], whose key several items may have, or a pair again.
 //!
+//! A key is one field, a computed value, or several keys in turn ([`key_kinds`]); [`id_hash_map::HashMapBy`] and its like
+//! take any.
+//!
 //! A contract sees a map as items in slots under stable indexes, no two of which share a unique key. No call gives
 //! a stored item another key without updating the tables, so a look-up always answers as a scan of all items would.
 //!
@@ -21,8 +24,9 @@ pub use iddqd::{
 pub use iddqd_by_order::ordered_walk as ordered_walk;
 pub use iddqd_groups::{by_hash_multi as by_hash_multi, hashed_group as hashed_group};
 pub use iddqd_keys::{
-    hash_query as hash_query, item_order_query as item_order_query, key_kinds as key_kinds,
-    key_of as key_of, order_key as order_key, order_query as order_query,
+    hash_key as hash_key, hash_query as hash_query, item_hash_query as item_hash_query,
+    item_order_query as item_order_query, key_kinds as key_kinds, key_of as key_of,
+    order_key as order_key, order_query as order_query, starts_with as starts_with,
 };
 pub use iddqd_map::{
     bi_hash_map as bi_hash_map, by_hash as by_hash, grouped_at as grouped_at,

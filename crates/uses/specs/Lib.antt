@@ -17,3 +17,8 @@ pub mod Scores
 pub mod Stock
 pub mod Words
 pub mod Badges
+pub mod Appointments
+pub mod Artifacts
+pub mod Handles
+pub mod People
+pub mod Purchases

@@ -15,11 +15,11 @@ ghost use Rattle.uses.specs.declared.ledger.Order.{Order};
 use iddqd_maps::by_hash::ByHash;
 use iddqd_maps::by_hash_multi::{ByHashMulti, Group};
 use iddqd_maps::by_order_multi::ByOrderMulti;
-use iddqd_maps::hash_query::AsEquivalent;
 use iddqd_maps::id_ord_map::Iter;
 use iddqd_maps::in_order::InOrder;
 use iddqd_maps::item_index::ItemIndex;
 use iddqd_maps::key_index::{Here, Left, Right};
+use iddqd_maps::key_kinds::Field;
 use iddqd_maps::key_of::KeyOf;
 use iddqd_maps::map::{Map, Parts};
 use iddqd_maps::no_conflict::NoConflict;
@@ -81,7 +81,7 @@ impl KeyOf<Order> for Day {
 /// The order that has the number of a refused one. A customer or a day never conflicts.
 pub type Taken = PairConflict<ItemIndex, PairConflict<NoConflict, NoConflict>>;
 
-type Shared = Pair<ByHashMulti<Customer, u32>, ByOrderMulti<Day>>;
+type Shared = Pair<ByHashMulti<Customer, u32>, ByOrderMulti<Day, u32>>;
 
 type ByNumber = Left<Here>;
 
@@ -114,7 +114,7 @@ pub fn with_number(ledger: &Ledger, number: u64) -> Option<Order>
 pub fn orders_of<'a>(
     ledger: &'a Ledger,
     customer: &'a u32,
-) -> Group<'a, Order, Customer, AsEquivalent<&'a u32>>
+) -> Group<'a, Order, Field<Customer, u32>, &'a u32>
     ensures { AreHits ledger.now.store (λ order. customer.now == order.customer) result.rest }
 {
     let Parts {

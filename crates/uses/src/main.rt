@@ -2,6 +2,8 @@
 //! have a `line`; `board`, `depot`, `diary`, `hall` and `lockers` are proved only.
 #![tactic(auto)]
 
+mod appointments;
+mod artifacts;
 mod badges;
 mod board;
 mod calendar;
@@ -10,10 +12,13 @@ mod devices;
 mod diary;
 mod guests;
 mod hall;
+mod handles;
 mod hashers;
 mod leases;
 mod ledger;
 mod lockers;
+mod people;
+mod purchases;
 mod registry;
 mod routes;
 mod scores;
@@ -35,6 +40,15 @@ fn print(rt: &impl Print, line: Result<String, AllocError>) -> io::Result<()> {
     }
 }
 
+// What callers answer whose keys aren't one field.
+fn print_keys(rt: &impl Print, alloc: Global) -> io::Result<()> {
+    print(rt, artifacts::line(alloc))?;
+    print(rt, handles::line(alloc))?;
+    print(rt, appointments::line(alloc))?;
+    print(rt, people::line(alloc))?;
+    print(rt, purchases::line(alloc))
+}
+
 fn print_all(rt: &(impl Print + RandomSource), alloc: Global) -> io::Result<()> {
     print(rt, users::line(alloc))?;
     print(rt, hashers::line(rt, alloc))?;
@@ -50,7 +64,8 @@ fn print_all(rt: &(impl Print + RandomSource), alloc: Global) -> io::Result<()> 
     print(rt, sessions::line(alloc))?;
     print(rt, ledger::line(alloc))?;
     print(rt, calendar::line(alloc))?;
-    print(rt, registry::line(alloc))
+    print(rt, registry::line(alloc))?;
+    print_keys(rt, alloc)
 }
 
 fn main(rt: HostRuntime) -> ExitCode {

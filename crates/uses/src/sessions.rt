@@ -79,7 +79,7 @@ type ByToken = Left<Right<Here>>;
 type ByEnd = Right<Here>;
 
 /// Sessions by their ids and tokens, and in the order in which they end.
-pub type Sessions = Map<Session, Pair<Names, ByOrder<Ends>>>;
+pub type Sessions = Map<Session, Pair<Names, ByOrder<Ends, u64>>>;
 
 /// Opens a session, unless another one has its id, its token or its end.
 pub fn open(

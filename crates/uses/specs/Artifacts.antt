@@ -1,0 +1,18 @@
+-- Artifacts by their names and versions.
+use Rattle.std.specs.Prelude.{◌&&◌, ℕ, Bool, List}
+use Rattle.std.specs.Str.{bytes_eq}
+use Rattle.std.specs.String.{string_bytes}
+use Rattle.uses.specs.declared.artifacts.Artifact.{Artifact}
+
+-- the artifact has this name and this version
+abbrev pub is_called : List ℕ → List ℕ → Artifact → Bool
+is_called name version artifact =
+    bytes_eq name (string_bytes artifact.name) && bytes_eq version (string_bytes artifact.version)
+
+-- the artifacts have one name and one version
+abbrev pub same_artifact : Artifact → Artifact → Bool
+same_artifact x y = is_called (string_bytes x.name) (string_bytes x.version) y
+
+-- the artifact with this size
+abbrev pub with_size : ℕ → Artifact → Artifact
+with_size size artifact = record artifact { size = size }

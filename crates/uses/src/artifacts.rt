@@ -1,0 +1,115 @@
+//! Artifacts by their names and versions: a key of two texts, each of which is lent for a look-up.
+ghost use Rattle.std.specs.Prelude.{◌≡◌, IfOk, IfErr, OnOk, OnErr, option_copied};
+ghost use Rattle.iddqd_maps.specs.Map.{FindsItem, Removes};
+ghost use Rattle.iddqd_maps.specs.Scan.{HasNoHit};
+ghost use Rattle.iddqd_maps.specs.Store.{inserted, next_index};
+ghost use Rattle.uses.specs.Artifacts.{is_called, same_artifact, with_size};
+ghost use Rattle.uses.specs.Exchanges.{IsWhyNotAdded};
+ghost use Rattle.uses.specs.Updates.{Updates};
+
+use iddqd_maps::id_hash_map::HashMapBy;
+use iddqd_maps::item_index::ItemIndex;
+use iddqd_maps::key_kinds::Field;
+use iddqd_maps::key_of::KeyOf;
+use iddqd_maps::refusal::InsertRefusal;
+use std::alloc::{AllocError, Global};
+
+/// An artifact. No two have the same name and version.
+#[derive(Drop)]
+pub struct Artifact {
+    pub name: String,
+    pub version: String,
+    pub size: u64,
+}
+
+/// Names the name.
+pub enum Name {}
+
+impl KeyOf<Artifact> for Name {
+    type Key = String;
+
+    ghost key_of = { λ artifact. artifact.name };
+
+    fn key(artifact: &Artifact) -> &String {
+        &artifact.name
+    }
+}
+
+/// Names the version.
+pub enum Version {}
+
+impl KeyOf<Artifact> for Version {
+    type Key = String;
+
+    ghost key_of = { λ artifact. artifact.version };
+
+    fn key(artifact: &Artifact) -> &String {
+        &artifact.version
+    }
+}
+
+/// Artifacts by their names and versions.
+pub type Artifacts = HashMapBy<Artifact, (Field<Name, String>, Field<Version, String>)>;
+
+/// Adds an artifact, unless one has its name and version.
+pub fn add(
+    artifacts: &mut Artifacts,
+    artifact: Artifact,
+) -> Result<ItemIndex, InsertRefusal<Artifact, ItemIndex>>
+    ensures index { IfOk result (λ ix. ix ≡ next_index artifacts.old.store) }
+    ensures new_key { OnOk result (HasNoHit artifacts.old.store (same_artifact artifact)) }
+    ensures stored { OnOk result (artifacts.new.store ≡ inserted artifacts.old.store artifact) }
+    ensures refused { IfErr result (IsWhyNotAdded same_artifact artifact artifacts.old) }
+    ensures unchanged { OnErr result (artifacts.new.store ≡ artifacts.old.store) }
+{
+    artifacts.insert_unique(artifact)
+}
+
+/// The artifact with this name and version.
+pub fn find<'a>(artifacts: &'a Artifacts, name: &str, version: &str) -> Option<&'a Artifact>
+    ensures { FindsItem artifacts.now.store (is_called name.now version.now) (option_copied result) }
+{
+    artifacts.get((name, version))
+}
+
+/// Notes the size of an artifact; none exactly where there is no such artifact. It takes no memory.
+pub fn resize(artifacts: &mut Artifacts, name: &str, version: &str, size: u64) -> Option<()>
+    ensures { Updates artifacts.old (is_called name.now version.now) (with_size size) result artifacts.new }
+{
+    artifacts.modify((name, version), |artifact| artifact.size = size)
+}
+
+/// Removes an artifact. It takes no memory.
+pub fn remove(artifacts: &mut Artifacts, name: &str, version: &str) -> Option<Artifact>
+    ensures removes { Removes artifacts.old (is_called name.now version.now) result artifacts.new }
+    ensures gone { HasNoHit artifacts.new.store (is_called name.now version.now) }
+{
+    artifacts.remove((name, version))
+}
+
+fn made(alloc: Global, name: &str, version: &str) -> Result<Artifact, AllocError> {
+    Ok(Artifact {
+        name: String::from_str(alloc, name)?,
+        version: String::from_str(alloc, version)?,
+        size: 0,
+    })
+}
+
+fn script(alloc: Global, artifacts: &mut Artifacts) -> Result<String, AllocError> {
+    let first = add(artifacts, made(alloc, "serde", "1.0")?).is_ok();
+    let second = add(artifacts, made(alloc, "serde", "1.1")?).is_ok();
+    let third = add(artifacts, made(alloc, "serde", "1.0")?).is_ok();
+    let resized = resize(artifacts, "serde", "1.1", 80).is_some();
+    let found = (
+        find(artifacts, "serde", "1.1").is_some(),
+        find(artifacts, "serde", "").is_some(),
+        find(artifacts, "serde1", ".1").is_some(),
+    );
+    let removed = remove(artifacts, "serde", "1.0").is_some();
+    format!(in alloc; "artifacts: {first}, {second}, {third}, {resized}, {found:?}, {removed}, {}", artifacts.len())
+}
+
+/// What the calls answer.
+pub fn line(alloc: Global) -> Result<String, AllocError> {
+    script(alloc, &mut Artifacts::new(alloc))
+}

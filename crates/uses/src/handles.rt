@@ -1,0 +1,167 @@
+//! Accounts by their handles, whatever the case of their ASCII letters: a key with an equality of its own.
+//!
+//! `Handle` is a `HashKey` that its user wrote. Contracts read it as the handle in small letters. A look-up folds no
+//! text: it hashes and compares letter by letter.
+ghost use Rattle.std.specs.Prelude.{◌≡◌, IfOk, OnOk, OnErr, option_copied};
+ghost use Rattle.std.specs.Cmp.Lexicographic.{bytes_decides, nat_list_eq_equiv};
+ghost use Rattle.std.specs.List.{fold};
+ghost use Rattle.std.specs.Str.{bytes_eq, str_eq_ignore_ascii_case, str_to_ascii_lowercase};
+ghost use Rattle.std.specs.String.{string_bytes};
+ghost use Rattle.iddqd_maps.specs.Map.{FindsItem};
+ghost use Rattle.iddqd_maps.specs.Scan.{HasNoHit};
+ghost use Rattle.iddqd_maps.specs.Store.{inserted};
+ghost use Rattle.uses.specs.Handles.{has_handle, letters, same_handle, writes};
+
+use iddqd_maps::hash_key::HashKey;
+use iddqd_maps::id_hash_map::HashMapBy;
+use iddqd_maps::item_hash_query::ItemHashQuery;
+use iddqd_maps::item_index::ItemIndex;
+use iddqd_maps::refusal::InsertRefusal;
+use std::alloc::{AllocError, Global};
+use std::hash::{Hash, Hasher};
+
+/// An account. No two have handles that differ in case alone.
+#[derive(Drop)]
+pub struct Account {
+    pub handle: String,
+    pub posts: u32,
+}
+
+// Feeds a text to a hasher in small letters, with a mark at its end.
+fn feed<H: Hasher>(text: &str, state: &mut H)
+    ensures { state.new ≡ fold H.write state.old (writes (str_to_ascii_lowercase text.now)) }
+{
+    let mut left = text.as_bytes();
+    'feeding: while let Some((byte, rest)) = left.split_first() {
+        state.write_u8(byte.to_ascii_lowercase());
+        left = rest;
+    }
+    state.write_u8(END);
+}
+
+// No byte of a text.
+const END: u8 = 255;
+
+/// Names the handle, whatever the case of its letters.
+pub enum Handle {}
+
+impl HashKey<Account> for Handle {
+    ghost use Rattle.std.specs.Prelude.{ℕ, List};
+    ghost use Rattle.std.proofs.Common.{ap};
+
+    ghost Key = { List ℕ };
+
+    ghost key_of = { letters };
+
+    ghost eq = { bytes_eq };
+
+    ghost hash_input = { writes };
+
+    ghost laws = { nat_list_eq_equiv };
+
+    ghost respects_eq = { λ x y same. ap writes ((bytes_decides x y).0 same) };
+
+    fn hash<H: Hasher>(account: &Account, state: &mut H) {
+        feed(account.handle.as_str(), state);
+    }
+
+    fn is_same(account: &Account, other: &Account) -> bool {
+        let handle = account.handle.as_str();
+        handle.eq_ignore_ascii_case(other.handle.as_str())
+    }
+}
+
+/// A handle as somebody spelled it.
+#[derive(Clone, Copy, Debug)]
+pub struct Spelled<'a>(pub &'a str);
+
+impl<'a> PartialEq for Spelled<'a> {
+    ghost use Rattle.std.specs.Cmp.{on_equiv, partial_equiv_from_equiv};
+    ghost use Rattle.uses.specs.declared.handles.Spelled.{Spelled};
+
+    ghost eq = { λ x y. str_eq_ignore_ascii_case x.0.now y.0.now };
+
+    ghost laws = { partial_equiv_from_equiv
+        (on_equiv (λ (q : Spelled). str_to_ascii_lowercase q.0.now) nat_list_eq_equiv) };
+
+    fn eq(&self, other: &Spelled<'a>) -> bool {
+        self.0.eq_ignore_ascii_case(other.0)
+    }
+}
+
+impl<'a> Eq for Spelled<'a> {
+    ghost use Rattle.std.specs.Cmp.{on_equiv};
+    ghost use Rattle.uses.specs.declared.handles.Spelled.{Spelled};
+
+    ghost laws = { on_equiv (λ (q : Spelled). str_to_ascii_lowercase q.0.now) nat_list_eq_equiv };
+}
+
+impl<'a> Hash for Spelled<'a> {
+    ghost use Rattle.std.proofs.Common.{ap};
+
+    ghost hash_input = { λ q. writes (str_to_ascii_lowercase q.0.now) };
+
+    ghost respects_eq = { λ x y same. ap writes
+        ((bytes_decides (str_to_ascii_lowercase x.0.now) (str_to_ascii_lowercase y.0.now)).0 same) };
+
+    fn hash<H: Hasher>(&self, state: &mut H) {
+        feed(self.0, state);
+    }
+}
+
+impl<'a> ItemHashQuery<Account, Handle> for Spelled<'a> {
+    ghost use Rattle.std.proofs.Common.{ap};
+
+    ghost stands_for_item = { λ q account. str_eq_ignore_ascii_case q.0.now (string_bytes account.handle) };
+
+    ghost same_item_hash = { λ q account same. ap writes
+        ((bytes_decides (str_to_ascii_lowercase q.0.now) (letters account)).0 same) };
+
+    ghost same_item_key = { λ q x y. nat_list_eq_equiv.congr (str_to_ascii_lowercase q.0.now) (letters x) (letters y) };
+
+    fn stands_for_item(&self, account: &Account) -> bool {
+        self.0.eq_ignore_ascii_case(account.handle.as_str())
+    }
+}
+
+/// Accounts by their handles, whatever the case of their letters.
+pub type Accounts = HashMapBy<Account, Handle>;
+
+/// Adds an account, unless one has its handle in any case.
+pub fn open(
+    accounts: &mut Accounts,
+    account: Account,
+) -> Result<ItemIndex, InsertRefusal<Account, ItemIndex>>
+    ensures unlike { OnOk result (HasNoHit accounts.old.store (same_handle account)) }
+    ensures stored { OnOk result (accounts.new.store ≡ inserted accounts.old.store account) }
+    ensures unchanged { OnErr result (accounts.new.store ≡ accounts.old.store) }
+{
+    accounts.insert_unique(account)
+}
+
+/// The account with this handle, in any case.
+pub fn with_handle<'a>(accounts: &'a Accounts, handle: &str) -> Option<&'a Account>
+    ensures { FindsItem accounts.now.store (has_handle handle.now) (option_copied result) }
+{
+    accounts.get(Spelled(handle))
+}
+
+fn opened(alloc: Global, accounts: &mut Accounts, handle: &str) -> Result<bool, AllocError> {
+    let handle = String::from_str(alloc, handle)?;
+    Ok(open(accounts, Account { handle, posts: 0 }).is_ok())
+}
+
+fn script(alloc: Global, accounts: &mut Accounts) -> Result<String, AllocError> {
+    let first = opened(alloc, accounts, "Ada")?;
+    let second = opened(alloc, accounts, "aDA")?;
+    let found = (
+        with_handle(accounts, "ADA").is_some(),
+        with_handle(accounts, "ADAM").is_some(),
+    );
+    format!(in alloc; "handles: {first}, {second}, {found:?}")
+}
+
+/// What the calls answer.
+pub fn line(alloc: Global) -> Result<String, AllocError> {
+    script(alloc, &mut Accounts::new(alloc))
+}
