@@ -4,3 +4,4 @@ pub mod HashedGroup
 pub mod LinkedTable
 pub mod Links
 pub mod Upcoming
+pub mod InGroups

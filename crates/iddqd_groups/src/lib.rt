@@ -7,5 +7,6 @@
 pub mod by_hash_multi;
 mod group_query;
 pub mod hashed_group;
+pub mod in_groups;
 mod linked_steps;
 pub mod linked_table;
