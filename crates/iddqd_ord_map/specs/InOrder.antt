@@ -2,9 +2,10 @@
 use Rattle.std.specs.Prelude.{◌≡◌, ◌++◌, ℕ, Bool, true, List, [], ◌∷◌, Option, Some, None}
 use Rattle.std.specs.Borrow.{Bor}
 use Rattle.std.specs.declared.cmp.Ordering.{Ordering}
-use Rattle.iddqd.specs.Store.{Store, live_count}
+use Rattle.iddqd.specs.Store.{Store, live_count, removed}
 use Rattle.iddqd_keys.specs.KeyWalk.{IsInPlace, pairs_at}
 use Rattle.iddqd_map.specs.Groups.{AreHits}
+use Rattle.iddqd_map.specs.Map.{MapState}
 use Rattle.iddqd_map.specs.Ranges.{itself}
 
 -- an index with the item to which a reference refers
@@ -33,3 +34,16 @@ module _ {T : Type 0} (order : T → T → Ordering) where
   abbrev pub FindsLast : Store T → Option (ℕ × T) → Type 0
   FindsLast s (Some last) = (others : List (ℕ × T)) × IteratesInOrder (λ _. true) s (others ++ last ∷ [])
   FindsLast s None = live_count s ≡ 0
+
+  -- What a removal of the first item may return and leave. It returns `None` if and only if there is no item, and then
+  -- nothing changes.
+  abbrev pub PopsFirst : MapState T → Option T → MapState T → Type 0
+  PopsFirst old (Some item) new =
+      (ix : ℕ) × FindsFirst old.store (Some (ix, item)) × (new.store ≡ removed old.store ix) × (new.memory ≡ old.memory)
+  PopsFirst old None new = (live_count old.store ≡ 0) × (new ≡ old)
+
+  -- and of the last one
+  abbrev pub PopsLast : MapState T → Option T → MapState T → Type 0
+  PopsLast old (Some item) new =
+      (ix : ℕ) × FindsLast old.store (Some (ix, item)) × (new.store ≡ removed old.store ix) × (new.memory ≡ old.memory)
+  PopsLast old None new = (live_count old.store ≡ 0) × (new ≡ old)

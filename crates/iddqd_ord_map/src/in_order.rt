@@ -2,12 +2,13 @@
 //!
 //! They are calls of one trait, `InOrder`, which every `Map` has, since the ordered table stands above the crate of the
 //! maps. No memory is taken.
-ghost use Rattle.std.specs.Prelude.{◌≡◌, length};
+ghost use Rattle.std.specs.Prelude.{◌≡◌, ◌≤◌, ◌+◌, Some, length, IfNone, IfSome, OnSome};
 ghost use Rattle.std.specs.Option.{option_map};
 ghost use Rattle.iddqd.specs.{live_count};
 ghost use Rattle.iddqd_keys.specs.OrderedQuery.{is_equal, is_within};
 ghost use Rattle.iddqd_map.specs.Groups.{CountsHits};
-ghost use Rattle.iddqd_ord_map.specs.InOrder.{shown, FindsFirst, FindsLast, IteratesInOrder};
+ghost use Rattle.iddqd_map.specs.Map.{capacity, room};
+ghost use Rattle.iddqd_ord_map.specs.InOrder.{shown, FindsFirst, FindsLast, IteratesInOrder, PopsFirst, PopsLast};
 
 use crate::id_ord_map::Iter;
 use crate::ranges_at::{RangesAt, SortedAt};
@@ -20,28 +21,46 @@ use std::ops::Bound;
 /// Reads in the order of the key at the place `P`. Items with equal keys come by index.
 pub trait InOrder<T, X: KeyIndex<T, S>, S> {
     ghost use Rattle.std.specs.Prelude.{true};
-    ghost use Rattle.iddqd.specs.Store.{Store};
+    ghost use Rattle.iddqd_map.specs.Map.{MapState};
 
-    ghost store: { Self → Store T };
+    ghost state: { Self → MapState T };
 
     /// All items with their indexes, in order, from both ends.
     fn iter_by<P>(&self) -> Iter<'_, T>
     where
         X: SortedAt<P, T, S>,
-        ensures items { IteratesInOrder X.sorts_by (λ item. true) (store self.now) result }
-        ensures len { length result ≡ live_count (store self.now) };
+        ensures items { IteratesInOrder X.sorts_by (λ item. true) (state self.now).store result }
+        ensures len { length result ≡ live_count (state self.now).store };
 
     /// The first item in order, with its index.
     fn first_by<P>(&self) -> Option<(ItemIndex, &T)>
     where
         X: SortedAt<P, T, S>,
-        ensures { FindsFirst X.sorts_by (store self.now) (option_map shown result) };
+        ensures { FindsFirst X.sorts_by (state self.now).store (option_map shown result) };
 
     /// The last item in order, with its index.
     fn last_by<P>(&self) -> Option<(ItemIndex, &T)>
     where
         X: SortedAt<P, T, S>,
-        ensures { FindsLast X.sorts_by (store self.now) (option_map shown result) };
+        ensures { FindsLast X.sorts_by (state self.now).store (option_map shown result) };
+
+    /// Removes the first item in order, and returns it. No key is compared in that order, and no memory is taken.
+    fn pop_first_by<P>(&mut self) -> Option<T>
+    where
+        X: SortedAt<P, T, S>,
+        ensures pops { PopsFirst X.sorts_by (state self.old) result (state self.new) }
+        ensures count { OnSome result (live_count (state self.old).store ≡ live_count (state self.new).store + 1) }
+        ensures freed { OnSome result (live_count (state self.old).store ≤ capacity (state self.old)
+            → room (state self.new) ≡ room (state self.old) + 1) };
+
+    /// Removes the last item in order, and returns it. No key is compared in that order, and no memory is taken.
+    fn pop_last_by<P>(&mut self) -> Option<T>
+    where
+        X: SortedAt<P, T, S>,
+        ensures pops { PopsLast X.sorts_by (state self.old) result (state self.new) }
+        ensures count { OnSome result (live_count (state self.old).store ≡ live_count (state self.new).store + 1) }
+        ensures freed { OnSome result (live_count (state self.old).store ≤ capacity (state self.old)
+            → room (state self.new) ≡ room (state self.old) + 1) };
 
     /// The items whose keys are within the bounds with their indexes, in order, from both ends: none if the lower bound
     /// is above the upper one.
@@ -51,7 +70,7 @@ pub trait InOrder<T, X: KeyIndex<T, S>, S> {
     where
         X: RangesAt<P, Q, T, S>,
         ensures { let within = is_within X.compare lower upper in
-            IteratesInOrder X.order within (store self.now) result };
+            IteratesInOrder X.order within (state self.now).store result };
 
     /// The items that have the key for which the query stands with their indexes, in order, from both ends.
     ///
@@ -60,17 +79,17 @@ pub trait InOrder<T, X: KeyIndex<T, S>, S> {
     where
         X: RangesAt<P, Q, T, S>,
         Q: Copy,
-        ensures { IteratesInOrder X.order (is_equal (X.compare query)) (store self.now) result };
+        ensures { IteratesInOrder X.order (is_equal (X.compare query)) (state self.now).store result };
 
     /// How many items have the key for which the query stands. It costs one step for each of them more than `group_by`.
     fn count_by<P, Q>(&self, query: Q) -> usize
     where
         X: RangesAt<P, Q, T, S>,
-        ensures { CountsHits (store self.now) (is_equal (X.compare query)) result };
+        ensures { CountsHits (state self.now).store (is_equal (X.compare query)) result };
 }
 
 impl<T, X: KeyIndex<T, S>, S> InOrder<T, X, S> for Map<T, X, S> {
-    ghost store = { λ m. m.store };
+    ghost state = { λ m. m };
 
     fn iter_by<P>(&self) -> Iter<'_, T>
     where
@@ -96,6 +115,22 @@ impl<T, X: KeyIndex<T, S>, S> InOrder<T, X, S> for Map<T, X, S> {
         X: SortedAt<P, T, S>,
     {
         self.iter_by::<P>().next_back()
+    }
+
+    fn pop_first_by<P>(&mut self) -> Option<T>
+    where
+        X: SortedAt<P, T, S>,
+    {
+        let ix = first_index::<P, T, X, S>(self)?;
+        self.remove_at(ix)
+    }
+
+    fn pop_last_by<P>(&mut self) -> Option<T>
+    where
+        X: SortedAt<P, T, S>,
+    {
+        let ix = last_index::<P, T, X, S>(self)?;
+        self.remove_at(ix)
     }
 
     fn range_by<P, Q>(&self, lower: Bound<Q>, upper: Bound<Q>) -> Range<'_, T>
@@ -128,5 +163,27 @@ impl<T, X: KeyIndex<T, S>, S> InOrder<T, X, S> for Map<T, X, S> {
             state,
         } = self.parts();
         indexes.count_at(items, state, query)
+    }
+}
+
+// The index of the first item in order. A look-up of its own, so that the map isn't borrowed where the item is removed.
+fn first_index<P, T, X: SortedAt<P, T, S>, S>(map: &Map<T, X, S>) -> Option<ItemIndex>
+    ensures first { IfSome result (λ ix. (item : T) × FindsFirst X.sorts_by map.now.store (Some (ix, item))) }
+    ensures none { IfNone result (live_count map.now.store ≡ 0) }
+{
+    match map.first_by::<P>() {
+        Some((ix, _)) => Some(ix),
+        None => None,
+    }
+}
+
+// The index of the last item in order.
+fn last_index<P, T, X: SortedAt<P, T, S>, S>(map: &Map<T, X, S>) -> Option<ItemIndex>
+    ensures last { IfSome result (λ ix. (item : T) × FindsLast X.sorts_by map.now.store (Some (ix, item))) }
+    ensures none { IfNone result (live_count map.now.store ≡ 0) }
+{
+    match map.last_by::<P>() {
+        Some((ix, _)) => Some(ix),
+        None => None,
     }
 }
