@@ -1,4 +1,5 @@
 // The same rounds as `several.rt.in` over a container of Boost.MultiIndex with its own hashes.
+#include <boost/multi_index/composite_key.hpp>
 #include <boost/multi_index/hashed_index.hpp>
 #include <boost/multi_index/member.hpp>
 #include <boost/multi_index/ordered_index.hpp>
@@ -126,4 +127,73 @@ extern "C" Round boost_several(const Order *records_at, size_t record_count, con
     uint64_t removed_kinds = bench_now();
     return {inserted - start, found - inserted,          grouped - found,        ranged - grouped, removed - placed,
             again - removed,  removed_groups - again, removed_kinds - filled, sum};
+}
+
+// ---- a key of two fields
+
+struct Record {
+    uint32_t key, second, value;
+};
+
+struct TwoRound {
+    uint64_t insert, hit, miss, walk, remove, sum;
+};
+
+using TwoFields = mi::composite_key<Record, mi::member<Record, uint32_t, &Record::key>,
+                                    mi::member<Record, uint32_t, &Record::second>>;
+using TwoHashed = mi::multi_index_container<Record, mi::indexed_by<mi::hashed_unique<TwoFields>>>;
+using TwoOrdered = mi::multi_index_container<Record, mi::indexed_by<mi::ordered_unique<TwoFields>>>;
+
+template <class Map> [[gnu::noinline]] static uint64_t find_two(const Map &map, Slice<uint32_t> keys) {
+    uint64_t sum = 0;
+    for (uint32_t key : keys)
+        if (auto it = map.find(boost::make_tuple(key, 0u)); it != map.end())
+            sum += it->value;
+    return sum;
+}
+
+template <class Map> [[gnu::noinline]] static uint64_t take_two(Map &map, Slice<uint32_t> keys) {
+    uint64_t sum = 0;
+    for (uint32_t key : keys)
+        if (auto it = map.find(boost::make_tuple(key, 0u)); it != map.end()) {
+            sum += it->value;
+            map.erase(it);
+        }
+    return sum;
+}
+
+// Each value counts `times` as much as the one after it.
+template <class Map> [[gnu::noinline]] static uint64_t walk_two(const Map &map, uint64_t times) {
+    uint64_t sum = 0;
+    for (const Record &record : map)
+        sum = sum * times + record.value;
+    return sum;
+}
+
+template <class Map>
+static TwoRound two_round(Slice<Record> records, Slice<uint32_t> hits, Slice<uint32_t> misses, uint64_t times) {
+    Map map;
+    uint64_t start = bench_now(), sum = 0;
+    for (const Record &record : records)
+        sum += map.insert(record).second;
+    uint64_t inserted = bench_now();
+    sum += find_two(map, hits);
+    uint64_t hit = bench_now();
+    sum += find_two(map, misses);
+    uint64_t missed = bench_now();
+    sum += walk_two(map, times);
+    uint64_t walked = bench_now();
+    sum += take_two(map, hits);
+    uint64_t removed = bench_now();
+    return {inserted - start, hit - inserted, missed - hit, walked - missed, removed - walked, sum};
+}
+
+extern "C" TwoRound boost_two_hashed(const Record *records, size_t count, const uint32_t *hits, size_t hit_count,
+                                     const uint32_t *misses, size_t miss_count) {
+    return two_round<TwoHashed>({records, count}, {hits, hit_count}, {misses, miss_count}, 1);
+}
+
+extern "C" TwoRound boost_two_ordered(const Record *records, size_t count, const uint32_t *hits, size_t hit_count,
+                                      const uint32_t *misses, size_t miss_count) {
+    return two_round<TwoOrdered>({records, count}, {hits, hit_count}, {misses, miss_count}, 3);
 }

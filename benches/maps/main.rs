@@ -1,5 +1,5 @@
-//! The maps with one key beside std's, whose keys are stored twice, and a map with several keys beside
-//! Boost.MultiIndex, over the same items: the least nanoseconds an item over some rounds, and the ratio of the two.
+//! The maps with one key beside std's, whose keys are stored twice, also by a key of two fields, which is beside
+//! Boost.MultiIndex too, and a map with several keys beside that, over the same items: the least nanoseconds an item over some rounds, and the ratio of the two.
 use shared::{Random, Record, bench_now};
 use std::collections::{BTreeMap, HashMap};
 use std::hash::{BuildHasherDefault, Hasher};
@@ -19,25 +19,24 @@ struct Round {
     sum: u64,
 }
 
-unsafe extern "C" {
-    // A slice is a pointer and a length.
-    fn bench_hashed(
-        records: *const Record,
-        count: usize,
-        hits: *const u32,
-        hit_count: usize,
-        misses: *const u32,
-        miss_count: usize,
-    ) -> Round;
-    fn bench_ordered(
-        records: *const Record,
-        count: usize,
-        hits: *const u32,
-        hit_count: usize,
-        misses: *const u32,
-        miss_count: usize,
-    ) -> Round;
+// Each slice is a pointer and a length: records, keys that are there, keys that aren't.
+type Call = unsafe extern "C" fn(*const Record, usize, *const u32, usize, *const u32, usize) -> Round;
+
+macro_rules! calls {
+    ($($name:ident)*) => {
+        unsafe extern "C" {
+            $(fn $name(
+                records: *const Record,
+                count: usize,
+                hits: *const u32,
+                hit_count: usize,
+                misses: *const u32,
+                miss_count: usize,
+            ) -> Round;)*
+        }
+    };
 }
+calls!(bench_hashed bench_ordered bench_two_hashed bench_two_ordered boost_two_hashed boost_two_ordered);
 
 /// One multiplication to twice the width: about what the maps' own default hasher does to a number.
 #[derive(Default)]
@@ -111,6 +110,51 @@ impl Map for Ordered {
     }
 }
 
+/// Keys of two fields, which std's maps own.
+#[derive(Default)]
+struct TwoHashed(HashMap<(u32, u32), Record, BuildHasherDefault<Quick>>);
+
+impl Map for TwoHashed {
+    fn put(&mut self, record: Record) -> u64 {
+        self.0.insert((record.key, record.second), record).is_none() as u64
+    }
+
+    fn value_of(&self, key: u32) -> u64 {
+        self.0.get(&(key, 0)).map_or(0, |record| record.value.into())
+    }
+
+    fn take(&mut self, key: u32) -> u64 {
+        self.0.remove(&(key, 0)).map_or(0, |record| record.value.into())
+    }
+
+    #[inline(never)]
+    fn walk(&self) -> u64 {
+        self.0.values().fold(0u64, |sum, record| sum.wrapping_add(record.value.into()))
+    }
+}
+
+#[derive(Default)]
+struct TwoOrdered(BTreeMap<(u32, u32), Record>);
+
+impl Map for TwoOrdered {
+    fn put(&mut self, record: Record) -> u64 {
+        self.0.insert((record.key, record.second), record).is_none() as u64
+    }
+
+    fn value_of(&self, key: u32) -> u64 {
+        self.0.get(&(key, 0)).map_or(0, |record| record.value.into())
+    }
+
+    fn take(&mut self, key: u32) -> u64 {
+        self.0.remove(&(key, 0)).map_or(0, |record| record.value.into())
+    }
+
+    #[inline(never)]
+    fn walk(&self) -> u64 {
+        self.0.values().fold(0u64, |sum, record| sum.wrapping_mul(3).wrapping_add(record.value.into()))
+    }
+}
+
 #[inline(never)]
 fn put_all<M: Map>(map: &mut M, records: &[Record]) -> u64 {
     records.iter().map(|&record| map.put(record)).sum()
@@ -144,8 +188,27 @@ fn round_of<M: Map>(records: &[Record], hits: &[u32], misses: &[u32]) -> Round {
     round
 }
 
-/// The least nanoseconds of each part, of ours and of std's.
-fn least(count: usize, rounds: usize, is_hashed: bool) -> [[f64; PARTS]; 2] {
+/// A map of ours, and what it is measured beside.
+struct Pair {
+    name: &'static str,
+    is_hashed: bool,
+    ours: Call,
+    theirs: Theirs,
+}
+
+enum Theirs {
+    Std(fn(&[Record], &[u32], &[u32]) -> Round),
+    Boost(Call),
+}
+
+fn call(call: Call, records: &[Record], hits: &[u32], misses: &[u32]) -> Round {
+    let (records_at, hits_at, misses_at) = (records.as_ptr(), hits.as_ptr(), misses.as_ptr());
+    unsafe { call(records_at, records.len(), hits_at, hits.len(), misses_at, misses.len()) }
+}
+
+/// The least nanoseconds of each part, of ours and of theirs.
+fn least(pair: &Pair, count: usize, rounds: usize) -> [[f64; PARTS]; 2] {
+    let is_hashed = pair.is_hashed;
     let mut random = Random(7);
     let key_of = |number: usize| if is_hashed { number.wrapping_mul(2654435769) as u32 } else { 2 * number as u32 };
     let mut hits: Vec<u32> = (0..count).map(key_of).collect();
@@ -158,13 +221,10 @@ fn least(count: usize, rounds: usize, is_hashed: bool) -> [[f64; PARTS]; 2] {
             hits.iter().map(|&key| Record { key, second: 0, value: (random.next() >> 40) as u32 }).collect();
         random.shuffle(&mut hits);
         random.shuffle(&mut misses);
-        let ours = if is_hashed { bench_hashed } else { bench_ordered };
-        let (records_at, hits_at, misses_at) = (records.as_ptr(), hits.as_ptr(), misses.as_ptr());
-        let round = unsafe { ours(records_at, count, hits_at, count, misses_at, count) };
-        let other = if is_hashed {
-            round_of::<Hashed>(&records, &hits, &misses)
-        } else {
-            round_of::<Ordered>(&records, &hits, &misses)
+        let round = call(pair.ours, &records, &hits, &misses);
+        let other = match pair.theirs {
+            Theirs::Std(round_of) => round_of(&records, &hits, &misses),
+            Theirs::Boost(theirs) => call(theirs, &records, &hits, &misses),
         };
         assert_eq!(round.sum, other.sum, "the answers differ");
         for (least, round) in least.iter_mut().zip([round, other]) {
@@ -176,17 +236,13 @@ fn least(count: usize, rounds: usize, is_hashed: bool) -> [[f64; PARTS]; 2] {
     least
 }
 
-fn main() {
-    // So many rounds; twice as many on a busy machine do no harm.
-    let scale: usize = std::env::args().nth(1).map_or(1, |word| word.parse().expect("a number"));
-    shared::keep_memory();
-    let sizes = [(1_000, 1_000 * scale), (100_000, 20 * scale), (1_000_000, 4 * scale)];
-    println!("| ns an item, ours / std's: ratio | 1,000 | 100,000 | 1,000,000 |");
+fn print(pairs: &[Pair], theirs: &str, sizes: &[(usize, usize)]) {
+    println!("| ns an item, ours / {theirs}: ratio | 1,000 | 100,000 | 1,000,000 |");
     println!("|---|---|---|---|");
-    for (is_hashed, map) in [(true, "by hash"), (false, "in order")] {
-        let all = sizes.map(|(count, rounds)| least(count, rounds, is_hashed));
+    for pair in pairs {
+        let all: Vec<_> = sizes.iter().map(|&(count, rounds)| least(pair, count, rounds)).collect();
         for (part, name) in NAMES.iter().enumerate() {
-            print!("| {map}: {name} |");
+            print!("| {}: {name} |", pair.name);
             for [ours, theirs] in &all {
                 print!(" {:.1} / {:.1}: {:.2} |", ours[part], theirs[part], ours[part] / theirs[part]);
             }
@@ -194,5 +250,25 @@ fn main() {
         }
     }
     println!();
+}
+
+fn main() {
+    // So many rounds; twice as many on a busy machine do no harm.
+    let scale: usize = std::env::args().nth(1).map_or(1, |word| word.parse().expect("a number"));
+    shared::keep_memory();
+    let sizes = [(1_000, 1_000 * scale), (100_000, 20 * scale), (1_000_000, 4 * scale)];
+    let pair = |name, is_hashed, ours, theirs| Pair { name, is_hashed, ours, theirs };
+    let by_std = [
+        pair("by hash", true, bench_hashed, Theirs::Std(round_of::<Hashed>)),
+        pair("in order", false, bench_ordered, Theirs::Std(round_of::<Ordered>)),
+        pair("by the hash of two fields", true, bench_two_hashed, Theirs::Std(round_of::<TwoHashed>)),
+        pair("in the order of two fields", false, bench_two_ordered, Theirs::Std(round_of::<TwoOrdered>)),
+    ];
+    print(&by_std, "std's", &sizes);
+    let by_boost = [
+        pair("by the hash of two fields", true, bench_two_hashed, Theirs::Boost(boost_two_hashed)),
+        pair("in the order of two fields", false, bench_two_ordered, Theirs::Boost(boost_two_ordered)),
+    ];
+    print(&by_boost, "Boost's", &sizes);
     several::print(&sizes.map(|(count, rounds)| (count, rounds.div_ceil(4))));
 }

@@ -1,5 +1,5 @@
 //! Appointments by their rooms and starts, in that order: all of a room are a group, by the first part of the key.
-ghost use Rattle.std.specs.Prelude.{◌≡◌, IfOk, IfErr, OnOk, OnErr};
+ghost use Rattle.std.specs.Prelude.{◌≡◌, ◌+◌, IfOk, IfErr, OnOk, OnErr};
 ghost use Rattle.std.specs.Option.{option_map};
 ghost use Rattle.iddqd_maps.specs.Drops.{Drops};
 ghost use Rattle.iddqd_maps.specs.Groups.{CountsHits};
