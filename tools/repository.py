@@ -9,7 +9,7 @@ TOP = os.path.realpath(os.path.join(os.path.dirname(os.path.abspath(__file__)), 
 # The types that callers hold; `Map` is what the three names after it stand for, each with its own mix of keys.
 MAPS = ["Map", "IdHashMap", "BiHashMap", "TriHashMap", "IdOrdMap", "KeyedItems", "TriItems"]
 # The traits of crates above that add calls to such a type.
-ADDED = {"Map": ["InOrder"]}
+ADDED = {"Map": ["InOrder", "InGroups"]}
 
 
 def read(path):

@@ -32,6 +32,7 @@ pub use Rattle.iddqd_map.specs.OneKey
 pub use Rattle.iddqd_map.specs.TwoKeys
 pub use Rattle.iddqd_map.specs.ThreeKeys
 pub use Rattle.iddqd_groups.specs.Upcoming
+pub use Rattle.iddqd_groups.specs.InGroups
 pub use Rattle.iddqd_ord_map.specs.ByOrder
 pub use Rattle.iddqd_ord_map.specs.ByOrderMulti
 pub use Rattle.iddqd_ord_map.specs.OrdMap

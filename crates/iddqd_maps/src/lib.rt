@@ -22,7 +22,9 @@ pub use iddqd::{
     item_set as item_set,
 };
 pub use iddqd_by_order::ordered_walk as ordered_walk;
-pub use iddqd_groups::{by_hash_multi as by_hash_multi, hashed_group as hashed_group};
+pub use iddqd_groups::{
+    by_hash_multi as by_hash_multi, hashed_group as hashed_group, in_groups as in_groups,
+};
 pub use iddqd_keys::{
     hash_key as hash_key, hash_query as hash_query, item_hash_query as item_hash_query,
     item_order_query as item_order_query, key_kinds as key_kinds, key_of as key_of,

@@ -140,7 +140,10 @@ fn script(alloc: Global, appointments: &mut Appointments) -> Result<String, Allo
         first(appointments).is_some(),
     );
     let closed = close_room(appointments, 1);
-    format!(in alloc; "appointments: {added:?}, {found:?}, {walks:?}, {closed}, {}", appointments.len())
+    format!(in alloc;
+        "appointments: {added:?}, {found:?}, {walks:?}, {closed}, {}",
+        appointments.len()
+    )
 }
 
 /// What the calls answer.

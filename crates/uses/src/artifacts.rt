@@ -106,7 +106,10 @@ fn script(alloc: Global, artifacts: &mut Artifacts) -> Result<String, AllocError
         find(artifacts, "serde1", ".1").is_some(),
     );
     let removed = remove(artifacts, "serde", "1.0").is_some();
-    format!(in alloc; "artifacts: {first}, {second}, {third}, {resized}, {found:?}, {removed}, {}", artifacts.len())
+    format!(in alloc;
+        "artifacts: {first}, {second}, {third}, {resized}, {found:?}, {removed}, {}",
+        artifacts.len()
+    )
 }
 
 /// What the calls answer.

@@ -1,10 +1,11 @@
 //! Orders by their numbers, by their customers, and in the order of their days. Many orders may have one customer, and
 //! many may be due on one day.
-ghost use Rattle.std.specs.Prelude.{◌≡◌, ◌==◌, ◌≤◌, ◌<◌, ◌+◌, ◌↔◌, true, false, length, IfOk, IfErr, OnOk, OnErr};
+ghost use Rattle.std.specs.Prelude.{◌≡◌, ◌==◌, ◌≤◌, ◌<◌, ◌+◌, ◌↔◌, true, false, length, IfOk, IfErr, OnOk, OnErr, OnSome};
 ghost use Rattle.std.specs.Option.{option_map};
-ghost use Rattle.iddqd_maps.specs.Groups.{AreHits, CountsHits, FindsSome};
+ghost use Rattle.iddqd_maps.specs.Groups.{CountsHits, FindsSome};
 ghost use Rattle.iddqd_maps.specs.Map.{FindsItem};
-ghost use Rattle.iddqd_maps.specs.InOrder.{shown, FindsFirst, FindsLast, IteratesInOrder};
+ghost use Rattle.iddqd_maps.specs.InGroups.{ListsHits};
+ghost use Rattle.iddqd_maps.specs.InOrder.{shown, FindsFirst, FindsLast, IteratesInOrder, PopsFirst, PopsLast};
 ghost use Rattle.iddqd_maps.specs.Scan.{HasNoHit};
 ghost use Rattle.iddqd_maps.specs.Store.{inserted, live_count, next_index};
 ghost use Rattle.iddqd_maps.specs.Drops.{Drops};
@@ -13,15 +14,16 @@ ghost use Rattle.uses.specs.Ledger.{by_day, is_due_from, is_due_on, shares_numbe
 ghost use Rattle.uses.specs.declared.ledger.Order.{Order};
 
 use iddqd_maps::by_hash::ByHash;
-use iddqd_maps::by_hash_multi::{ByHashMulti, Group};
+use iddqd_maps::by_hash_multi::ByHashMulti;
 use iddqd_maps::by_order_multi::ByOrderMulti;
 use iddqd_maps::id_ord_map::Iter;
+use iddqd_maps::in_groups::{GroupItems, InGroups};
 use iddqd_maps::in_order::InOrder;
 use iddqd_maps::item_index::ItemIndex;
 use iddqd_maps::key_index::{Here, Left, Right};
 use iddqd_maps::key_kinds::Field;
 use iddqd_maps::key_of::KeyOf;
-use iddqd_maps::map::{Map, Parts};
+use iddqd_maps::map::Map;
 use iddqd_maps::no_conflict::NoConflict;
 use iddqd_maps::ordered_walk::Range;
 use iddqd_maps::pair::Pair;
@@ -110,31 +112,21 @@ pub fn with_number(ledger: &Ledger, number: u64) -> Option<Order>
     ledger.get_by::<ByNumber, _>(&number).copied()
 }
 
-/// The indexes of the orders of a customer, each once, in no particular order.
+/// The orders of a customer with their indexes, each once, in no particular order.
 pub fn orders_of<'a>(
     ledger: &'a Ledger,
     customer: &'a u32,
-) -> Group<'a, Order, Field<Customer, u32>, &'a u32>
-    ensures { AreHits ledger.now.store (λ order. customer.now == order.customer) result.rest }
+) -> GroupItems<'a, Order, Field<Customer, u32>, &'a u32>
+    ensures { ListsHits (λ order. customer.now == order.customer) ledger.now.store result }
 {
-    let Parts {
-        items,
-        indexes,
-        state,
-    } = ledger.parts();
-    indexes.second.first.group(items, state, customer)
+    ledger.hashed_group_by::<ByCustomer, _>(customer)
 }
 
 /// How many orders a customer has.
 pub fn count_of(ledger: &Ledger, customer: u32) -> usize
     ensures { CountsHits ledger.now.store (λ order. customer == order.customer) result }
 {
-    let Parts {
-        items,
-        indexes,
-        state,
-    } = ledger.parts();
-    indexes.second.first.count_of(items, state, &customer)
+    ledger.count_hashed_group_by::<ByCustomer, _>(&customer)
 }
 
 /// The index of some order of a customer: none exactly where the customer has none.
@@ -194,6 +186,24 @@ pub fn last_due(ledger: &Ledger) -> Option<(ItemIndex, &Order)>
     ensures { FindsLast by_day ledger.now.store (option_map shown result) }
 {
     ledger.last_by::<ByDay>()
+}
+
+/// Removes the order that is due first, and returns it; of those of one day, the one with the least index. It takes no
+/// memory.
+pub fn take_first_due(ledger: &mut Ledger) -> Option<Order>
+    ensures taken { PopsFirst by_day ledger.old result ledger.new }
+    ensures count { OnSome result (live_count ledger.old.store ≡ live_count ledger.new.store + 1) }
+{
+    ledger.pop_first_by::<ByDay>()
+}
+
+/// Removes the order that is due last, and returns it; of those of one day, the one with the greatest index. It takes no
+/// memory.
+pub fn take_last_due(ledger: &mut Ledger) -> Option<Order>
+    ensures taken { PopsLast by_day ledger.old result ledger.new }
+    ensures count { OnSome result (live_count ledger.old.store ≡ live_count ledger.new.store + 1) }
+{
+    ledger.pop_last_by::<ByDay>()
 }
 
 /// How many orders are due on a day.
@@ -285,9 +295,13 @@ fn script(alloc: Global, ledger: &mut Ledger) -> Result<String, AllocError> {
         orders_of(ledger, &8).next().is_some(),
     );
     let small = (drop_small(ledger, 20, 20), drop_small_until(ledger, 20, 40));
+    let taken = (
+        take_first_due(ledger).is_some(),
+        take_last_due(ledger).is_some(),
+    );
     let gone = (forget(ledger, 7), close_day(ledger, 30));
     format!(in alloc;
-        "ledger: {added:?}, {counts:?}, {walks:?}, {ends:?}, {early}, {left:?}, {small:?}, {gone:?}, {}",
+        "ledger: {added:?}, {counts:?}, {walks:?}, {ends:?}, {early}, {left:?}, {small:?}, {taken:?}, {gone:?}, {}",
         ledger.len()
     )
 }

@@ -111,7 +111,13 @@ pub fn beginning_with<'a>(people: &'a People, text: &str) -> Range<'a, Person>
     people.group_by::<ByName, _>(StartsWith(text))
 }
 
-fn added(alloc: Global, people: &mut People, number: u32, name: &str, born: u32) -> Result<bool, AllocError> {
+fn added(
+    alloc: Global,
+    people: &mut People,
+    number: u32,
+    name: &str,
+    born: u32,
+) -> Result<bool, AllocError> {
     let name = String::from_str(alloc, name)?;
     Ok(add(people, Person { number, name, born }).is_ok())
 }

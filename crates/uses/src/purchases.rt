@@ -132,7 +132,10 @@ fn script(alloc: Global, purchases: &mut Purchases) -> Result<String, AllocError
         undo(purchases, 7, 30),
         newest_of(purchases, 7).count(),
     );
-    format!(in alloc; "purchases: {added:?}, {newest}, {counts:?}, {}", purchases.len())
+    format!(in alloc;
+        "purchases: {added:?}, {newest}, {counts:?}, {}",
+        purchases.len()
+    )
 }
 
 /// What the calls answer.
