@@ -161,9 +161,8 @@ impl<T: Drop, E: OrdKey<T>> OrdMapBy<T, E> {
     /// The index of the item that has the key for which the query stands.
     ///
     /// The query is a `&K` for a field `K`, a tuple of queries for a tuple of keys, or another query that stands for
-    /// one key. It is one search of the ordered table,
-    /// whose contract allows at most 4 + 2d comparisons, where the number of items has d binary digits. The contract
-    /// here doesn't count them; tests do.
+    /// one key. It is one search of the ordered table, whose contract allows at most 4 + 2d comparisons, where the
+    /// number of items has d binary digits. The contract here doesn't count them; tests do.
     pub fn find<Q: ItemOrdQuery<T, E>>(&self, query: Q) -> Option<ItemIndex>
         ensures { AnswersScan self.now.store (is_equal (Q.compare_item query)) result }
     {

@@ -23,7 +23,9 @@ use crate::btree_table::cursor::{Cursor, End};
 use crate::btree_table::front::Start;
 use crate::btree_table::node::Node;
 use crate::btree_table::path::Path;
-use crate::btree_table::reading::{AsOrdering, ByQuery, Reads, Unequal, by_query};
+use crate::btree_table::reading::{
+    AsOrdering, ByQuery, EqualAsGreater, EqualAsLess, Reads, by_query,
+};
 use crate::btree_table::table::MapBTreeTable;
 use iddqd::item_index::ItemIndex;
 use iddqd::map_hash::Comparable;
@@ -320,6 +322,7 @@ impl MapBTreeTable {
     }
 
     // The path to the gap where what is sought would go, with Equal read as `at_equal`.
+    #[inline(always)]
     fn find_bound<R, F: FnMut(ItemIndex) -> R, H: Reads<R>>(
         &self,
         asking: &mut Asking<F>,
@@ -333,10 +336,21 @@ impl MapBTreeTable {
         ensures bound { IsBoundBy F.FnMut (H.reading how.now) at_equal (order_of self.now) asking.old
             (place_in self.now.root self.now.height result) }
     {
-        match self.descend(Start::Root, asking, &Unequal { how, at_equal }, &None) {
-            // No answer is read as Equal.
-            Ok(_) => unreachable!(),
-            Err(gap) => gap.path,
+        // No answer is read as Equal.
+        match at_equal {
+            Ordering::Less => {
+                match self.descend(Start::Root, asking, &EqualAsLess(how), &None) {
+                    Ok(_) => unreachable!(),
+                    Err(gap) => gap.path,
+                }
+            }
+            Ordering::Greater => {
+                match self.descend(Start::Root, asking, &EqualAsGreater(how), &None) {
+                    Ok(_) => unreachable!(),
+                    Err(gap) => gap.path,
+                }
+            }
+            Ordering::Equal => unreachable!(),
         }
     }
 

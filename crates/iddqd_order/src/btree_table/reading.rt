@@ -1,6 +1,7 @@
 //! How the answer of an asking is read.
 ghost use Rattle.std.specs.Prelude.{◌≡◌};
 ghost use Rattle.std.specs.declared.cmp.Ordering.{Ordering};
+ghost use Rattle.std.specs.declared.cmp.Ordering.TheVariants.{Less, Greater};
 ghost use Rattle.std.specs.Ordering.{ordering_then};
 ghost use Rattle.std.specs.Range.Bound.{bound_map};
 
@@ -66,20 +67,26 @@ impl<'a, K: Ord + Drop> Reads<K> for ByKey<'a, K> {
     }
 }
 
-// Reads as `H` does, but replaces Equal by `at_equal`, which is Less or Greater.
+// Reads as `H` does, but Equal as Less. A type of its own for each of the two, so that a search has no test of which.
 #[derive(Drop)]
-pub(super) struct Unequal<'a, H> {
-    pub(super) how: &'a H,
-    pub(super) at_equal: Ordering,
-}
+pub(super) struct EqualAsLess<'a, H>(pub(super) &'a H);
 
-impl<'a, R, H: Reads<R>> Reads<R> for Unequal<'a, H> {
-    ghost reading = { λ u r. ordering_then (H.reading u.how.now r) u.at_equal };
+impl<'a, R, H: Reads<R>> Reads<R> for EqualAsLess<'a, H> {
+    ghost reading = { λ by r. ordering_then (H.reading by.0.now r) Less };
 
     fn read(&self, answer: R) -> Ordering {
-        match self.how.read(answer) {
-            Ordering::Equal => self.at_equal,
-            other => other,
-        }
+        self.0.read(answer).then(Ordering::Less)
+    }
+}
+
+// Reads as `H` does, but Equal as Greater.
+#[derive(Drop)]
+pub(super) struct EqualAsGreater<'a, H>(pub(super) &'a H);
+
+impl<'a, R, H: Reads<R>> Reads<R> for EqualAsGreater<'a, H> {
+    ghost reading = { λ by r. ordering_then (H.reading by.0.now r) Greater };
+
+    fn read(&self, answer: R) -> Ordering {
+        self.0.read(answer).then(Ordering::Greater)
     }
 }
