@@ -6,6 +6,7 @@ ghost use Rattle.std.specs.Prelude.{◌≡◌};
 ghost use Rattle.iddqd.specs.MapHash.{hash_one};
 ghost use Rattle.iddqd_hash.specs.{filed};
 ghost use Rattle.iddqd_hash.specs.HashTable.{KeepsMemory};
+ghost use Rattle.iddqd_keys.specs.Scan.{itself};
 ghost use Rattle.iddqd_by_hash.specs.Hashed.{AreLive, LooksUp, Takes};
 
 use crate::hashed;
@@ -72,7 +73,7 @@ where
     E: HashKey<T>,
     Q: ItemHashQuery<T, E>,
     requires { AreLive items.now.store (filed table.now) }
-    ensures { LooksUp (λ item. item) items.now.store (filed table.now) hash (Q.stands_for_item query) result }
+    ensures { LooksUp itself items.now.store (filed table.now) hash (Q.stands_for_item query) result }
 {
     let query = ByItem::<E, Q> {
         query,
@@ -92,7 +93,7 @@ where
     E: HashKey<T>,
     Q: ItemHashQuery<T, E>,
     requires { AreLive items.now.store (filed table.old) }
-    ensures found { LooksUp (λ item. item) items.now.store (filed table.old) hash (Q.stands_for_item query) result }
+    ensures found { LooksUp itself items.now.store (filed table.old) hash (Q.stands_for_item query) result }
     ensures taken { Takes (filed table.old) result (filed table.new) }
     ensures memory { KeepsMemory table.old table.new }
 {
@@ -114,7 +115,7 @@ pub fn find_same<T, E: HashKey<T>>(
     item: &T,
 ) -> Option<ItemIndex>
     requires { AreLive items.now.store (filed table.now) }
-    ensures { LooksUp (λ item. item) items.now.store (filed table.now) hash
+    ensures { LooksUp itself items.now.store (filed table.now) hash
         (λ other. E.eq (E.key_of item.now) (E.key_of other)) result }
 {
     let query = KeyOfItem::<T, E> {

@@ -12,12 +12,9 @@ use Rattle.iddqd_order.specs.declared.btree_table.entry.Entry.{Entry}
 use Rattle.iddqd_order.specs.declared.btree_table.entry.Entry.TheVariants.{Occupied, Vacant}
 pub use Rattle.iddqd_keys.specs.KeyWalk.{key_at, IsInPlace}
 pub use Rattle.iddqd_keys.specs.OrderedQuery.{is_equal}
+pub use Rattle.iddqd_keys.specs.Scan.{itself}
 use Rattle.iddqd_keys.specs.Scan.{IsLive, IsHit, HasNoHit, passes_by}
 use Rattle.iddqd_keys.specs.AnyTable.{HasExactly, TableIsInSync, TableKeeps, TableLooksUp}
-
--- an item in place of its key: items themselves are compared
-abbrev pub itself : {T : Type 0} → T → T
-itself item = item
 
 -- `new` is `old` without the index that a look-up found, or `old` itself if it found none
 abbrev pub Takes : List ℕ → Option ℕ → List ℕ → Type 0

@@ -6,7 +6,7 @@ ghost use Rattle.std.specs.FinMap as finite;
 ghost use Rattle.std.specs.Iterator.{YieldsFirst, MakesProgress, item_count, at_most, UpTo};
 ghost use Rattle.std.specs.Iterator.SizeHint.{IsWithinCount};
 ghost use Rattle.iddqd.specs.Store.{sentinel};
-ghost use Rattle.iddqd_keys.specs.Scan.{IsLive};
+ghost use Rattle.iddqd_keys.specs.Scan.{IsLive, itself};
 ghost use Rattle.iddqd_by_hash.specs.Hashed.{AreLive};
 ghost use Rattle.iddqd_groups.specs.HashedGroup.{FindsFirst, IsGroupOf};
 ghost use Rattle.iddqd_groups.specs.Upcoming.{rest_of, LowersBoundFurther};
@@ -37,7 +37,7 @@ pub struct Group<'a, T, E: HashKey<T>, Q: ItemHashQuery<T, E>> {
 
 impl<'a, T, E: HashKey<T>, Q: ItemHashQuery<T, E>> Model for Group<'a, T, E, Q> {
     ghost use Rattle.std.specs.Prelude.{ℕ, Contains};
-    ghost use Rattle.iddqd_keys.specs.Scan.{IsLive};
+    ghost use Rattle.iddqd_keys.specs.Scan.{IsLive, itself};
     ghost use Rattle.iddqd_groups.specs.HashedGroup.{hits_among};
     ghost use Rattle.iddqd_groups.specs.Upcoming.{Upcoming};
 
@@ -64,7 +64,7 @@ where
     E: HashKey<T>,
     Q: ItemHashQuery<T, E>,
     requires { AreLive items.now.store table.now.filed }
-    ensures group { IsGroupOf (λ item. item) items.now.store table.now.filed hash (Q.stands_for_item query) result.rest }
+    ensures group { IsGroupOf itself items.now.store table.now.filed hash (Q.stands_for_item query) result.rest }
     ensures bound { result.bound ≡ finite.len table.now.filed }
 {
     Group {

@@ -25,6 +25,10 @@ module _ {T : Type 0} where
   abbrev pub AreApart : (T → T → Bool) → Store T → Type 0
   AreApart alike s = (i j : ℕ) (x y : T) → get s i ≡ Some x → get s j ≡ Some y → alike x y ≡ true → i ≡ j
 
+-- an item in place of its key: items themselves are compared
+abbrev pub itself : {T : Type 0} → T → T
+itself item = item
+
 module _ {T K : Type 0} (key_of : T → K) where
   -- the index is live, and this is the key of its item
   abbrev pub IsKeyAt : Store T → ℕ → K → Type 0

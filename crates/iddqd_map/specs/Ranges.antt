@@ -5,13 +5,10 @@ use Rattle.std.specs.List.{FoldsTo}
 use Rattle.std.specs.declared.cmp.Ordering.{Ordering}
 use Rattle.iddqd.specs.Store.{Store, get}
 use Rattle.iddqd_keys.specs.KeyWalk.{SortsWithin, pairs_at}
+pub use Rattle.iddqd_keys.specs.Scan.{itself}
 use Rattle.iddqd_keys.specs.Scan.{IsHit}
 use Rattle.iddqd_map.specs.Retain.{MayAsk}
 use Rattle.iddqd_keys.specs.Removals.{removed_all}
-
--- an item in place of its key: items themselves are compared
-abbrev pub itself : {T : Type 0} → T → T
-itself item = item
 
 module _ {T : Type 0} where
   -- the items that pass were removed, and all others stay under their indexes
