@@ -154,8 +154,8 @@ where
     E: OrdKey<T>,
     Q: ItemRangeQuery<T, E>,
     requires { Holds items.now.store (order_of table.now) }
-    ensures { let within = is_within Q.compare_item lower upper in
-        WalksWithin itself (on E.key_of E.cmp) within items.now.store (order_of table.now) (indexes_ahead result) }
+    ensures { WalksWithin itself (on E.key_of E.cmp) (is_within Q.compare_item lower upper) items.now.store
+        (order_of table.now) (indexes_ahead result) }
 {
     let mut asking = Asking::new(
         |at: ItemIndex|

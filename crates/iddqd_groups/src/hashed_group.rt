@@ -21,8 +21,8 @@ use std::fmt;
 use std::iter::FusedIterator;
 use std::marker::{Model, PhantomData};
 
-/// An iterator over the indexes that are filed under a hash and whose items have the key for which a query stands: each once, in no order
-/// that a caller can rely on. It is fused.
+/// An iterator over the indexes that are filed under a hash and whose items have the key for which a query stands: each
+/// once, in no order that a caller can rely on. It is fused.
 ///
 /// A contract sees the indexes that are left, `rest`, and the upper bound of its `size_hint`, `bound`. The bound is the
 /// number of indexes in the table, less those whose keys were read. It takes no memory, and reads only keys of indexes

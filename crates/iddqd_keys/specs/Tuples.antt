@@ -144,8 +144,10 @@ module _ {K : Type 0} (R S : K → K → Ordering) where
         less_after = λ a b. pair_less (R a b) (S a b) (p a) (q a) (p b) (q b)
             (first.less_after a b) (first.greater_before a b) (first.equal_keys a b) (one a b) (second.less_after a b);
         greater_before = λ a b. pair_greater (R a b) (S a b) (p a) (q a) (p b) (q b)
-            (first.less_after a b) (first.greater_before a b) (first.equal_keys a b) (one a b) (second.greater_before a b);
-        equal_keys = λ a b. pair_equal (R a b) (S a b) (p a) (q a) (p b) (q b) (first.equal_keys a b) (second.equal_keys a b);
+            (first.less_after a b) (first.greater_before a b) (first.equal_keys a b) (one a b)
+            (second.greater_before a b);
+        equal_keys = λ a b. pair_equal (R a b) (S a b) (p a) (q a) (p b) (q b) (first.equal_keys a b)
+            (second.equal_keys a b);
       }
 
       pub IsOneKey-pair : IsOneKey R p → IsOneKey S q
@@ -156,7 +158,8 @@ module _ {K : Type 0} (R S : K → K → Ordering) where
     pub FitsOrder-first : FitsOrder R p → FitsOrder (λ a b. ordering_then (R a b) (S a b)) p
     FitsOrder-first first = record {
       less_after = λ a b. first_less (R a b) (S a b) (p a) (p b) (first.less_after a b) (first.equal_keys a b);
-      greater_before = λ a b. first_greater (R a b) (S a b) (p a) (p b) (first.greater_before a b) (first.equal_keys a b);
+      greater_before = λ a b. first_greater (R a b) (S a b) (p a) (p b) (first.greater_before a b)
+          (first.equal_keys a b);
       equal_keys = λ a b. first_equal (R a b) (S a b) (p a) (p b) (first.equal_keys a b);
     }
 

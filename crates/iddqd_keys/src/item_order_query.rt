@@ -1,7 +1,7 @@
 //! Queries by which items are looked up in the order of their key.
 //!
-//! For a range or a group it is enough that a query's answers fit the order ([`ItemRangeQuery`]). Only where one item is
-//! sought does it have to stand for one key, too ([`ItemOrdQuery`]). So the first part of a key of several fields is a
+//! For a range or a group it is enough that a query's answers fit the order ([`ItemRangeQuery`]). It has to stand for
+//! one key, too, only where one item is sought ([`ItemOrdQuery`]). So the first part of a key of several fields is a
 //! query for a range.
 ghost use Rattle.std.specs.Prelude.{◌≡◌};
 ghost use Rattle.std.specs.Ordering.{on};

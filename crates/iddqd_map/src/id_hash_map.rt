@@ -44,8 +44,8 @@ pub type IdHashMap<T, S = DefaultHashBuilder> = Map<T, IdIndex<T>, S>;
 impl<T, E: HashKey<T>, S: BuildHasher> Map<T, ByHashOf<E>, S> {
     /// The index of the item that has the key for which the query stands.
     ///
-    /// For a field the query is a `&K`, or another query that stands for such a key; for a tuple of keys it is the tuple
-    /// of their queries. Only keys of the same hash are compared with it.
+    /// For a field the query is a `&K`, or another query that stands for such a key; for a tuple of keys it is the
+    /// tuple of their queries. Only keys of the same hash are compared with it.
     pub fn find<Q: ItemHashQuery<T, E>>(&self, query: Q) -> Option<ItemIndex>
         ensures { AnswersScan self.now.store (Q.stands_for_item query) result }
     {
@@ -121,7 +121,8 @@ impl<T, E: HashKey<T>, S: BuildHasher> Map<T, ByHashOf<E>, S> {
         query: Q,
         f: F,
     ) -> Option<R>
-        requires { KeepsKey F.FnOnce f E.key_of (λ item. FindsItem self.old.store (Q.stands_for_item query) (Some item)) }
+        requires { let named = Q.stands_for_item query in
+            KeepsKey F.FnOnce f E.key_of (λ item. FindsItem self.old.store named (Some item)) }
         ensures modifies { Modifies F.FnOnce f self.old (Q.stands_for_item query) result self.new }
         ensures room { room self.old ≤ room self.new }
     {

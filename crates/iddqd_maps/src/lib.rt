@@ -4,8 +4,8 @@
 //! indexes, each a [`by_hash::ByHash`], a [`by_order::ByOrder`], a [`by_hash_multi::ByHashMulti`] or a
 //! [`by_order_multi::ByOrderMulti`], whose key several items may have, or a pair again.
 //!
-//! A key is one field, a computed value, or several keys in turn ([`key_kinds`]); [`id_hash_map::HashMapBy`] and its like
-//! take any.
+//! A key is one field, a computed value, or several keys in turn ([`key_kinds`]); [`id_hash_map::HashMapBy`] and its
+//! like take any.
 //!
 //! A contract sees a map as items in slots under stable indexes, no two of which share a unique key. No call gives
 //! a stored item another key without updating the tables, so a look-up always answers as a scan of all items would.

@@ -197,8 +197,8 @@ pub fn take_first_due(ledger: &mut Ledger) -> Option<Order>
     ledger.pop_first_by::<ByDay>()
 }
 
-/// Removes the order that is due last, and returns it; of those of one day, the one with the greatest index. It takes no
-/// memory.
+/// Removes the order that is due last, and returns it; of those of one day, the one with the greatest index. It takes
+/// no memory.
 pub fn take_last_due(ledger: &mut Ledger) -> Option<Order>
     ensures taken { PopsLast by_day ledger.old result ledger.new }
     ensures count { OnSome result (live_count ledger.old.store ≡ live_count ledger.new.store + 1) }
