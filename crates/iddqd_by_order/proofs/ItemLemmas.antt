@@ -1,10 +1,10 @@
 -- A table that is in order by the keys of the items is in order by the items, which compare by their keys.
-use Rattle.std.proofs.Common.{◌≡◌, ℕ, List, Option, Some, None, refl, ap, subst, Ordering}
+use Rattle.std.proofs.Common.{◌≡◌, ℕ, Bool, List, Option, Some, None, refl, sym, ap, subst, Ordering}
 use Rattle.std.specs.List.Sorted.{IsStrictlySortedBy}
 use Rattle.std.specs.Option.{option_cmp, option_map}
 use Rattle.std.specs.Ordering.{nat_cmp, on, ordering_then}
 use Rattle.iddqd.specs.Store.{Store, get}
-use Rattle.iddqd_keys.specs.KeyWalk.{by_key_then_index}
+use Rattle.iddqd_keys.specs.KeyWalk.{by_key_then_index, SortsWithin}
 use Rattle.iddqd_by_order.specs.Ordered.{IsInPlace, IsInSync, IsSortedScan, itself}
 
 module _ {T K : Type 0} (key_of : T → K) (compare : K → K → Ordering) where
@@ -31,3 +31,13 @@ module _ {T K : Type 0} (key_of : T → K) (compare : K → K → Ordering) wher
 
       pub IsSortedScan-items : IsSortedScan key_of compare s order → IsSortedScan itself (on key_of compare) s order
       IsSortedScan-items sorted = record { holds = sorted.holds; placed = IsInPlace-items sorted.placed }
+
+      -- and back: indexes that a query of items lists are listed by their keys
+      pub SortsWithin-keys :
+          (within : K → Bool)
+          → SortsWithin itself (on key_of compare) (λ item. within (key_of item)) s order
+          → SortsWithin key_of compare within s order
+      SortsWithin-keys within sorted = record {
+        each = sorted.each;
+        placed = subst (λ c. IsStrictlySortedBy c order) (λ i a b. sym (indexes_alike a b) i) sorted.placed;
+      }

@@ -8,7 +8,6 @@
 //! items by their keys.
 ghost use Rattle.std.specs.Prelude.{◌≡◌};
 ghost use Rattle.std.specs.Ordering.{on};
-ghost use Rattle.std.specs.Range.Bound.{bound_map};
 ghost use Rattle.iddqd_order.specs.{NeedsNoMoreBlocks, capacity, entry_table, indexes_ahead, order_of, without};
 ghost use Rattle.iddqd_keys.specs.OrderedQuery.{is_within};
 ghost use Rattle.iddqd_keys.specs.Scan.{IsKeyAt, IsLive};
@@ -19,21 +18,11 @@ use crate::item_bound::by_item;
 use iddqd::item_index::ItemIndex;
 use iddqd::item_set::ItemSet;
 use iddqd_keys::item_order_query::{ItemOrdQuery, ItemRangeQuery};
+use iddqd_keys::key_of::{Itself, key_at};
 use iddqd_keys::order_key::OrdKey;
 use iddqd_order::btree_table::{Asking, Entry, MapBTreeTable, Range};
 use std::cmp::Ordering;
 use std::ops::Bound;
-
-/// The item at a live index.
-pub fn item_at<T>(items: &ItemSet<T>, ix: ItemIndex) -> &T
-    requires { IsLive items.now.store ix }
-    ensures { IsKeyAt itself items.now.store ix result.now }
-{
-    match items.get(ix) {
-        Some(item) => item,
-        None => unreachable!(),
-    }
-}
 
 /// An index of an item at which the query answers Equal. If the table is sorted, it misses only if there is none.
 ///
@@ -49,7 +38,7 @@ where
         |at: ItemIndex| -> Ordering
             requires { IsLive items.now.store at }
             ensures { IsKeyAt (Q.compare_item query) items.entry.now.store at result }
-        { query.compare_item(item_at(items, at)) },
+        { query.compare_item(key_at::<T, Itself>(items, at)) },
     );
     table.find_by(&mut asking)
 }
@@ -68,7 +57,7 @@ where
             requires { IsLive items.now.store at }
             ensures { IsKeyAt (λ other. E.cmp (E.key_of item.entry.now) (E.key_of other)) items.entry.now.store at
                 result }
-        { E::compare(item, item_at(items, at)) },
+        { E::compare(item, key_at::<T, Itself>(items, at)) },
     );
     table.find_by(&mut asking)
 }
@@ -88,7 +77,7 @@ where
         |at: ItemIndex| -> Ordering
             requires { IsLive items.now.store at }
             ensures { IsKeyAt (Q.compare_item query) items.entry.now.store at result }
-        { query.compare_item(item_at(items, at)) },
+        { query.compare_item(key_at::<T, Itself>(items, at)) },
     );
     table.entry_by(&mut asking)
 }
@@ -125,13 +114,13 @@ where
     ensures no_more_blocks { NeedsNoMoreBlocks table.old table.new }
     ensures memory { capacity table.new ≡ capacity table.old }
 {
-    let item = item_at(items, ix);
+    let item = key_at::<T, Itself>(items, ix);
     let mut asking = Asking::new(
         |at: ItemIndex| -> Ordering
             requires { IsLive items.now.store at }
             ensures { IsKeyAt (λ other. E.cmp (E.key_of item.entry.now) (E.key_of other)) items.entry.now.store at
                 result }
-        { E::compare(item, item_at(items, at)) },
+        { E::compare(item, key_at::<T, Itself>(items, at)) },
     );
     let is_removed = table.prepare_remove_by(ix, &mut asking).remove();
     if !is_removed {
@@ -161,7 +150,7 @@ where
         |at: ItemIndex|
             requires { IsLive items.now.store at }
             ensures { IsKeyAt itself items.entry.now.store at result.now }
-        { item_at(items, at) },
+        { key_at::<T, Itself>(items, at) },
     );
     let from = by_item::<E, Q>(lower);
     let to = by_item::<E, Q>(upper);

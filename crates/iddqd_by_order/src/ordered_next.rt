@@ -18,10 +18,10 @@ ghost use Rattle.iddqd_by_order.specs.Ordered.{IsSortedScan, itself};
 ghost use Rattle.iddqd_by_order.specs.OrderedWalk.{FindsFirst};
 
 use crate::item_bound::by_item;
-use crate::ordered_item::item_at;
 use iddqd::item_index::ItemIndex;
 use iddqd::item_set::ItemSet;
 use iddqd_keys::item_order_query::ItemRangeQuery;
+use iddqd_keys::key_of::{Itself, key_at};
 use iddqd_keys::order_key::OrdKey;
 use iddqd_order::btree_table::{Asking, MapBTreeTable, Spot};
 use std::cmp::Ordering;
@@ -46,7 +46,7 @@ where
     ensures spot { IfSome result (λ r. StandsAt table.now r.1 r.0) }
 {
     let (first, spot) = first_from::<T, E, Q>(table, items, lower)?;
-    if is_up_to::<T, E, Q>(upper, item_at(items, first)) {
+    if is_up_to::<T, E, Q>(upper, key_at::<T, Itself>(items, first)) {
         Some((first, spot))
     } else {
         None
@@ -71,7 +71,7 @@ where
         |at: ItemIndex|
             requires { IsLive items.now.store at }
             ensures { IsKeyAt itself items.entry.now.store at result.now }
-        { item_at(items, at) },
+        { key_at::<T, Itself>(items, at) },
     );
     let from = by_item::<E, Q>(lower);
     table.first_from_reading(from.as_ref(), &mut asking)
@@ -142,7 +142,7 @@ where
     ensures same { IfSome result (λ ix. next ≡ Some ix) }
 {
     let ix = next?;
-    if is_up_to::<T, E, Q>(upper, item_at(items, ix)) {
+    if is_up_to::<T, E, Q>(upper, key_at::<T, Itself>(items, ix)) {
         Some(ix)
     } else {
         None

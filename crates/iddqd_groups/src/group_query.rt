@@ -1,5 +1,5 @@
 //! Look-ups by any query in a linked table that indexes a store: several items may have the key.
-ghost use Rattle.std.specs.Prelude.{◌≡◌};
+ghost use Rattle.std.specs.Prelude.{◌≡◌, length};
 ghost use Rattle.iddqd.specs.{live_count};
 ghost use Rattle.iddqd_keys.specs.Scan.{IsHit};
 ghost use Rattle.iddqd_by_hash.specs.Hashed.{hashing_of};
@@ -104,7 +104,13 @@ where
         items.now.store table.now.filed }
     ensures { CountsHits items.now.store (Q.stands_for_item query) result }
 {
-    let group = group_by::<T, E, S, Q>(table, items, state, query);
+    count_left(group_by::<T, E, S, Q>(table, items, state, query))
+}
+
+/// How many indexes are left. It goes over all of them.
+pub fn count_left<T, E: HashKey<T>, Q: ItemHashQuery<T, E>>(group: Group<'_, T, E, Q>) -> usize
+    ensures { result ≡ length group.rest }
+{
     // The bound has 64 bits, so the count fits.
     match group.size_hint().1 {
         Some(_most) => group.count(),

@@ -2,9 +2,8 @@
 //!
 //! They are calls of one trait, `InGroups`, which every `Map` has, since the linked table stands above the crate of the
 //! maps. No memory is taken.
-ghost use Rattle.std.specs.Prelude.{◌≡◌, ◌≤◌, ℕ, Some, Contains, IfSome, length};
-ghost use Rattle.std.specs.Iterator.{YieldsFirstBy, item_count, at_most, UpTo};
-ghost use Rattle.std.specs.Iterator.SizeHint.{IsWithinCount};
+ghost use Rattle.std.specs.Prelude.{◌≡◌, ℕ, Contains};
+ghost use Rattle.std.specs.Iterator.{YieldsFirstBy, item_count};
 ghost use Rattle.iddqd.specs.{live_count};
 ghost use Rattle.iddqd_keys.specs.Scan.{IsLive};
 ghost use Rattle.iddqd_keys.specs.KeyWalk.{pairs_at};
@@ -12,12 +11,12 @@ ghost use Rattle.iddqd_map.specs.Groups.{AreHits, CountsHits};
 ghost use Rattle.iddqd_groups.specs.InGroups.{ListsHits};
 
 use crate::by_hash_multi::ByHashMultiOf;
+use crate::group_query::count_left;
 use crate::hashed_group::Group;
 use iddqd::item_index::ItemIndex;
 use iddqd::item_set::ItemSet;
 use iddqd_keys::hash_key::HashKey;
 use iddqd_keys::item_hash_query::ItemHashQuery;
-use iddqd_map::grouped_at::GroupedAt;
 use iddqd_map::key_index::{Here, KeyIndex, Left, Right};
 use iddqd_map::map::{Map, Parts};
 use iddqd_map::pair::Pair;
@@ -28,7 +27,7 @@ use std::marker::Model;
 
 /// The items that have a key with their indexes, each once, in no order that a caller can rely on. It is fused.
 ///
-/// A contract sees it as the pairs that are left.
+/// A contract sees it as the pairs that are left. To count a group call `count_hashed_group_by`.
 #[derive(Drop)]
 pub struct GroupItems<'a, T, E: HashKey<T>, Q: ItemHashQuery<T, E>> {
     indexes: Group<'a, T, E, Q>,
@@ -57,7 +56,7 @@ impl<'a, T, E: HashKey<T>, Q: ItemHashQuery<T, E>> GroupItems<'a, T, E, Q> {
     }
 }
 
-impl<'a, T, E: HashKey<T>, Q: ItemHashQuery<T, E> + Drop> Iterator for GroupItems<'a, T, E, Q> {
+impl<'a, T, E: HashKey<T>, Q: ItemHashQuery<T, E>> Iterator for GroupItems<'a, T, E, Q> {
     type Item = (ItemIndex, &'a T);
 
     ghost next_gives = { YieldsFirstBy (λ pair. (pair.0, pair.1.now)) (λ rest. rest) };
@@ -70,8 +69,7 @@ impl<'a, T, E: HashKey<T>, Q: ItemHashQuery<T, E> + Drop> Iterator for GroupItem
     }
 }
 
-impl<'a, T, E: HashKey<T>, Q: ItemHashQuery<T, E> + Drop> FusedIterator
-    for GroupItems<'a, T, E, Q> {}
+impl<'a, T, E: HashKey<T>, Q: ItemHashQuery<T, E>> FusedIterator for GroupItems<'a, T, E, Q> {}
 
 impl<'a, T, E: HashKey<T>, Q: ItemHashQuery<T, E>> fmt::Debug for GroupItems<'a, T, E, Q> {
     fn fmt<W: fmt::Write>(&self, f: &mut fmt::Formatter<W>) -> fmt::Result {
@@ -196,11 +194,6 @@ impl<T, X: KeyIndex<T, S>, S> InGroups<T, X, S> for Map<T, X, S> {
             indexes,
             state,
         } = self.parts();
-        let group = indexes.group_at(items, state, query);
-        // The bound has 64 bits, so the count fits.
-        match group.size_hint().1 {
-            Some(_most) => group.count(),
-            None => unreachable!(),
-        }
+        count_left(indexes.group_at(items, state, query))
     }
 }

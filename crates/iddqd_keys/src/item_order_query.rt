@@ -231,7 +231,7 @@ where
 pub enum Part<P, Q> {
     /// The first key, whatever the others are.
     First(P),
-    /// All keys.
+    /// The first key, and a query for the others.
     Both(P, Q),
 }
 

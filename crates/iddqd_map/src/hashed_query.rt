@@ -23,8 +23,7 @@ use std::hash::BuildHasher;
 
 /// The index of the item that has the key for which the query stands, whose hash was computed before.
 ///
-/// It is inlined: a look-up that called it took one and a half times as many
-/// instructions.
+/// It is inlined: a look-up that called it took one and a half times as many instructions.
 #[inline(always)]
 pub fn find_under<T, E, S, Q>(
     table: &MapHashTable,

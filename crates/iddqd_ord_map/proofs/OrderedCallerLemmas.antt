@@ -1,13 +1,15 @@
--- For callers of a map in order: what is left after `retain`.
+-- For callers of a map in order: what is left after `retain`, and what an iteration says of keys.
 use Rattle.std.proofs.Common.{◌≡◌, ◌∙◌, ◌≤◌, ◌↔◌, inl, inr, ℕ, Bool, true, List, [], ◌∷◌, map, Contains, filter, Some, refl, sym, ap, subst, arith, Ordering}
 use Rattle.std.proofs.lemmas.Bool.{cond_both}
 use Rattle.std.proofs.lemmas.List.Elements.{All-contains, All-contains_itself, All-filter, Contains-append_cases, Contains-append_left, Contains-append_right, Contains-push, Contains-push_cases, filter_passes}
+use Rattle.std.specs.Ordering.{on}
 use Rattle.iddqd.specs.Store.{Store, get, live_count}
+use Rattle.iddqd_keys.specs.Scan.{itself}
 use Rattle.iddqd_map.specs.Map.{MapState}
 use Rattle.iddqd_map.specs.Retain.{removed_of}
 use Rattle.iddqd_map.proofs.CallerLemmas.{fewer_all}
 use Rattle.iddqd_map.proofs.RetainedLemmas.{kept_tested}
-use Rattle.iddqd_ord_map.specs.KeyOrder.{IsKeyWalk}
+use Rattle.iddqd_ord_map.specs.KeyOrder.{IsKeyWalk, IsWalkWithin}
 use Rattle.iddqd_ord_map.specs.Retain.{RetainsAlong}
 
 -- no more items than there were
@@ -83,3 +85,10 @@ module _ {T K : Type 0} (key_of : T → K) (compare : K → K → Ordering) (old
           let there = kept (λ (p : ℕ × T). test p.1) walk (ix, item) ((before.live ix item).1 (live, refl)) passes in
           ((after.live ix item).0 there).0,
     )
+
+-- an iteration over the items that a query lists is one over their keys
+pub IsWalkWithin-keys :
+    {T K : Type 0} (key_of : T → K) (compare : K → K → Ordering) (within : K → Bool) (s : Store T) (pairs : List (ℕ × T))
+    → IsWalkWithin itself (on key_of compare) (λ item. within (key_of item)) s pairs
+    → IsWalkWithin key_of compare within s pairs
+IsWalkWithin-keys key_of compare within s pairs walk = record { live = walk.live; rising = walk.rising }

@@ -16,7 +16,7 @@ ghost use Rattle.iddqd_ord_map.specs.ByOrder.{FindsGreatest, FindsLeast, LooksPl
 ghost use Rattle.iddqd_ord_map.specs.OrderedIndexing.{Sorts};
 ghost use Rattle.iddqd_by_order.specs.Ordered.{is_equal, IsSortedScan};
 ghost use Rattle.iddqd_by_order.specs.OrderedWalk.{SortsWithin};
-ghost use Rattle.iddqd_keys.specs.Scan.{AnswersScan, IsLive, IsKeyAt, passes_by};
+ghost use Rattle.iddqd_keys.specs.Scan.{AnswersScan, IsLive, IsKeyAt};
 ghost use Rattle.iddqd_keys.specs.KeyWalk.{IsFirstHit, IsNextHit};
 ghost use Rattle.iddqd_keys.specs.OrderedQuery.{is_up_to, is_within};
 ghost use Rattle.iddqd_map.specs.Ranges.{itself};

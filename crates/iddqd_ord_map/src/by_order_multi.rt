@@ -18,7 +18,7 @@ ghost use Rattle.iddqd_map.specs.Groups.{CountsHits};
 ghost use Rattle.iddqd_ord_map.specs.ByOrderMulti.{IsGreatestHit, IsLeastHit, IsOwnGapFor};
 ghost use Rattle.iddqd_by_order.specs.Ordered.{is_equal, IsSortedScan};
 ghost use Rattle.iddqd_by_order.specs.OrderedWalk.{SortsWithin};
-ghost use Rattle.iddqd_keys.specs.Scan.{HasNoHit, IsLive, IsKeyAt, passes_by};
+ghost use Rattle.iddqd_keys.specs.Scan.{HasNoHit, IsLive, IsKeyAt};
 ghost use Rattle.iddqd_keys.specs.KeyWalk.{IsFirstHit, IsNextHit};
 ghost use Rattle.iddqd_keys.specs.OrderedQuery.{is_up_to, is_within};
 ghost use Rattle.iddqd_map.specs.Ranges.{itself};

@@ -44,7 +44,7 @@ pub trait InOrder<T, X: KeyIndex<T, S>, S> {
         X: SortedAt<P, T, S>,
         ensures { FindsLast X.sorts_by (state self.now).store (option_map shown result) };
 
-    /// Removes the first item in order, and returns it. No key is compared in that order, and no memory is taken.
+    /// Removes the first item in order, and returns it. It is a removal from each table, and takes no memory.
     fn pop_first_by<P>(&mut self) -> Option<T>
     where
         X: SortedAt<P, T, S>,
@@ -53,7 +53,7 @@ pub trait InOrder<T, X: KeyIndex<T, S>, S> {
         ensures freed { OnSome result (live_count (state self.old).store ≤ capacity (state self.old)
             → room (state self.new) ≡ room (state self.old) + 1) };
 
-    /// Removes the last item in order, and returns it. No key is compared in that order, and no memory is taken.
+    /// Removes the last item in order, and returns it. It is a removal from each table, and takes no memory.
     fn pop_last_by<P>(&mut self) -> Option<T>
     where
         X: SortedAt<P, T, S>,

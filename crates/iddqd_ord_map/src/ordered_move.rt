@@ -13,7 +13,8 @@ ghost use Rattle.iddqd_ord_map.specs.OrderedIndexing.{PlansOrConflicts, Sorts};
 
 use iddqd::item_index::ItemIndex;
 use iddqd::item_set::ItemSet;
-use iddqd_by_order::ordered_item::{find_same, item_at};
+use iddqd_by_order::ordered_item::find_same;
+use iddqd_keys::key_of::{Itself, key_at};
 use iddqd_keys::order_key::OrdKey;
 use iddqd_order::btree_table::{Asking, Blocks, MapBTreeTable, Reads};
 use std::cmp::Ordering;
@@ -44,7 +45,7 @@ where
     requires sorted { Sorts E.key_of E.cmp items.now.store (order_of table.now) }
     ensures { PlansOrConflicts E.key_of E.cmp items.now.store ix item.now result }
 {
-    if E::compare(item, item_at(items, ix)).is_eq() {
+    if E::compare(item, key_at::<T, Itself>(items, ix)).is_eq() {
         return Ok(Move::Stays);
     }
     match find_same::<T, E>(table, items, item) {
@@ -70,7 +71,7 @@ where
     ensures memory { capacity table.new ≡ capacity table.old }
 {
     let leaving = ByItsKey::<T, E> {
-        item: item_at(items, ix),
+        item: key_at::<T, Itself>(items, ix),
         of: PhantomData,
     };
     let entering = ByItsKey::<T, E> {
@@ -81,7 +82,7 @@ where
         |at: ItemIndex|
             requires { IsLive items.now.store at }
             ensures { IsKeyAt itself items.entry.now.store at result.now }
-        { item_at(items, at) },
+        { key_at::<T, Itself>(items, at) },
     );
     table.move_index_reading(ix, &leaving, &entering, &mut asking, blocks);
 }

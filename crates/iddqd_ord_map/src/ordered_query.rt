@@ -5,7 +5,7 @@
 ghost use Rattle.std.specs.Prelude.{◌≡◌};
 ghost use Rattle.std.specs.Ordering.{on};
 ghost use Rattle.iddqd_order.specs.{capacity, indexes_ahead, indexes_left, order_of};
-ghost use Rattle.iddqd_keys.specs.Scan.{AnswersScan, passes_by};
+ghost use Rattle.iddqd_keys.specs.Scan.{AnswersScan};
 ghost use Rattle.iddqd_keys.specs.OrderedQuery.{is_within};
 ghost use Rattle.iddqd_by_order.specs.Ordered.{Takes, IsSortedScan, is_equal};
 ghost use Rattle.iddqd_by_order.specs.OrderedWalk.{SortsWithin};

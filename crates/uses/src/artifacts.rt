@@ -1,4 +1,4 @@
-//! Artifacts by their names and versions: a key of two texts, each of which is lent for a look-up.
+//! Artifacts by their names and versions: a key of two texts, both of which a look-up borrows.
 ghost use Rattle.std.specs.Prelude.{◌≡◌, IfOk, IfErr, OnOk, OnErr, option_copied};
 ghost use Rattle.iddqd_maps.specs.Map.{FindsItem, Removes};
 ghost use Rattle.iddqd_maps.specs.Scan.{HasNoHit};
@@ -72,7 +72,7 @@ pub fn find<'a>(artifacts: &'a Artifacts, name: &str, version: &str) -> Option<&
     artifacts.get((name, version))
 }
 
-/// Notes the size of an artifact; none exactly where there is no such artifact. It takes no memory.
+/// Notes the size of an artifact; `None` if and only if there is no such artifact. It takes no memory.
 pub fn resize(artifacts: &mut Artifacts, name: &str, version: &str, size: u64) -> Option<()>
     ensures { Updates artifacts.old (is_called name.now version.now) (with_size size) result artifacts.new }
 {

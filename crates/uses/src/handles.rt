@@ -2,7 +2,7 @@
 //!
 //! `Handle` is a `HashKey` that its user wrote. Contracts read it as the handle in small letters. A look-up folds no
 //! text: it hashes and compares letter by letter.
-ghost use Rattle.std.specs.Prelude.{◌≡◌, IfOk, OnOk, OnErr, option_copied};
+ghost use Rattle.std.specs.Prelude.{◌≡◌, IfErr, OnOk, OnErr, option_copied};
 ghost use Rattle.std.specs.Cmp.Lexicographic.{bytes_decides, nat_list_eq_equiv};
 ghost use Rattle.std.specs.List.{fold};
 ghost use Rattle.std.specs.Str.{bytes_eq, str_eq_ignore_ascii_case, str_to_ascii_lowercase};
@@ -10,6 +10,7 @@ ghost use Rattle.std.specs.String.{string_bytes};
 ghost use Rattle.iddqd_maps.specs.Map.{FindsItem};
 ghost use Rattle.iddqd_maps.specs.Scan.{HasNoHit};
 ghost use Rattle.iddqd_maps.specs.Store.{inserted};
+ghost use Rattle.uses.specs.Exchanges.{IsWhyNotAdded};
 ghost use Rattle.uses.specs.Handles.{has_handle, letters, same_handle, writes};
 
 use iddqd_maps::hash_key::HashKey;
@@ -134,6 +135,7 @@ pub fn open(
 ) -> Result<ItemIndex, InsertRefusal<Account, ItemIndex>>
     ensures unlike { OnOk result (HasNoHit accounts.old.store (same_handle account)) }
     ensures stored { OnOk result (accounts.new.store ≡ inserted accounts.old.store account) }
+    ensures refused { IfErr result (IsWhyNotAdded same_handle account accounts.old) }
     ensures unchanged { OnErr result (accounts.new.store ≡ accounts.old.store) }
 {
     accounts.insert_unique(account)

@@ -1,10 +1,11 @@
 //! People by their numbers, in the order of the years in which they were born, and in that of their names. The year is
 //! computed, and a name may be asked for by its beginning.
-ghost use Rattle.std.specs.Prelude.{◌≡◌, ◌/◌, OnOk, OnErr};
+ghost use Rattle.std.specs.Prelude.{◌≡◌, ◌/◌, IfErr, OnOk, OnErr};
 ghost use Rattle.iddqd_maps.specs.Groups.{CountsHits};
 ghost use Rattle.iddqd_maps.specs.InOrder.{IteratesInOrder};
 ghost use Rattle.iddqd_maps.specs.Store.{inserted};
-ghost use Rattle.uses.specs.People.{begins, by_name, by_year, was_born};
+ghost use Rattle.uses.specs.Exchanges.{IsWhyNotAdded};
+ghost use Rattle.uses.specs.People.{begins, by_name, by_year, shares_number, was_born};
 
 use iddqd_maps::by_hash::ByHash;
 use iddqd_maps::by_order_multi::{ByOrderMulti, ByOrderMultiOf};
@@ -85,6 +86,7 @@ pub type People = Map<Person, Pair<ByHash<Number, u32>, Shared>>;
 /// Adds a person, unless another one has the number.
 pub fn add(people: &mut People, person: Person) -> Result<ItemIndex, InsertRefusal<Person, Taken>>
     ensures stored { OnOk result (people.new.store ≡ inserted people.old.store person) }
+    ensures refused { IfErr result (IsWhyNotAdded shares_number person people.old) }
     ensures unchanged { OnErr result (people.new.store ≡ people.old.store) }
 {
     people.insert_unique(person)

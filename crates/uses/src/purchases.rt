@@ -1,9 +1,10 @@
 //! Purchases by their numbers, and those of each customer from the newest to the oldest.
-ghost use Rattle.std.specs.Prelude.{◌≡◌, ◌+◌, OnOk, OnErr};
+ghost use Rattle.std.specs.Prelude.{◌≡◌, ◌+◌, IfErr, OnOk, OnErr};
 ghost use Rattle.iddqd_maps.specs.Drops.{Drops};
 ghost use Rattle.iddqd_maps.specs.InOrder.{IteratesInOrder};
 ghost use Rattle.iddqd_maps.specs.Store.{inserted, live_count};
-ghost use Rattle.uses.specs.Purchases.{is_of, newest_first};
+ghost use Rattle.uses.specs.Exchanges.{IsWhyNotAdded};
+ghost use Rattle.uses.specs.Purchases.{is_of, newest_first, shares_number};
 ghost use Rattle.uses.specs.declared.purchases.Purchase.{Purchase};
 
 use iddqd_maps::by_hash::ByHash;
@@ -85,6 +86,7 @@ pub fn add(
     purchase: Purchase,
 ) -> Result<ItemIndex, InsertRefusal<Purchase, Taken>>
     ensures stored { OnOk result (purchases.new.store ≡ inserted purchases.old.store purchase) }
+    ensures refused { IfErr result (IsWhyNotAdded shares_number purchase purchases.old) }
     ensures unchanged { OnErr result (purchases.new.store ≡ purchases.old.store) }
 {
     purchases.insert_unique(purchase)

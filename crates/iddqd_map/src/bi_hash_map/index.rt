@@ -19,7 +19,7 @@ use iddqd_keys::key_kinds::Field;
 use std::alloc::{AllocError, Global};
 use std::hash::BuildHasher;
 
-/// A table by each of the two keys of such items.
+/// A table by each of the two keys of a `BiHashItem`.
 pub type BiIndex<T> = BiIndexOf<
     Field<Key1, <T as BiHashItem>::Key1>,
     Field<Key2, <T as BiHashItem>::Key2>,

@@ -23,7 +23,7 @@ use iddqd_keys::tri_hash_item::{Key1, Key2, Key3, TriHashItem};
 use std::alloc::{AllocError, Global};
 use std::hash::BuildHasher;
 
-/// A table by each of the three keys of such items.
+/// A table by each of the three keys of a `TriHashItem`.
 pub type TriIndex<T> = TriIndexOf<
     Field<Key1, <T as TriHashItem>::Key1>,
     Field<Key2, <T as TriHashItem>::Key2>,

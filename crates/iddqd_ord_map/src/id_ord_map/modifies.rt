@@ -5,7 +5,6 @@ ghost use Rattle.iddqd_map.specs.Map.{FindsItem};
 ghost use Rattle.iddqd_map.specs.Modify.{Modifies, ModifiesAt};
 ghost use Rattle.iddqd_keys.specs.KeyKeeping.{KeepsKey};
 ghost use Rattle.iddqd_by_order.specs.Ordered.{is_equal};
-ghost use Rattle.iddqd_keys.specs.Scan.{passes_by};
 
 use super::OrdMapBy;
 use iddqd::item_index::ItemIndex;

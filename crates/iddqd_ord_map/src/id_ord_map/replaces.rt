@@ -7,7 +7,7 @@ ghost use Rattle.iddqd_map.specs.Calls.{MayChange};
 ghost use Rattle.iddqd_map.specs.Map.{room};
 ghost use Rattle.iddqd_ord_map.specs.OrdMap.{ReplacesInOrder, ReplacesInOrderIfLive, ChangesInOrder};
 ghost use Rattle.iddqd_by_order.specs.Ordered.{is_equal};
-ghost use Rattle.iddqd_keys.specs.Scan.{IsLive, passes_by};
+ghost use Rattle.iddqd_keys.specs.Scan.{IsLive};
 
 use super::OrdMapBy;
 use super::iter::item_at;

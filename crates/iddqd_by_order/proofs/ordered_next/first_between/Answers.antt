@@ -35,7 +35,7 @@ returns-then-is_up_to-clause-first g c =
     let first = c.first_from.ensures.first in
     let here : IsFirstHit itself compare s from (Some ix) =
     subst (IsFirstHit itself compare s from) (ap (option_map (λ (r : ℕ × Spot). r.0)) c.in_ok-first.was) first in
-    let (item, live, key) = c.item_at.ensures in
+    let (item, live, key) = c.key_at.ensures in
     let reached : is_up_to (bound_map cmp upper) item ≡ true =
     subst (λ k. is_up_to (bound_map cmp upper) k ≡ true) key (sym c.is_up_to.ensures ∙ c.if-is_up_to.true) in
     IsFirstHit-reached itself compare cmp g.met.Q.ItemRangeQuery.fits s ix lower upper item live reached here
@@ -52,7 +52,7 @@ returns-else-is_up_to-clause-first g c =
     let first = c.first_from.ensures.first in
     let here : IsFirstHit itself compare s from (Some ix) =
     subst (IsFirstHit itself compare s from) (ap (option_map (λ (r : ℕ × Spot). r.0)) c.in_ok-first.was) first in
-    let (item, live, key) = c.item_at.ensures in
+    let (item, live, key) = c.key_at.ensures in
     let past : is_up_to (bound_map cmp upper) item ≡ false =
     subst (λ k. is_up_to (bound_map cmp upper) k ≡ false) key (sym c.is_up_to.ensures ∙ c.if-is_up_to.false) in
     IsFirstHit-passed itself compare cmp g.met.Q.ItemRangeQuery.fits s ix lower upper item live past here

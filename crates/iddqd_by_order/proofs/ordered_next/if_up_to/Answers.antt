@@ -17,8 +17,8 @@ returns-in_err-ix-clause-next g c after is =
     let none = subst (IsNextHit itself compare s (λ _. true) after) c.in_err-ix.was is in
     subst (IsNextHit itself compare s (is_up_to (bound_map cmp upper)) after) (sym c.from_residual.ensures) (IsNextHit-none itself compare cmp g.met.Q.ItemRangeQuery.fits s after upper upper none)
 
-pub item_at-requires : goal.item_at-requires
-item_at-requires g c = subst (λ o. IfSome o (IsLive c.args.items.now.store)) c.in_ok-ix.was c.requires
+pub key_at-requires : goal.key_at-requires
+key_at-requires g c = subst (λ o. IfSome o (IsLive c.args.items.now.store)) c.in_ok-ix.was c.requires
 
 pub returns-then-is_up_to-clause-next : goal.returns-then-is_up_to-clause-next
 returns-then-is_up_to-clause-next g c after is =
@@ -27,7 +27,7 @@ returns-then-is_up_to-clause-next g c after is =
     let s = c.args.items.now.store in
     let upper = c.args.upper in
     let next = subst (IsNextHit itself compare s (λ _. true) after) c.in_ok-ix.was is in
-    let (item, live, key) = c.item_at.ensures in
+    let (item, live, key) = c.key_at.ensures in
     let reached : is_up_to (bound_map cmp upper) item ≡ true =
     subst (λ k. is_up_to (bound_map cmp upper) k ≡ true) key (sym c.is_up_to.ensures ∙ c.if-is_up_to.true) in
     IsNextHit-reached itself compare cmp g.met.Q.ItemRangeQuery.fits s after upper upper c.in_ok-ix.ix next (item, live, reached)
@@ -39,8 +39,8 @@ returns-else-is_up_to-clause-next g c after is =
     let s = c.args.items.now.store in
     let upper = c.args.upper in
     let next = subst (IsNextHit itself compare s (λ _. true) after) c.in_ok-ix.was is in
-    let (item, live, key) = c.item_at.ensures in
-    let past : is_up_to (bound_map cmp upper) c.item_at.result.now ≡ false = sym c.is_up_to.ensures ∙ c.if-is_up_to.false in
+    let (item, live, key) = c.key_at.ensures in
+    let past : is_up_to (bound_map cmp upper) c.key_at.result.now ≡ false = sym c.is_up_to.ensures ∙ c.if-is_up_to.false in
     IsNextHit-passed itself compare cmp g.met.Q.ItemRangeQuery.fits s after upper upper c.in_ok-ix.ix next
     (λ (x, is, passed).
     let one : Some x ≡ Some item = sym is ∙ live in
