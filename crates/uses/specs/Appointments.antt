@@ -1,6 +1,6 @@
 -- Appointments by room and start.
-use Rattle.std.specs.Prelude.{◌&&◌, ◌==◌, ℕ, Bool}
-use Rattle.std.specs.Ordering.{eq_by_cmp, nat_cmp, ordering_then}
+use Rattle.std.specs.Prelude.{ℕ, Bool}
+use Rattle.std.specs.Ordering.{eq_by_cmp, is_eq, nat_cmp, ordering_then}
 use Rattle.std.specs.declared.cmp.Ordering.{Ordering}
 use Rattle.std.specs.declared.ops.Bound.TheVariants.{Included}
 use Rattle.iddqd_maps.specs.OrderedQuery.{is_within}
@@ -14,11 +14,15 @@ by_room x y = ordering_then (nat_cmp x.room y.room) (nat_cmp x.start y.start)
 
 -- the appointment is in this room at this time
 abbrev pub is_at : ℕ → ℕ → Appointment → Bool
-is_at room start appointment = appointment.room == room && appointment.start == start
+is_at room start appointment = is_eq (ordering_then (nat_cmp room appointment.room) (nat_cmp start appointment.start))
 
 -- the appointments are in one room at one time
 abbrev pub same_place : Appointment → Appointment → Bool
 same_place x y = is_at x.room x.start y
+
+-- the appointment at another time
+abbrev pub starting : ℕ → Appointment → Appointment
+starting start appointment = record appointment { start = start }
 
 -- the appointment is in this room
 abbrev pub is_in : ℕ → Appointment → Bool

@@ -6,8 +6,8 @@ ghost use Rattle.iddqd_maps.specs.Groups.{CountsHits};
 ghost use Rattle.iddqd_maps.specs.InOrder.{shown, FindsFirst, IteratesInOrder};
 ghost use Rattle.iddqd_maps.specs.Map.{FindsItem};
 ghost use Rattle.iddqd_maps.specs.Store.{inserted, live_count, next_index};
-ghost use Rattle.uses.specs.Appointments.{by_room, is_at, is_in, is_in_from, same_place};
-ghost use Rattle.uses.specs.Exchanges.{IsWhyNotAdded};
+ghost use Rattle.uses.specs.Appointments.{by_room, is_at, is_in, is_in_from, same_place, starting};
+ghost use Rattle.uses.specs.Exchanges.{ExchangesIfFound, IsWhyNotAdded};
 
 use iddqd_maps::by_order::ByOrderOf;
 use iddqd_maps::in_order::InOrder;
@@ -18,7 +18,7 @@ use iddqd_maps::key_kinds::Field;
 use iddqd_maps::key_of::KeyOf;
 use iddqd_maps::map::Map;
 use iddqd_maps::ordered_walk::Range;
-use iddqd_maps::refusal::InsertRefusal;
+use iddqd_maps::refusal::{InsertRefusal, ReplaceRefusal};
 use std::alloc::{AllocError, Global};
 use std::ops::Bound;
 
@@ -77,6 +77,27 @@ pub fn at(appointments: &Appointments, room: u32, start: u32) -> Option<Appointm
     ensures { FindsItem appointments.now.store (is_at room start) result }
 {
     appointments.get_by::<Here, _>((&room, &start)).copied()
+}
+
+/// Moves an appointment to another time in its room, and returns what it was; `None` if and only if there is none. It is
+/// refused if another one is there then, or if memory ran out, which comes only past the capacity.
+pub fn move_to(
+    appointments: &mut Appointments,
+    room: u32,
+    start: u32,
+    to: u32,
+) -> Result<Option<Appointment>, ReplaceRefusal<Appointment, ItemIndex>>
+    ensures moved { IfOk result
+        (λ found. ExchangesIfFound same_place (is_at room start) (starting to) appointments.old found appointments.new) }
+    ensures unchanged { OnErr result (appointments.new ≡ appointments.old) }
+{
+    appointments.change_by::<Here, _, _>(
+        (&room, &start),
+        |appointment| Appointment {
+            start: to,
+            ..*appointment
+        },
+    )
 }
 
 /// The appointments in a room with their indexes, the earliest first.
@@ -139,9 +160,14 @@ fn script(alloc: Global, appointments: &mut Appointments) -> Result<String, Allo
         count_in(appointments, 3),
         first(appointments).is_some(),
     );
+    let moved = (
+        move_to(appointments, 1, 14, 9).is_err(),
+        move_to(appointments, 1, 14, 15).is_ok(),
+        at(appointments, 1, 15).is_some(),
+    );
     let closed = close_room(appointments, 1);
     format!(in alloc;
-        "appointments: {added:?}, {found:?}, {walks:?}, {closed}, {}",
+        "appointments: {added:?}, {found:?}, {walks:?}, {moved:?}, {closed}, {}",
         appointments.len()
     )
 }

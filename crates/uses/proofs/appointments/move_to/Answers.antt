@@ -1,0 +1,47 @@
+use Rattle.std.proofs.Common.{rules, ◌≡◌, ◌∙◌, Some, None, refl, sym, ap, subst}
+use Rattle.std.specs.Prelude.{Ok, Err, IfOk, OnErr}
+use Rattle.iddqd_maps.specs.Several.{HasNoOther}
+use Rattle.iddqd_maps.specs.Store.{rebound}
+use Rattle.iddqd_maps.specs.declared.refusal.ReplaceRefusal.TheVariants.{Missing, Duplicate, Memory}
+use Rattle.uses.specs.Exchanges.{ExchangesIfFound}
+use Rattle.uses.specs.Appointments.{is_at, same_place, starting}
+use Rattle.uses.specs.declared.appointments.Appointment.{Appointment}
+use Rattle.uses.proofs.appointments.move_to.Goals as goal
+
+pub returns-clause-moved : goal.returns-clause-moved
+returns-clause-moved c =
+    let old = c.args.appointments.now in
+    let new = c.change_by.new.self in
+    elim c.change_by.result as (λ r. c.change_by.result ≡ r → IfOk r (λ found. ExchangesIfFound same_place (is_at c.args.room c.args.start) (starting c.args.to) old found new)) [
+      | Ok None ↦ λ is. rw is at c.change_by.ensures.changes
+      | Ok (Some was) ↦ λ is.
+          let (ix, only, (one, item, live, gave, becomes)) = rw is at c.change_by.ensures.changes in
+          let here : Some one ≡ Some was = sym live ∙ becomes.live in
+          let same : one ≡ was = cc in
+          let (appointment, returned, shows) = gave in
+          let made : item ≡ record appointment.now { start = c.args.to } = search rules in
+          let ends : item ≡ record one { start = c.args.to } = subst (λ (x : Appointment). item ≡ record x { start = c.args.to }) shows made in
+          let is_moved : item ≡ starting c.args.to was = rw same at ends in
+          record {
+            ix = ix;
+            found = record { live = becomes.live; only = only };
+            unlike = subst (λ (x : Appointment). HasNoOther old.store (same_place x) ix) is_moved becomes.no_other;
+            left = becomes.left ∙ ap (rebound old.store ix) is_moved;
+            memory = becomes.memory;
+          }
+      | Err refusal ↦ λ is. tt
+    ] refl
+
+pub returns-clause-unchanged : goal.returns-clause-unchanged
+returns-clause-unchanged c =
+    let old = c.args.appointments.now in
+    let new = c.change_by.new.self in
+    elim c.change_by.result as (λ r. c.change_by.result ≡ r → OnErr r (new ≡ old)) [
+      | Ok found ↦ λ is. tt
+      | Err (Missing back) ↦ λ is.
+          let (ix, only, (one, item, live, gave, never)) = rw is at c.change_by.ensures.changes in absurd never
+      | Err (Duplicate back at) ↦ λ is.
+          let (ix, only, (one, item, live, gave, (given, taken, same))) = rw is at c.change_by.ensures.changes in same
+      | Err (Memory back) ↦ λ is.
+          let (ix, only, (one, item, live, gave, (given, lacks, same))) = rw is at c.change_by.ensures.changes in same
+    ] refl
