@@ -34,10 +34,11 @@ use iddqd::index_remap::IndexRemap;
 use iddqd::internal::{ValidateCompact, ValidateRefusal, ValidationError};
 use iddqd::item_index::ItemIndex;
 use iddqd::item_set::ItemSet;
-use iddqd_by_order::ordered_item::{find, item_at};
+use iddqd_by_order::ordered_item::find;
 use iddqd_by_order::ordered_next::{first_between, next_between, take_between};
 use iddqd_keys::item_order_query::{ItemOrdQuery, ItemRangeQuery};
 use iddqd_keys::key_kinds::Field;
+use iddqd_keys::key_of::{Itself, key_at};
 use iddqd_keys::order_key::OrdKey;
 use iddqd_map::key_index::{Here, KeyIndex, OrderedAt};
 pub use iddqd_map::no_conflict::NoConflict;
@@ -188,7 +189,7 @@ where
             requires { IsLive items.now.store at }
             ensures { IsKeyAt (λ other. E.cmp (E.key_of item.entry.now) (E.key_of other)) items.entry.now.store at
                 result }
-        { E::compare(item, item_at(items, at)) },
+        { E::compare(item, key_at::<T, Itself>(items, at)) },
     );
     table.find_own_gap_by(ix, &mut asking)
 }
@@ -394,7 +395,7 @@ where
         ix: ItemIndex,
         item: &T,
     ) -> Result<Move, NoConflict> {
-        if E::compare(item, item_at(items, ix)).is_eq() {
+        if E::compare(item, key_at::<T, Itself>(items, ix)).is_eq() {
             return Ok(Move::Stays);
         }
         Ok(Move::Moves)
