@@ -295,13 +295,14 @@ fn script(alloc: Global, ledger: &mut Ledger) -> Result<String, AllocError> {
         orders_of(ledger, &8).next().is_some(),
     );
     let small = (drop_small(ledger, 20, 20), drop_small_until(ledger, 20, 40));
+    let gone = (forget(ledger, 7), close_day(ledger, 30));
+    let again = (added(ledger, 6, 9, 40), added(ledger, 7, 9, 50));
     let taken = (
         take_first_due(ledger).is_some(),
         take_last_due(ledger).is_some(),
     );
-    let gone = (forget(ledger, 7), close_day(ledger, 30));
     format!(in alloc;
-        "ledger: {added:?}, {counts:?}, {walks:?}, {ends:?}, {early}, {left:?}, {small:?}, {taken:?}, {gone:?}, {}",
+        "ledger: {added:?}, {counts:?}, {walks:?}, {ends:?}, {early}, {left:?}, {small:?}, {gone:?}, {again:?}, {taken:?}, {}",
         ledger.len()
     )
 }

@@ -8,7 +8,7 @@ returns-in-Some g c =
     let s = c.args.items.now.store in
     let own = has_key g.E.OrdKey.key_of g.E.OrdKey.cmp (g.E.OrdKey.key_of c.args.item.now) in
     let scan = c.in-Some.ensures.as_scan c.requires.sorted.in_sync in
-    let (was, live, same) = c.item_at.ensures in
+    let (was, live, same) = c.key_at.ensures in
     let differs : own was ≡ false = rw (← same, ← c.compare.ensures, ← c.is_eq.ensures) c.if-is_eq.false in
     (other_hit s own c.args.ix c.in-Some.at was live differs ((scan c.in-Some.at).1 refl), scan)
 

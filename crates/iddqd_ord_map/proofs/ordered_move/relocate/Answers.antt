@@ -26,7 +26,7 @@ returns-clause-moved g c =
     let s = c.args.items.now.store in
     let order = order_of c.args.table.now in
     let item = c.args.item.now in
-    let (was, live, same) = c.item_at.ensures in
+    let (was, live, same) = c.key_at.ensures in
     IsSortedScan-put_in key_of compare g.met.E.OrdKey.total s order c.requires.sorted c.args.ix item was live _ _
     order c.args.ix c.new-asking.result (order_of c.move_index_reading.new.self) _ refl refl
     (Steady-by _ _ (λ f. f ≡ closure_of c.new-asking.result) (λ f f' ix r i h e. search rules) _ _
