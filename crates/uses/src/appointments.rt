@@ -155,8 +155,8 @@ fn script(alloc: Global, appointments: &mut Appointments) -> Result<String, Allo
         at(appointments, 14, 1).is_some(),
     );
     let walks = (
-        in_room(appointments, 1).count(),
-        in_room_from(appointments, 1, 10).count(),
+        in_room(appointments, 1).next().is_some(),
+        in_room_from(appointments, 1, 10).next().is_some(),
         count_in(appointments, 3),
         first(appointments).is_some(),
     );

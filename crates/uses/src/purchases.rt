@@ -118,6 +118,13 @@ fn added(purchases: &mut Purchases, number: u64, customer: u32, day: u32) -> boo
     add(purchases, purchase).is_ok()
 }
 
+fn newest_day(purchases: &Purchases, customer: u32) -> u32 {
+    match newest_of(purchases, customer).next() {
+        Some((_, purchase)) => purchase.day,
+        None => 0,
+    }
+}
+
 fn script(alloc: Global, purchases: &mut Purchases) -> Result<String, AllocError> {
     let added = (
         added(purchases, 1, 7, 10),
@@ -125,17 +132,10 @@ fn script(alloc: Global, purchases: &mut Purchases) -> Result<String, AllocError
         added(purchases, 3, 8, 40),
         added(purchases, 4, 7, 20),
     );
-    let newest = match newest_of(purchases, 7).next() {
-        Some((_, purchase)) => purchase.day,
-        None => 0,
-    };
-    let counts = (
-        newest_of(purchases, 7).count(),
-        undo(purchases, 7, 30),
-        newest_of(purchases, 7).count(),
-    );
+    let newest = newest_day(purchases, 7);
+    let undone = (undo(purchases, 7, 30), newest_day(purchases, 7));
     format!(in alloc;
-        "purchases: {added:?}, {newest}, {counts:?}, {}",
+        "purchases: {added:?}, {newest}, {undone:?}, {}",
         purchases.len()
     )
 }
