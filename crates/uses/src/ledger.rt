@@ -279,6 +279,10 @@ fn added_all(ledger: &mut Ledger) -> (bool, bool, bool, bool, bool, bool) {
     )
 }
 
+fn added_two(ledger: &mut Ledger) -> (bool, bool) {
+    (added(ledger, 6, 9, 40), added(ledger, 7, 9, 50))
+}
+
 fn script(alloc: Global, ledger: &mut Ledger) -> Result<String, AllocError> {
     let added = added_all(ledger);
     let counts = (count_of(ledger, 7), count_of_day(ledger, 20));
@@ -296,7 +300,7 @@ fn script(alloc: Global, ledger: &mut Ledger) -> Result<String, AllocError> {
     );
     let small = (drop_small(ledger, 20, 20), drop_small_until(ledger, 20, 40));
     let gone = (forget(ledger, 7), close_day(ledger, 30));
-    let again = (added(ledger, 6, 9, 40), added(ledger, 7, 9, 50));
+    let again = added_two(ledger);
     let taken = (
         take_first_due(ledger).is_some(),
         take_last_due(ledger).is_some(),
