@@ -109,7 +109,7 @@ where
 
 /// How many indexes are left. It goes over all of them.
 pub fn count_left<T, E: HashKey<T>, Q: ItemHashQuery<T, E>>(group: Group<'_, T, E, Q>) -> usize
-    ensures { result ≡ length group.rest }
+    ensures { result ≡ length group.entry.rest }
 {
     // The bound has 64 bits, so the count fits.
     match group.size_hint().1 {
