@@ -1,24 +1,29 @@
 //! Accounts by their handles, whatever the case of their ASCII letters: a key with an equality of its own.
 //!
-//! `Handle` is a `HashKey` that its user wrote. Contracts read it as the handle in small letters. A look-up folds no
-//! text: it hashes and compares letter by letter.
+//! `Handle` is a `HashKey` and an `OrdKey` that its user wrote. Contracts read it as the handle in small letters. A
+//! look-up folds no text: it hashes and compares letter by letter.
 ghost use Rattle.std.specs.Prelude.{◌≡◌, IfErr, OnOk, OnErr, option_copied};
-ghost use Rattle.std.specs.Cmp.Lexicographic.{bytes_decides, nat_list_eq_equiv};
+ghost use Rattle.std.specs.Cmp.Lexicographic.{bytes_decides, nat_list_eq_equiv, slice_cmp};
 ghost use Rattle.std.specs.List.{fold};
+ghost use Rattle.std.specs.Ordering.{nat_cmp};
 ghost use Rattle.std.specs.Str.{bytes_eq, str_eq_ignore_ascii_case, str_to_ascii_lowercase};
 ghost use Rattle.std.specs.String.{string_bytes};
 ghost use Rattle.iddqd_maps.specs.Map.{FindsItem};
 ghost use Rattle.iddqd_maps.specs.Scan.{HasNoHit};
 ghost use Rattle.iddqd_maps.specs.Store.{inserted};
 ghost use Rattle.uses.specs.Exchanges.{IsWhyNotAdded};
-ghost use Rattle.uses.specs.Handles.{has_handle, letters, same_handle, writes};
+ghost use Rattle.uses.specs.Handles.{has_handle, is_spelled, letters, same_handle, writes};
 
 use iddqd_maps::hash_key::HashKey;
 use iddqd_maps::id_hash_map::HashMapBy;
+use iddqd_maps::id_ord_map::OrdMapBy;
 use iddqd_maps::item_hash_query::ItemHashQuery;
 use iddqd_maps::item_index::ItemIndex;
+use iddqd_maps::item_order_query::{ItemOrdQuery, ItemRangeQuery};
+use iddqd_maps::order_key::OrdKey;
 use iddqd_maps::refusal::InsertRefusal;
 use std::alloc::{AllocError, Global};
+use std::cmp::Ordering;
 use std::hash::{Hash, Hasher};
 
 /// An account. No two have handles that differ in case alone.
@@ -69,6 +74,47 @@ impl HashKey<Account> for Handle {
     fn is_same(account: &Account, other: &Account) -> bool {
         let handle = account.handle.as_str();
         handle.eq_ignore_ascii_case(other.handle.as_str())
+    }
+}
+
+// How two texts compare letter by letter, whatever their case.
+fn compare_letters(one: &str, other: &str) -> Ordering
+    ensures { result ≡ slice_cmp nat_cmp (str_to_ascii_lowercase one.now) (str_to_ascii_lowercase other.now) }
+{
+    let (mut left, mut right) = (one.as_bytes(), other.as_bytes());
+    'comparing: while let Some((x, left_rest)) = left.split_first() {
+        let Some((y, right_rest)) = right.split_first() else {
+            return Ordering::Greater;
+        };
+        match x.to_ascii_lowercase().cmp(&y.to_ascii_lowercase()) {
+            Ordering::Equal => {
+                left = left_rest;
+                right = right_rest;
+            }
+            unequal => return unequal,
+        }
+    }
+    if right.is_empty() {
+        Ordering::Equal
+    } else {
+        Ordering::Less
+    }
+}
+
+impl OrdKey<Account> for Handle {
+    ghost use Rattle.std.specs.Prelude.{ℕ, List};
+    ghost use Rattle.std.specs.Cmp.Lexicographic.{nat_list_cmp_total};
+
+    ghost Key = { List ℕ };
+
+    ghost key_of = { letters };
+
+    ghost cmp = { slice_cmp nat_cmp };
+
+    ghost total = { nat_list_cmp_total };
+
+    fn compare(account: &Account, other: &Account) -> Ordering {
+        compare_letters(account.handle.as_str(), other.handle.as_str())
     }
 }
 
@@ -125,6 +171,30 @@ impl<'a> ItemHashQuery<Account, Handle> for Spelled<'a> {
     }
 }
 
+impl<'a> ItemRangeQuery<Account, Handle> for Spelled<'a> {
+    ghost use Rattle.std.specs.Cmp.Lexicographic.{nat_list_cmp_total};
+    ghost use Rattle.iddqd_maps.specs.OrderedQuery.{FitsOrder-query, IsQuery-key};
+
+    ghost compare_item = { λ q account. slice_cmp nat_cmp (str_to_ascii_lowercase q.0.now) (letters account) };
+
+    ghost fits = { λ q. FitsOrder-query letters (slice_cmp nat_cmp)
+        (slice_cmp nat_cmp (str_to_ascii_lowercase q.0.now))
+        (IsQuery-key (slice_cmp nat_cmp) nat_list_cmp_total (str_to_ascii_lowercase q.0.now)) };
+
+    fn compare_item(&self, account: &Account) -> Ordering {
+        compare_letters(self.0, account.handle.as_str())
+    }
+}
+
+impl<'a> ItemOrdQuery<Account, Handle> for Spelled<'a> {
+    ghost use Rattle.std.specs.Cmp.Lexicographic.{nat_list_cmp_total};
+    ghost use Rattle.iddqd_maps.specs.OrderedQuery.{IsOneKey-query, IsQuery-key};
+
+    ghost one_key = { λ q. IsOneKey-query letters (slice_cmp nat_cmp)
+        (slice_cmp nat_cmp (str_to_ascii_lowercase q.0.now))
+        (IsQuery-key (slice_cmp nat_cmp) nat_list_cmp_total (str_to_ascii_lowercase q.0.now)) };
+}
+
 /// Accounts by their handles, whatever the case of their letters.
 pub type Accounts = HashMapBy<Account, Handle>;
 
@@ -148,6 +218,16 @@ pub fn with_handle<'a>(accounts: &'a Accounts, handle: &str) -> Option<&'a Accou
     accounts.get(Spelled(handle))
 }
 
+/// Accounts in the order of their handles, whatever the case of their letters.
+pub type Directory = OrdMapBy<Account, Handle>;
+
+/// The account with this handle, in any case.
+pub fn listed<'a>(directory: &'a Directory, handle: &str) -> Option<&'a Account>
+    ensures { FindsItem directory.now.store (is_spelled handle.now) (option_copied result) }
+{
+    directory.get(Spelled(handle))
+}
+
 fn opened(alloc: Global, accounts: &mut Accounts, handle: &str) -> Result<bool, AllocError> {
     let handle = String::from_str(alloc, handle)?;
     Ok(open(accounts, Account { handle, posts: 0 }).is_ok())
@@ -160,7 +240,16 @@ fn script(alloc: Global, accounts: &mut Accounts) -> Result<String, AllocError> 
         with_handle(accounts, "ADA").is_some(),
         with_handle(accounts, "ADAM").is_some(),
     );
-    format!(in alloc; "handles: {first}, {second}, {found:?}")
+    let mut directory = Directory::new(alloc);
+    let handle = String::from_str(alloc, "Bo")?;
+    let added = directory
+        .insert_unique(Account { handle, posts: 1 })
+        .is_ok();
+    let listed = (
+        listed(&directory, "bO").is_some(),
+        listed(&directory, "b").is_some(),
+    );
+    format!(in alloc; "handles: {first}, {second}, {found:?}, {added}, {listed:?}")
 }
 
 /// What the calls answer.
