@@ -11,7 +11,7 @@ returns-clause-refused c =
       | Ok ix ↦ λ is. tt
       | Err (Duplicate back at) ↦ λ is.
           let refused = rw is at c.insert_unique.ensures.inserts in
-          (refused.0, (at, (refused.1.0 at).1 refl))
+          (refused.0, (at, (refused.1 at).1 refl))
       | Err (Full back) ↦ λ is. let refused = rw is at c.insert_unique.ensures.inserts in (refused.given_back, refused.no_conflict, refused.full)
       | Err (Memory back) ↦ λ is. let refused = rw is at c.insert_unique.ensures.inserts in (refused.given_back, refused.no_conflict, refused.no_room)
     ] refl
