@@ -79,16 +79,16 @@ pub fn at(appointments: &Appointments, room: u32, start: u32) -> Option<Appointm
     appointments.get_by::<Here, _>((&room, &start)).copied()
 }
 
-/// Moves an appointment to another time in its room, and returns what it was; `None` if and only if there is none. It is
-/// refused if another one is there then, or if memory ran out, which comes only past the capacity.
+/// Moves an appointment to another time in its room, and returns what it was; `None` if and only if there is none. It
+/// is refused if another one is there then, or if memory ran out, which comes only past the capacity.
 pub fn move_to(
     appointments: &mut Appointments,
     room: u32,
     start: u32,
     to: u32,
 ) -> Result<Option<Appointment>, ReplaceRefusal<Appointment, ItemIndex>>
-    ensures moved { IfOk result
-        (λ found. ExchangesIfFound same_place (is_at room start) (starting to) appointments.old found appointments.new) }
+    ensures moved { let at = is_at room start in IfOk result
+        (λ found. ExchangesIfFound same_place at (starting to) appointments.old found appointments.new) }
     ensures unchanged { OnErr result (appointments.new ≡ appointments.old) }
 {
     appointments.change_by::<Here, _, _>(

@@ -300,14 +300,13 @@ fn script(alloc: Global, ledger: &mut Ledger) -> Result<String, AllocError> {
     );
     let small = (drop_small(ledger, 20, 20), drop_small_until(ledger, 20, 40));
     let gone = (forget(ledger, 7), close_day(ledger, 30));
-    let again = added_two(ledger);
+    let more = added_two(ledger);
     let taken = (
         take_first_due(ledger).is_some(),
         take_last_due(ledger).is_some(),
     );
     format!(in alloc;
-        "ledger: {added:?}, {counts:?}, {walks:?}, {ends:?}, {early}, {left:?}, {small:?}, {gone:?}, {again:?}, {taken:?}, {}",
-        ledger.len()
+        "ledger: {added:?}, {counts:?}, {walks:?}, {ends:?}, {early}, {left:?}, {small:?}, {gone:?}, {more:?}, {taken:?}"
     )
 }
 
