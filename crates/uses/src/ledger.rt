@@ -286,7 +286,7 @@ fn added_two(ledger: &mut Ledger) -> (bool, bool) {
 fn script(alloc: Global, ledger: &mut Ledger) -> Result<String, AllocError> {
     let added = added_all(ledger);
     let counts = (count_of(ledger, 7), count_of_day(ledger, 20));
-    let walks = (
+    let walk = (
         orders_of_day(ledger, 20).next().is_some(),
         orders_from(ledger, 20).next_back().is_some(),
         orders_by_day(ledger).len(),
@@ -306,7 +306,7 @@ fn script(alloc: Global, ledger: &mut Ledger) -> Result<String, AllocError> {
         take_last_due(ledger).is_some(),
     );
     format!(in alloc;
-        "ledger: {added:?}, {counts:?}, {walks:?}, {ends:?}, {early}, {left:?}, {small:?}, {gone:?}, {more:?}, {taken:?}"
+        "ledger: {added:?}, {counts:?}, {walk:?}, {ends:?}, {early}, {left:?}, {small:?}, {gone:?}, {more:?}, {taken:?}"
     )
 }
 
