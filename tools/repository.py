@@ -3,6 +3,7 @@
 import glob
 import os
 import re
+import shutil
 
 TOP = os.path.realpath(os.path.join(os.path.dirname(os.path.abspath(__file__)), ".."))
 
@@ -36,6 +37,16 @@ def below(names, crates):
     for name in names:
         add(name)
     return [name for name in crates if name in found]
+
+
+def copy_crates(names, crates, room):
+    """Copies crates into a folder, and writes their lines of crates.txt."""
+    with open(f"{room}/crates.txt", "w", encoding="utf-8") as file:
+        file.writelines(f"{name}: {' '.join(crates[name])}\n" for name in names)
+    for name in names:
+        for part in ("src", "specs", "proofs"):
+            if os.path.isdir(f"{TOP}/crates/{name}/{part}"):
+                shutil.copytree(f"{TOP}/crates/{name}/{part}", f"{room}/crates/{name}/{part}")
 
 
 def sources_of(crate):

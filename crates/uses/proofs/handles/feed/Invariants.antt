@@ -1,4 +1,4 @@
-use Rattle.std.proofs.Common.{◌≡◌, ℕ, length}
+use Rattle.std.proofs.Common.{◌≡◌, length}
 use Rattle.std.specs.List.{fold}
 use Rattle.std.specs.Str.{str_to_ascii_lowercase}
 use Rattle.uses.specs.Handles.{writes}
