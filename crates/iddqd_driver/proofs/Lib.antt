@@ -12,3 +12,5 @@ pub mod ModifyLemmas
 pub mod RetainLemmas
 pub mod MemoryLemmas
 pub mod CountLemmas
+pub mod CloneLemmas
+pub mod EqualityLemmas

@@ -11,6 +11,9 @@ pub mod Replacement
 pub mod Modify
 pub mod Retain
 pub mod Memory
+pub mod Clones
+pub mod Equality
+pub mod EqualityLaws
 -- what a caller's clauses cite, from one place: of the crates below, and of this one
 pub use Rattle.iddqd.specs.Store
 pub use Rattle.iddqd.specs.Compaction
@@ -40,3 +43,5 @@ pub use Rattle.iddqd_driver.specs.Retain.{unbound_all, Retains}
 pub use Rattle.iddqd_driver.specs.Memory.{SizedState, no_memory, capacity, room, reservable, IsNoLower, IsMadeFor}
 pub use Rattle.iddqd_driver.specs.Memory.{IsDuplicate, IsOutOfMemory, InsertsInMemory, TakesForOne, ReservesInMemory, ShrinksInMemory}
 pub use Rattle.iddqd_driver.specs.Memory.{RefusesMemory, IsServedBelow, StepsInMemory, RunsInMemory}
+pub use Rattle.iddqd_driver.specs.Clones.{IsCopy, KeepsIfClonesDo}
+pub use Rattle.iddqd_driver.specs.Equality.{has_equal_items, AreEqualAt}

@@ -27,9 +27,12 @@ ghost use Rattle.iddqd_driver.specs.Machine.{Refuses, Inserts, ReportsAsScan, Re
 ghost use Rattle.iddqd_driver.specs.Run.{Run};
 ghost use Rattle.iddqd_driver.specs.Memory.{no_memory, capacity, room, InsertsInMemory, InsertsInParts, IsDuplicate, TakesForOne, StepsInMemory, RunsInMemory};
 
+mod clones;
 mod defaults;
+mod equality;
 mod memory;
 mod modifies;
+mod prints;
 mod queries;
 mod replaces;
 mod retain;
@@ -187,6 +190,13 @@ impl<T: KeyedItem, S: BuildHasher> KeyedItems<T, S> {
         ensures { option_copied result ≡ get self.now.state.store ix }
     {
         self.items.get(ix)
+    }
+
+    /// The state of the hasher, by which first keys are hashed.
+    pub fn hasher(&self) -> &S
+        ensures { result.now ≡ self.now.state.hasher }
+    {
+        &self.state
     }
 
     /// The index of the item with this first key. Only keys of the same hash are compared with it.

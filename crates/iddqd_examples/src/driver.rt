@@ -1,4 +1,4 @@
-//! `KeyedItems`, by scripts of calls.
+//! `KeyedItems`, by scripts of calls and as wholes.
 pub(crate) mod calls;
 mod checks;
 mod compaction;
@@ -10,3 +10,4 @@ mod limits;
 pub(crate) mod pair;
 pub(crate) mod script;
 mod silent;
+mod whole;

@@ -2,7 +2,7 @@
 ghost use Rattle.std.specs.Prelude.{◌≡◌, ⊤, [], Some, IfSome, IsOk, IfOk, length};
 ghost use Rattle.std.specs.Iterator.{YieldsFirstRef, YieldsLastRef, item_count, at_most, UpTo};
 ghost use Rattle.std.specs.Iterator.SizeHint.{IsWithinCount};
-ghost use Rattle.iddqd.specs.{live_count, live_pairs};
+ghost use Rattle.iddqd.specs.{live_count, live_items, live_pairs};
 ghost use Rattle.iddqd.specs.LiveItems.{IsWalkOf};
 ghost use Rattle.iddqd_order.specs.{indexes_left};
 ghost use Rattle.iddqd_keys.specs.OrderedQuery.{is_within};
@@ -13,7 +13,7 @@ ghost use Rattle.iddqd_driver.specs.Walks.{items_at, RangesWithin};
 use super::{Keyed, KeyedItems, Range};
 use crate::keyed_item::{KeyedItem, Second};
 use iddqd::item_index::ItemIndex;
-use iddqd::item_set::{self, ItemSet};
+use iddqd::item_set::{self, IntoValues, ItemSet, Values};
 use iddqd_by_order::ordered;
 use iddqd_keys::order_query::OrdQuery;
 use iddqd_order::btree_table;
@@ -32,6 +32,24 @@ impl<T: KeyedItem, S: BuildHasher> KeyedItems<T, S> {
         ensures walk { IsWalkOf self.now.state.store result }
     {
         self.items.iter()
+    }
+
+    /// The items, by rising index.
+    pub fn values(&self) -> Values<'_, T>
+        ensures items { result ≡ live_items self.now.state.store }
+        ensures len { length result ≡ live_count self.now.state.store }
+    {
+        self.items.values()
+    }
+
+    /// The items by value, by rising index. Both tables are dropped.
+    pub fn into_values(self) -> IntoValues<T>
+    where
+        S: Drop,
+        ensures items { result ≡ live_items self.state.store }
+        ensures len { length result ≡ live_count self.state.store }
+    {
+        self.items.into_values()
     }
 
     /// The indexes in the order of the ordered table: by second key, if none was changed silently. It takes no memory.
@@ -88,6 +106,30 @@ impl<T: KeyedItem, S: BuildHasher> KeyedItems<T, S> {
             indexes.push_reserved(ix);
         }
         Ok(indexes)
+    }
+}
+
+impl<'a, T: KeyedItem, S: BuildHasher> IntoIterator for &'a KeyedItems<T, S> {
+    type Item = (ItemIndex, &'a T);
+
+    type IntoIter = item_set::Iter<'a, T>;
+
+    ghost into_iter_gives = { λ k pairs. pairs ≡ live_pairs k.now.state.store };
+
+    fn into_iter(self) -> item_set::Iter<'a, T> {
+        self.iter()
+    }
+}
+
+impl<T: KeyedItem, S: BuildHasher + Drop> IntoIterator for KeyedItems<T, S> {
+    type Item = T;
+
+    type IntoIter = IntoValues<T>;
+
+    ghost into_iter_gives = { λ k items. items ≡ live_items k.state.store };
+
+    fn into_iter(self) -> IntoValues<T> {
+        self.into_values()
     }
 }
 

@@ -2,7 +2,7 @@
 use iddqd_driver::keyed_item::KeyedItem;
 
 /// A first key and a second key.
-#[derive(Clone, Copy, Debug)]
+#[derive(Clone, Copy, Debug, PartialEq, Eq)]
 pub(crate) struct Pair(pub(crate) u32, pub(crate) u32);
 
 impl KeyedItem for Pair {

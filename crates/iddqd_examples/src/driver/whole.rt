@@ -1,0 +1,122 @@
+//! Collections as wholes: copied, compared, gone over and taken apart.
+ghost use Rattle.std.specs.Prelude.{◌≡◌, ◌++◌, ◌∷◌, ℕ, List, [], Some, IsTrue, IfSome, IfNone, IfOk, map, nat_eq};
+ghost use Rattle.std.specs.List.{list_any};
+ghost use Rattle.iddqd.specs.{get, live_items};
+ghost use Rattle.iddqd_driver.specs.{AreInSync};
+
+use super::hashers::Sum;
+use super::pair::Pair;
+use super::script::{assert_answer, ix, printed};
+use iddqd::item_index::ItemIndex;
+use iddqd_driver::keyed_items::{Keyed, KeyedItems};
+use std::alloc::{AllocError, Global};
+use std::process::Abort;
+use std::test::Fail;
+
+type Pairs = KeyedItems<Pair, Sum>;
+
+// A copy of the pairs. If both tables are in sync, they are so in the copy.
+fn copied(pairs: &Pairs) -> Result<Pairs, AllocError>
+    ensures in_sync { let keys = ⟦<Pairs as Keyed>⟧.keys in
+        IfOk result (λ copy. AreInSync keys pairs.now.state → AreInSync keys copy.state) }
+    ensures hasher { IfOk result (λ copy. copy.state.hasher ≡ pairs.now.state.hasher) }
+{
+    pairs.clone()
+}
+
+// Whether both have the same pairs under the same indexes.
+fn are_same(pairs: &Pairs, others: &Pairs) -> bool
+    ensures { IsTrue result → (ix : ℕ) → get pairs.now.state.store ix ≡ get others.now.state.store ix }
+{
+    *pairs == *others
+}
+
+// Whether a pair has this first number.
+fn has_first(pairs: &Pairs, first: u32) -> bool
+    ensures { result ≡ list_any (λ (pair : Pair). nat_eq pair.0 first) (live_items pairs.now.state.store) }
+{
+    pairs.values().any(|pair| pair.0 == first)
+}
+
+// The first numbers, by rising index.
+fn firsts(alloc: Global, pairs: Pairs) -> Result<Vec<u32>, AllocError>
+    ensures { IfOk result (λ firsts. firsts.items ≡ map (λ pair. pair.0) (live_items pairs.state.store)) }
+{
+    let mut firsts = Vec::with_capacity(alloc, pairs.len())?;
+    for pair in pairs {
+        firsts.push_reserved(pair.0);
+    }
+    Ok(firsts)
+}
+
+// The pair with the greatest index.
+fn last(pairs: Pairs) -> Option<Pair>
+    ensures last { IfSome result (λ last. (rest : List Pair) × (live_items pairs.state.store ≡ rest ++ last ∷ [])) }
+    ensures none { IfNone result (live_items pairs.state.store ≡ []) }
+{
+    pairs.into_values().next_back()
+}
+
+// An index whose pair has this first number.
+fn index_of(pairs: &Pairs, first: u32) -> Option<ItemIndex>
+    ensures { IfSome result (λ ix. (pair : Pair) × (get pairs.now.state.store ix ≡ Some pair) × (pair.0 ≡ first)) }
+{
+    for (ix, pair) in pairs {
+        if pair.0 == first {
+            return Some(ix);
+        }
+    }
+    None
+}
+
+// The number that the hasher starts with.
+fn start(pairs: &Pairs) -> u64
+    ensures { result ≡ pairs.now.state.hasher.0 }
+{
+    pairs.hasher().0
+}
+
+// Three pairs at 0, 1 and 2, whose second numbers fall.
+fn three(rt: &impl Abort, alloc: Global) -> Pairs {
+    let mut pairs = KeyedItems::new(alloc, Sum(7));
+    for number in 0..3 {
+        let inserted = pairs.insert(Pair(number, 9 - number));
+        assert!(rt; inserted == Ok(ix(number)));
+    }
+    pairs
+}
+
+fn assert_copies(rt: &impl Abort, pairs: &Pairs) -> Result<(), AllocError> {
+    let mut copy = copied(pairs)?;
+    assert!(rt; are_same(pairs, &copy) && start(&copy) == 7);
+    assert!(rt; copy.overwrite(ix(1), Pair(5, 8)).is_ok());
+    assert!(rt; !are_same(pairs, &copy) && !has_first(pairs, 5) && has_first(&copy, 5));
+    assert!(rt; index_of(&copy, 5) == Some(ix(1)) && index_of(&copy, 1).is_none());
+    Ok(())
+}
+
+#[test]
+fn a_copy_is_the_same_until_it_changes(rt: HostRuntime) -> Result<(), Fail> {
+    assert_copies(&rt, &three(&rt, rt.alloc()))?;
+    Ok(())
+}
+
+#[test]
+fn a_collection_prints_its_pairs_by_rising_index(rt: HostRuntime) -> Result<(), Fail> {
+    let text = printed(rt.alloc(), &three(&rt, rt.alloc()))?;
+    assert_answer(
+        &rt,
+        &text,
+        "{0: Pair(0, 9), 1: Pair(1, 8), 2: Pair(2, 7)}",
+        "printing",
+    );
+    Ok(())
+}
+
+#[test]
+fn pairs_come_out_by_rising_index(rt: HostRuntime) -> Result<(), Fail> {
+    assert!(rt; last(three(&rt, rt.alloc())) == Some(Pair(2, 7)));
+    let firsts = firsts(rt.alloc(), three(&rt, rt.alloc()))?;
+    assert!(rt; firsts.as_slice() == [0, 1, 2].as_slice());
+    Ok(())
+}
