@@ -1,0 +1,6 @@
+mod Words
+pub mod StepLemmas
+pub mod EntryLemmas
+pub mod FillLemmas
+pub mod CallLemmas
+pub mod ManyLemmas

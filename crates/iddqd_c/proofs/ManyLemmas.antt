@@ -1,0 +1,72 @@
+-- A buffer that a loop fills with the answers for keys, one after another.
+use Rattle.std.proofs.Common.{◌≡◌, ◌∙◌, ◌+◌, ◌<◌, ◌≤◌, ℕ, List, [], ◌∷◌, ◌++◌, length, get_or, slice_set, refl, sym, ap, subst}
+use Rattle.std.specs.Prelude.{take, drop}
+use Rattle.std.proofs.Math.Seq.{set-append_seam}
+use Rattle.std.proofs.lemmas.List.{append_assoc, drop_more, length_push, take_all, take_more}
+use lib.Pointwise.{pointwise}
+use Rattle.std.proofs.Common.{Vec, nat_cmp}
+use Rattle.std.specs.Global.{Global}
+use Rattle.std.specs.Hash.{slice}
+use Rattle.std.specs.contracts.prelude.DefaultHasherHasher.TheImpl as hasher
+use Rattle.std.specs.contracts.prelude.U8Hash.TheImpl as hash
+use Rattle.std.specs.contracts.prelude.U8PartialEq.TheImpl as equality
+use Rattle.std.specs.contracts.random_state.RandomStateBuildHasher.TheImpl as builder
+use Rattle.std.specs.declared.random_state.RandomState.{RandomState}
+use Rattle.iddqd_driver.specs.Keys.{Keys, keys_of}
+use Rattle.iddqd_c.specs.Rows.{AreAlike}
+use Rattle.iddqd_c.specs.contracts.entry.EntryKeyedItem.TheImpl as entry
+use Rattle.iddqd_c.specs.declared.entry.Entry.{Entry}
+
+-- the keys of entries, as clauses name them
+abbrev pub entry_keys : Keys Entry (Vec ℕ Global) ℕ RandomState
+entry_keys =
+    keys_of entry.ghosts (λ x y. pointwise equality.ghosts.eq x.items y.items)
+    (λ v. slice hash.ghosts.hash_input v.items) nat_cmp builder.ghosts hasher.ghosts
+
+module _ {X Y : Type 0} (P : X → Y → Type 0) where
+  AreAlike-push :
+      (xs : List X) (ys : List Y) (x : X) (y : Y) → AreAlike P xs ys → P x y
+      → AreAlike P (xs ++ x ∷ []) (ys ++ y ∷ [])
+  AreAlike-push [] [] x y alike holds = (holds, tt)
+  AreAlike-push [] (y' ∷ ys) x y alike holds = absurd alike
+  AreAlike-push (x' ∷ xs) [] x y alike holds = absurd alike
+  AreAlike-push (x' ∷ xs) (y' ∷ ys) x y alike holds = (alike.0, AreAlike-push xs ys x y alike.1 holds)
+
+  -- The first `at` places have answers for the first keys, and the places behind them are as they were.
+  pub record IsAnswered (keys : List X) (at : ℕ) (was now : List Y) : Type 0 where
+    pub answers : List Y
+    pub each : AreAlike P (take at keys) answers
+    pub counted : length answers ≡ at
+    pub filled : now ≡ answers ++ drop at was
+
+  pub IsAnswered-start : (keys : List X) (was : List Y) → IsAnswered keys 0 was was
+  IsAnswered-start keys was = record { answers = []; each = tt; counted = refl; filled = refl }
+
+  pub IsAnswered-step :
+      (keys : List X) (at : ℕ) (was now : List Y) (x : X) (y : Y)
+      → IsAnswered keys at was now
+      → at < length keys
+      → at < length was
+      → P (get_or keys at x) y
+      → IsAnswered keys (at + 1) was (slice_set now at y)
+  IsAnswered-step keys at was now x y before within room holds =
+      let done = before.answers in
+      let behind = drop (at + 1) was in
+      let place : Y = get_or was at y in
+      let opened : now ≡ done ++ place ∷ behind = before.filled ∙ ap (λ ys. done ++ ys) (drop_more was at y room) in
+      let there : slice_set now at y ≡ done ++ y ∷ behind =
+      ap (λ ys. slice_set ys at y) opened
+      ∙ subst (λ n. slice_set (done ++ place ∷ behind) n y ≡ done ++ y ∷ behind) before.counted (set-append_seam done place behind y) in
+      record {
+        answers = done ++ y ∷ [];
+        each = subst (λ (xs : List X). AreAlike P xs (done ++ y ∷ [])) (sym (take_more keys at x within))
+            (AreAlike-push (take at keys) done (get_or keys at x) y before.each holds);
+        counted = length_push done y ∙ ap (λ n. n + 1) before.counted;
+        filled = there ∙ sym (append_assoc done (y ∷ []) behind);
+      }
+
+  pub answered_all :
+      (keys : List X) (at : ℕ) (was now : List Y) (is : IsAnswered keys at was now) → length keys ≤ at
+      → AreAlike P keys is.answers
+  answered_all keys at was now is all =
+      subst (λ (xs : List X). AreAlike P xs is.answers) (take_all at keys all) is.each

@@ -1,0 +1,5 @@
+pub mod Parked
+pub mod Rows
+pub mod Held
+pub mod Entries
+pub mod Numbers

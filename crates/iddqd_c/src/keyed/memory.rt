@@ -1,0 +1,70 @@
+//! Memory that is taken before it is needed.
+ghost use Rattle.std.specs.Prelude.{◌≡◌, ◌≢◌, Some};
+ghost use Rattle.iddqd_c.specs.declared.code.TheConstants.{OK};
+ghost use Rattle.iddqd_c.specs.Entries.{CountsRoom, Reserves};
+ghost use Rattle.iddqd_c.specs.Held.{ChangesKeyed, ReadsKeyed};
+
+use crate::code::{HANDLE, MEMORY, OK};
+use crate::handle::{CTable, put, take};
+use crate::table::Table;
+use std::alloc::{AllocError, Global};
+
+/// Makes room in the table for so many more items, or for as many as there can be. Memory for their first keys isn't
+/// taken.
+#[unsafe(no_mangle)]
+pub extern "C" fn iddqd_keyed_reserve(t: &mut CTable, alloc: Global, additional: usize) -> u32
+    ensures reserves { ChangesKeyed (Reserves additional result) t.old.handle.value result t.new.handle.value }
+    ensures state { t.new.state ≡ t.old.state }
+    ensures closed { t.old.state ≢ 1 → t.new ≡ t.old }
+{
+    if t.state != 1 {
+        return HANDLE;
+    }
+    let mut table = take(t, alloc);
+    let answer = reserve(table.as_mut(), additional);
+    put(t, table);
+    answer
+}
+
+fn reserve(table: &mut Table, additional: usize) -> u32
+    ensures reserves { ChangesKeyed (Reserves additional result) (Some table.old) result (Some table.new) }
+{
+    match table {
+        Table::Keyed(items) => match items.reserve(additional) {
+            Ok(()) => OK,
+            Err(AllocError) => MEMORY,
+        },
+        Table::Index(_) => HANDLE,
+    }
+}
+
+/// How many inserts the table needs no memory for. The copy of a first key needs some in any case.
+#[unsafe(no_mangle)]
+pub extern "C" fn iddqd_keyed_room(t: &mut CTable, alloc: Global, count: &mut usize) -> u32
+    ensures counts { ReadsKeyed (CountsRoom result count.new) t.old.handle.value result }
+    ensures same { t.new.handle.value ≡ t.old.handle.value }
+    ensures state { t.new.state ≡ t.old.state }
+    ensures closed { t.old.state ≢ 1 → t.new ≡ t.old }
+    ensures kept { result ≢ OK → count.new ≡ count.old }
+{
+    if t.state != 1 {
+        return HANDLE;
+    }
+    let table = take(t, alloc);
+    let answer = room(table.as_ref(), count);
+    put(t, table);
+    answer
+}
+
+fn room(table: &Table, count: &mut usize) -> u32
+    ensures counts { ReadsKeyed (CountsRoom result count.new) (Some table.now) result }
+    ensures kept { result ≢ OK → count.new ≡ count.old }
+{
+    match table {
+        Table::Keyed(items) => {
+            *count = items.room();
+            OK
+        }
+        Table::Index(_) => HANDLE,
+    }
+}

@@ -1,0 +1,53 @@
+//! Changes of values. They hash and compare no key, and take no memory.
+ghost use Rattle.std.specs.Prelude.{◌≡◌, ◌≢◌, Some};
+ghost use Rattle.iddqd_c.specs.Entries.{SetsValue, with_value};
+ghost use Rattle.iddqd_c.specs.Held.{ChangesKeyed};
+
+use crate::code::{HANDLE, MISSING, OK};
+use crate::entry::{Entries, Entry};
+use crate::handle::{CTable, put, take};
+use crate::table::Table;
+use iddqd::item_index::ItemIndex;
+use iddqd_driver::keyed_items::Keyed;
+use std::alloc::Global;
+
+/// Sets the value of the item at an index.
+#[unsafe(no_mangle)]
+pub extern "C" fn iddqd_keyed_set_value(
+    t: &mut CTable,
+    alloc: Global,
+    index: u32,
+    value: u64,
+) -> u32
+    ensures sets { ChangesKeyed (SetsValue ⟦<Entries as Keyed>⟧.keys index value result)
+        t.old.handle.value result t.new.handle.value }
+    ensures state { t.new.state ≡ t.old.state }
+    ensures closed { t.old.state ≢ 1 → t.new ≡ t.old }
+{
+    if t.state != 1 {
+        return HANDLE;
+    }
+    let mut table = take(t, alloc);
+    let answer = set_value(table.as_mut(), index, value);
+    put(t, table);
+    answer
+}
+
+fn set_value(table: &mut Table, index: u32, value: u64) -> u32
+    ensures sets { ChangesKeyed (SetsValue ⟦<Entries as Keyed>⟧.keys index value result)
+        (Some table.old) result (Some table.new) }
+{
+    match table {
+        Table::Keyed(items) => {
+            let ix = ItemIndex::new(index);
+            let set = |entry: &mut Entry|
+                ensures { entry.new ≡ with_value entry.old value }
+            { entry.value = value };
+            match items.modify_at(ix, set) {
+                Some(()) => OK,
+                None => MISSING,
+            }
+        }
+        Table::Index(_) => HANDLE,
+    }
+}

@@ -1,0 +1,12 @@
+//! What a handle may hold.
+use crate::entry::Entries;
+use iddqd_hash::open_table::OpenHashTable;
+
+/// A table of one of these kinds.
+#[derive(Drop)]
+pub enum Table {
+    /// Items under two keys.
+    Keyed(Entries),
+    /// Numbers under hashes: of the caller's own records, say.
+    Index(OpenHashTable<u32>),
+}

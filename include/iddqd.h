@@ -1,0 +1,164 @@
+/* Proved tables for C and C++. docs/FROM_C.md says what is proved of these functions, and what a caller owes.
+ *
+ * A table lives behind a handle of two words, `iddqd_table`. A handle begins as IDDQD_NONE; `iddqd_keyed_new` opens it,
+ * and `iddqd_free` closes it. Every other function on a handle that is closed, or that has a table of another kind,
+ * returns IDDQD_HANDLE and does nothing.
+ *
+ * A function writes through a pointer that it got for an answer only where its comment says so; with any other code the
+ * memory there stays as it was.
+ *
+ * What a caller owes, and nothing checks:
+ * - No pointer is null, not even to a key or a buffer of length 0. Each is aligned, and points to whole values: of a
+ *   slice to as many as its length says.
+ * - What a function may write overlaps nothing else that the same call is given.
+ * - A handle begins as IDDQD_NONE, is never copied, and is written by these functions alone.
+ * - One function at a time works on a handle, and always in the thread that made the table.
+ * - malloc, realloc and free are one sound allocator, and malloc aligns as C asks it to.
+ * - No function is called from a signal handler, or in a child that a process with threads forked.
+ */
+#ifndef IDDQD_H
+#define IDDQD_H
+
+#include <stddef.h>
+#include <stdint.h>
+
+#ifdef __cplusplus
+extern "C" {
+#endif
+
+/* A table, or none. Never copy one, and write neither field. */
+typedef struct iddqd_table {
+    void *at;
+    uint64_t state;
+} iddqd_table;
+
+/* A handle without a table: iddqd_table table = IDDQD_NONE; */
+#define IDDQD_NONE { 0, 0 }
+
+/* What the functions return. */
+enum {
+    IDDQD_OK = 0,        /* it is done */
+    IDDQD_MISSING = 1,   /* no item has the key, or the index isn't live; nothing changed */
+    IDDQD_DUPLICATE = 2, /* an item has a key of the new one; nothing changed */
+    IDDQD_FULL = 3,      /* there are as many items as there can be; nothing changed */
+    IDDQD_MEMORY = 4,    /* memory ran out; no item changed */
+    IDDQD_HANDLE = 5,    /* no table, or one of another kind; of a function that makes one: the handle isn't zero */
+    IDDQD_SMALL = 6,     /* the buffer is too short; nothing was done */
+    IDDQD_UNSOUND = 7    /* a check failed: an item isn't found by one of its keys, or two items share one */
+};
+
+/* The index that no item has. */
+#define IDDQD_SENTINEL UINT32_C(4294967295)
+
+/* Frees the table, whatever its kind, and makes the handle zero. Of a handle without a table it does nothing. */
+void iddqd_free(iddqd_table *table);
+
+/* ---- Keyed items
+ *
+ * Each item has a first key of bytes, which is looked up by its hash, a second key, which is looked up by its order,
+ * and a value. No two items share a first key, and no two share a second key. The table has copies of the first keys.
+ *
+ * An item keeps its index until it is removed or the table is cleared. Indexes are below IDDQD_SENTINEL, and one that
+ * is free is used again.
+ */
+
+/* What the functions report of an item. */
+typedef struct iddqd_row {
+    uint64_t second;
+    uint64_t value;
+    uint32_t index;
+} iddqd_row;
+
+/* The indexes of the items that have a key of a new one: the first and the second. IDDQD_SENTINEL is none. */
+typedef struct iddqd_conflict {
+    uint32_t first;
+    uint32_t second;
+} iddqd_conflict;
+
+/* Makes an empty table, where the handle is zero: OK, MEMORY, or HANDLE where it isn't.
+ *
+ * The seed decides how first keys are hashed, and nothing but time depends on it. Where keys come from strangers, give
+ * it 16 bytes that they can't know, as getentropy makes them. With a seed that they know, they can choose keys that
+ * make each look-up pass all of them. */
+uint32_t iddqd_keyed_new(iddqd_table *table, uint64_t seed1, uint64_t seed2);
+
+/* Inserts an item, with a copy of the key. OK: *at is its index. DUPLICATE: *found has the indexes of the items that
+ * have one of its keys, and nothing was copied. FULL. MEMORY: also where the table is full and memory for the copy ran
+ * out first. */
+uint32_t iddqd_keyed_insert(iddqd_table *table, const uint8_t *key, size_t len, uint64_t second, uint64_t value,
+                            uint32_t *at, iddqd_conflict *found);
+
+/* Look up by the first key, by the second key, or by the index. OK: *row is the item. MISSING. */
+uint32_t iddqd_keyed_find1(iddqd_table *table, const uint8_t *key, size_t len, iddqd_row *row);
+uint32_t iddqd_keyed_find2(iddqd_table *table, uint64_t second, iddqd_row *row);
+uint32_t iddqd_keyed_get(iddqd_table *table, uint32_t index, iddqd_row *row);
+
+/* Look up `len` second keys in one call. OK: rows[i] is the item with seconds[i], or has the index IDDQD_SENTINEL if no
+ * item has that key; the places behind them stay. SMALL: `size`, the number of places of the buffer, is less than len. */
+uint32_t iddqd_keyed_find_many(iddqd_table *table, const uint64_t *seconds, size_t len, iddqd_row *rows, size_t size);
+
+/* Remove by the first key, by the second key, or by the index. OK: *row was the item. MISSING. */
+uint32_t iddqd_keyed_remove1(iddqd_table *table, const uint8_t *key, size_t len, iddqd_row *row);
+uint32_t iddqd_keyed_remove2(iddqd_table *table, uint64_t second, iddqd_row *row);
+uint32_t iddqd_keyed_remove(iddqd_table *table, uint32_t index, iddqd_row *row);
+
+/* The first key of the item at an index. OK: its *len bytes are at the start of the buffer of `size` bytes, and the
+ * others stay. SMALL: *len is how many bytes it has. MISSING. */
+uint32_t iddqd_keyed_key(iddqd_table *table, uint32_t index, uint8_t *key, size_t size, size_t *len);
+
+/* Sets the value of the item at an index. OK. MISSING. */
+uint32_t iddqd_keyed_set_value(iddqd_table *table, uint32_t index, uint64_t value);
+
+/* The items whose second keys are at least `from`, in the order of these keys, as many as the buffer of `len` rows
+ * has places for. OK: *count is how many were written, and the places behind them stay as they were. To go on, call it
+ * again with the last second key plus 1, unless that was UINT64_MAX; to go over all items, begin with 0. */
+uint32_t iddqd_keyed_range(iddqd_table *table, uint64_t from, iddqd_row *rows, size_t len, size_t *count);
+
+/* Makes room in the table for so many more items, or for as many as there can be. OK. MEMORY: the items stay. With room
+ * for n items the next n inserts need memory for the copies of their first keys alone. */
+uint32_t iddqd_keyed_reserve(iddqd_table *table, size_t additional);
+
+/* How many items the table has room for beside those that it has. OK: *count is their number. */
+uint32_t iddqd_keyed_room(iddqd_table *table, size_t *count);
+
+/* Whether each item is found by both of its keys, and no two items share one. OK. UNSOUND. MEMORY: the check takes some,
+ * and time as sorting does. It changes nothing. */
+uint32_t iddqd_keyed_validate(iddqd_table *table);
+
+/* How many items there are. OK: *count is their number. */
+uint32_t iddqd_keyed_len(iddqd_table *table, size_t *count);
+
+/* Forgets all items, and keeps the memory of the table. The next index is 0. OK. */
+uint32_t iddqd_keyed_clear(iddqd_table *table);
+
+/* ---- An index: numbers under hashes
+ *
+ * For records in memory of the caller's own and keys of any type: the caller computes the hashes, gets the numbers
+ * that are filed under a hash, and compares the keys of their records itself. A pair of a hash and a number may be
+ * filed more than once, and no function asks whether it is.
+ */
+
+/* Makes an empty index, where the handle is zero: OK, MEMORY, or HANDLE where it isn't. */
+uint32_t iddqd_index_new(iddqd_table *table);
+
+/* Files a number under a hash. OK. MEMORY: nothing changed. */
+uint32_t iddqd_index_insert(iddqd_table *table, uint64_t hash, uint32_t number);
+
+/* Removes a number that is filed under a hash, once. OK. MISSING: it isn't filed there. */
+uint32_t iddqd_index_remove(iddqd_table *table, uint64_t hash, uint32_t number);
+
+/* The numbers under a hash, in no order that a caller can rely on, as many as the buffer of `len` numbers has places
+ * for. OK: *count is how many there are, also past the buffer, and the places that none was written to stay. */
+uint32_t iddqd_index_under(iddqd_table *table, uint64_t hash, uint32_t *numbers, size_t len, size_t *count);
+
+/* How many pairs are filed. OK: *count is their number. */
+uint32_t iddqd_index_len(iddqd_table *table, size_t *count);
+
+/* Forgets all pairs, and keeps the memory. OK. */
+uint32_t iddqd_index_clear(iddqd_table *table);
+
+#ifdef __cplusplus
+}
+#endif
+
+#endif

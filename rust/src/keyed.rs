@@ -1,0 +1,243 @@
+//! Items under two keys.
+
+use crate::raw::{self, Conflict, Handle, Row, DUPLICATE, FULL, OK, SENTINEL, SMALL, UNSOUND};
+use crate::OutOfMemory;
+use std::error::Error;
+use std::fmt;
+
+/// How many rows a range reads at a time.
+const ROWS: usize = 64;
+
+/// Why an item was not inserted. Nothing changed.
+#[derive(Clone, Copy, Debug, PartialEq, Eq)]
+pub enum InsertError {
+    /// An item has one of its keys: the index of the item that has the first, and of the one that has the second.
+    Duplicate {
+        /// The item that has the first key.
+        first: Option<u32>,
+        /// The item that has the second key.
+        second: Option<u32>,
+    },
+    /// There are as many items as there can be.
+    Full,
+    /// Memory ran out.
+    Memory,
+}
+
+impl fmt::Display for InsertError {
+    fn fmt(&self, f: &mut fmt::Formatter<'_>) -> fmt::Result {
+        f.write_str(match self {
+            InsertError::Duplicate { .. } => "duplicate",
+            InsertError::Full => "full",
+            InsertError::Memory => "no memory",
+        })
+    }
+}
+
+impl Error for InsertError {}
+
+/// Items that have a first key of bytes, which is looked up by its hash, a second key, which is looked up by its order,
+/// and a value. No two share a first key, and no two share a second key. An item keeps its index until it is removed.
+pub struct Keyed(Handle);
+
+impl Keyed {
+    /// Empty. Where strangers choose first keys, the seed is 16 bytes that they can't know; no answer depends on it.
+    pub fn new(seed1: u64, seed2: u64) -> Result<Keyed, OutOfMemory> {
+        let handle = Handle::zero();
+        // SAFETY: the handle is zero.
+        match unsafe { raw::iddqd_keyed_new(handle.get(), seed1, seed2) } {
+            OK => Ok(Keyed(handle)),
+            _ => Err(OutOfMemory),
+        }
+    }
+
+    /// Inserts an item with a copy of the key, and returns its index.
+    pub fn insert(&mut self, first: &[u8], second: u64, value: u64) -> Result<u32, InsertError> {
+        let (mut at, mut found) = (SENTINEL, Conflict::default());
+        let (key, len) = (first.as_ptr(), first.len());
+        // SAFETY: the pointers are to `len` bytes and to two values that nothing else uses.
+        match unsafe { raw::iddqd_keyed_insert(self.0.get(), key, len, second, value, &mut at, &mut found) } {
+            OK => Ok(at),
+            DUPLICATE => Err(InsertError::Duplicate { first: index(found.first), second: index(found.second) }),
+            FULL => Err(InsertError::Full),
+            _ => Err(InsertError::Memory),
+        }
+    }
+
+    /// The item with this first key.
+    pub fn find1(&self, first: &[u8]) -> Option<Row> {
+        // SAFETY: the pointers are to `len` bytes and to a row that nothing else uses.
+        row_of(|row| unsafe { raw::iddqd_keyed_find1(self.0.get(), first.as_ptr(), first.len(), row) })
+    }
+
+    /// The item with this second key.
+    pub fn find2(&self, second: u64) -> Option<Row> {
+        // SAFETY: the pointer is to a row that nothing else uses.
+        row_of(|row| unsafe { raw::iddqd_keyed_find2(self.0.get(), second, row) })
+    }
+
+    /// The item at an index.
+    pub fn get(&self, index: u32) -> Option<Row> {
+        // SAFETY: the pointer is to a row that nothing else uses.
+        row_of(|row| unsafe { raw::iddqd_keyed_get(self.0.get(), index, row) })
+    }
+
+    /// The first key of the item at an index.
+    pub fn key(&self, index: u32) -> Option<Vec<u8>> {
+        let (mut key, mut len) = (Vec::new(), 0);
+        let mut read = |key: &mut Vec<u8>| {
+            let (to, size) = (key.as_mut_ptr(), key.len());
+            // SAFETY: the pointers are to `size` bytes and to a number that nothing else uses.
+            let answer = unsafe { raw::iddqd_keyed_key(self.0.get(), index, to, size, &mut len) };
+            (answer, len)
+        };
+        let (mut answer, len) = read(&mut key);
+        if answer == SMALL {
+            key.resize(len, 0);
+            (answer, _) = read(&mut key);
+        }
+        (answer == OK).then_some(key)
+    }
+
+    /// Makes room in the table for so many more items, or for as many as there can be. Memory for their first keys
+    /// isn't taken.
+    pub fn reserve(&mut self, additional: usize) -> Result<(), OutOfMemory> {
+        // SAFETY: the handle is open.
+        match unsafe { raw::iddqd_keyed_reserve(self.0.get(), additional) } {
+            OK => Ok(()),
+            _ => Err(OutOfMemory),
+        }
+    }
+
+    /// How many items the table has room for, beside those that it has.
+    pub fn room(&self) -> usize {
+        let mut count = 0;
+        // SAFETY: the pointer is to a number that nothing else uses.
+        unsafe { raw::iddqd_keyed_room(self.0.get(), &mut count) };
+        count
+    }
+
+    /// Whether each item is found by both of its keys, and no two items share one. It takes memory, and time as sorting
+    /// does.
+    pub fn validate(&self) -> Result<bool, OutOfMemory> {
+        // SAFETY: the handle is open.
+        match unsafe { raw::iddqd_keyed_validate(self.0.get()) } {
+            OK => Ok(true),
+            UNSOUND => Ok(false),
+            _ => Err(OutOfMemory),
+        }
+    }
+
+    /// Removes the item with this first key.
+    pub fn remove1(&mut self, first: &[u8]) -> Option<Row> {
+        // SAFETY: the pointers are to `len` bytes and to a row that nothing else uses.
+        row_of(|row| unsafe { raw::iddqd_keyed_remove1(self.0.get(), first.as_ptr(), first.len(), row) })
+    }
+
+    /// Removes the item with this second key.
+    pub fn remove2(&mut self, second: u64) -> Option<Row> {
+        // SAFETY: the pointer is to a row that nothing else uses.
+        row_of(|row| unsafe { raw::iddqd_keyed_remove2(self.0.get(), second, row) })
+    }
+
+    /// Removes the item at an index.
+    pub fn remove(&mut self, index: u32) -> Option<Row> {
+        // SAFETY: the pointer is to a row that nothing else uses.
+        row_of(|row| unsafe { raw::iddqd_keyed_remove(self.0.get(), index, row) })
+    }
+
+    /// Sets the value of the item at an index, and says whether there is one.
+    pub fn set_value(&mut self, index: u32, value: u64) -> bool {
+        // SAFETY: the handle is open.
+        unsafe { raw::iddqd_keyed_set_value(self.0.get(), index, value) == OK }
+    }
+
+    /// The items whose second keys are at least `from`, in the order of these keys.
+    pub fn range(&self, from: u64) -> Range<'_> {
+        Range { items: self, from: Some(from), rows: [Row::default(); ROWS], at: 0, count: 0 }
+    }
+
+    /// All items, in the order of their second keys.
+    pub fn iter(&self) -> Range<'_> {
+        self.range(0)
+    }
+
+    /// The number of items.
+    pub fn len(&self) -> usize {
+        let mut count = 0;
+        // SAFETY: the pointer is to a number that nothing else uses.
+        unsafe { raw::iddqd_keyed_len(self.0.get(), &mut count) };
+        count
+    }
+
+    /// Whether there is no item.
+    pub fn is_empty(&self) -> bool {
+        self.len() == 0
+    }
+
+    /// Forgets all items, and keeps the memory.
+    pub fn clear(&mut self) {
+        // SAFETY: the handle is open.
+        unsafe { raw::iddqd_keyed_clear(self.0.get()) };
+    }
+}
+
+impl fmt::Debug for Keyed {
+    fn fmt(&self, f: &mut fmt::Formatter<'_>) -> fmt::Result {
+        f.debug_list().entries(self.iter()).finish()
+    }
+}
+
+impl<'a> IntoIterator for &'a Keyed {
+    type Item = Row;
+    type IntoIter = Range<'a>;
+
+    fn into_iter(self) -> Range<'a> {
+        self.iter()
+    }
+}
+
+/// Items in the order of their second keys. It reads some at a time into a buffer of its own.
+#[derive(Clone, Debug)]
+pub struct Range<'a> {
+    items: &'a Keyed,
+    // The second key from which it goes on once the buffer is read; `None` at the end.
+    from: Option<u64>,
+    rows: [Row; ROWS],
+    at: usize,
+    count: usize,
+}
+
+impl Range<'_> {
+    // Reads on from a second key.
+    fn fill(&mut self, from: u64) {
+        (self.at, self.count) = (0, 0);
+        let rows = self.rows.as_mut_ptr();
+        // SAFETY: the pointers are to `ROWS` rows and to a number that nothing else uses.
+        unsafe { raw::iddqd_keyed_range(self.items.0.get(), from, rows, ROWS, &mut self.count) };
+        self.from = if self.count < ROWS { None } else { self.rows[ROWS - 1].second.checked_add(1) };
+    }
+}
+
+impl Iterator for Range<'_> {
+    type Item = Row;
+
+    fn next(&mut self) -> Option<Row> {
+        if self.at == self.count {
+            self.fill(self.from?);
+        }
+        let row = self.rows[..self.count].get(self.at).copied()?;
+        self.at += 1;
+        Some(row)
+    }
+}
+
+// The row that a function wrote, if it found one.
+fn row_of(function: impl FnOnce(*mut Row) -> u32) -> Option<Row> {
+    let mut row = Row::default();
+    (function(&mut row) == OK).then_some(row)
+}
+
+fn index(number: u32) -> Option<u32> {
+    (number != SENTINEL).then_some(number)
+}

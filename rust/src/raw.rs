@@ -1,0 +1,110 @@
+//! The functions of `iddqd.h`.
+
+use std::cell::UnsafeCell;
+use std::ptr::null_mut;
+
+/// What the functions return.
+pub(crate) const OK: u32 = 0;
+pub(crate) const DUPLICATE: u32 = 2;
+pub(crate) const FULL: u32 = 3;
+pub(crate) const SMALL: u32 = 6;
+pub(crate) const UNSOUND: u32 = 7;
+
+/// The index that no item has.
+pub(crate) const SENTINEL: u32 = u32::MAX;
+
+/// An item, beside its first key.
+#[repr(C)]
+#[derive(Clone, Copy, Debug, Default, PartialEq, Eq)]
+pub struct Row {
+    /// The second key.
+    pub second: u64,
+    /// The value.
+    pub value: u64,
+    /// The index, which stays until the item is removed.
+    pub index: u32,
+}
+
+#[repr(C)]
+#[derive(Default)]
+pub(crate) struct Conflict {
+    pub(crate) first: u32,
+    pub(crate) second: u32,
+}
+
+#[repr(C)]
+pub(crate) struct Table {
+    at: *mut u8,
+    state: u64,
+}
+
+/// A handle. Its pointer makes what holds it neither `Send` nor `Sync`, and no function calls back: so of a shared
+/// reference too there is one call at a time.
+pub(crate) struct Handle(UnsafeCell<Table>);
+
+impl Handle {
+    /// A handle that is zero.
+    pub(crate) fn zero() -> Handle {
+        Handle(UnsafeCell::new(Table { at: null_mut(), state: 0 }))
+    }
+
+    /// For one call.
+    pub(crate) fn get(&self) -> *mut Table {
+        self.0.get()
+    }
+}
+
+impl Drop for Handle {
+    fn drop(&mut self) {
+        // SAFETY: the handle was made by `zero`, and only these functions write it.
+        unsafe { iddqd_free(self.get()) }
+    }
+}
+
+unsafe extern "C" {
+    fn iddqd_free(table: *mut Table);
+
+    pub(crate) fn iddqd_keyed_new(table: *mut Table, seed1: u64, seed2: u64) -> u32;
+    pub(crate) fn iddqd_keyed_insert(
+        table: *mut Table,
+        key: *const u8,
+        len: usize,
+        second: u64,
+        value: u64,
+        at: *mut u32,
+        found: *mut Conflict,
+    ) -> u32;
+    pub(crate) fn iddqd_keyed_find1(table: *mut Table, key: *const u8, len: usize, row: *mut Row) -> u32;
+    pub(crate) fn iddqd_keyed_find2(table: *mut Table, second: u64, row: *mut Row) -> u32;
+    pub(crate) fn iddqd_keyed_get(table: *mut Table, index: u32, row: *mut Row) -> u32;
+    pub(crate) fn iddqd_keyed_remove1(table: *mut Table, key: *const u8, len: usize, row: *mut Row) -> u32;
+    pub(crate) fn iddqd_keyed_remove2(table: *mut Table, second: u64, row: *mut Row) -> u32;
+    pub(crate) fn iddqd_keyed_remove(table: *mut Table, index: u32, row: *mut Row) -> u32;
+    pub(crate) fn iddqd_keyed_key(table: *mut Table, index: u32, key: *mut u8, size: usize, len: *mut usize) -> u32;
+    pub(crate) fn iddqd_keyed_reserve(table: *mut Table, additional: usize) -> u32;
+    pub(crate) fn iddqd_keyed_room(table: *mut Table, count: *mut usize) -> u32;
+    pub(crate) fn iddqd_keyed_set_value(table: *mut Table, index: u32, value: u64) -> u32;
+    pub(crate) fn iddqd_keyed_range(
+        table: *mut Table,
+        from: u64,
+        rows: *mut Row,
+        len: usize,
+        count: *mut usize,
+    ) -> u32;
+    pub(crate) fn iddqd_keyed_validate(table: *mut Table) -> u32;
+    pub(crate) fn iddqd_keyed_len(table: *mut Table, count: *mut usize) -> u32;
+    pub(crate) fn iddqd_keyed_clear(table: *mut Table) -> u32;
+
+    pub(crate) fn iddqd_index_new(table: *mut Table) -> u32;
+    pub(crate) fn iddqd_index_insert(table: *mut Table, hash: u64, number: u32) -> u32;
+    pub(crate) fn iddqd_index_remove(table: *mut Table, hash: u64, number: u32) -> u32;
+    pub(crate) fn iddqd_index_under(
+        table: *mut Table,
+        hash: u64,
+        numbers: *mut u32,
+        len: usize,
+        count: *mut usize,
+    ) -> u32;
+    pub(crate) fn iddqd_index_len(table: *mut Table, count: *mut usize) -> u32;
+    pub(crate) fn iddqd_index_clear(table: *mut Table) -> u32;
+}

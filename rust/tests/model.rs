@@ -1,0 +1,86 @@
+//! `Keyed` and `Index` beside std's maps.
+
+use iddqd_proved::{Index, InsertError, Keyed, Row};
+use std::collections::{BTreeMap, HashMap};
+
+const ITEMS: u64 = 100_000;
+
+// Numbers that look random, the same in each run.
+fn mixed(number: u64) -> u64 {
+    let mixed = (number ^ (number >> 30)).wrapping_mul(0xBF58_476D_1CE4_E5B9);
+    mixed ^ (mixed >> 27)
+}
+
+#[test]
+fn keyed_agrees_with_two_maps() {
+    let mut items = Keyed::new(1, 2).unwrap();
+    let mut by_second: BTreeMap<u64, (Vec<u8>, Row)> = BTreeMap::new();
+    let mut by_first: HashMap<Vec<u8>, u64> = HashMap::new();
+    for turn in 0..ITEMS {
+        let number = mixed(turn) % (ITEMS / 4);
+        let (key, second) = (number.to_le_bytes()[..3].to_vec(), mixed(number) % ITEMS);
+        if turn % 3 == 2 {
+            let row = items.remove2(second);
+            assert_eq!(row, by_second.get(&second).map(|held| held.1));
+            if let Some((key, _)) = by_second.remove(&second) {
+                by_first.remove(&key);
+            }
+        } else {
+            let first = by_first.get(&key).map(|second| by_second[second].1.index);
+            let other = by_second.get(&second).map(|held| held.1.index);
+            match items.insert(&key, second, turn) {
+                Ok(index) => {
+                    assert_eq!((first, other), (None, None));
+                    by_second.insert(second, (key.clone(), Row { second, value: turn, index }));
+                    by_first.insert(key.clone(), second);
+                }
+                Err(error) => assert_eq!(error, InsertError::Duplicate { first, second: other }),
+            }
+        }
+        assert_eq!(items.find1(&key), by_first.get(&key).map(|second| by_second[second].1));
+    }
+    assert!(items.iter().eq(by_second.values().map(|held| held.1)));
+    let from = ITEMS / 2;
+    assert!(items.range(from).eq(by_second.range(from..).map(|(_, held)| held.1)));
+    assert_eq!(items.len(), by_second.len());
+    items.clear();
+    assert!(items.is_empty() && items.iter().next().is_none());
+}
+
+#[test]
+fn a_range_ends_at_the_greatest_key() {
+    let mut items = Keyed::new(1, 2).unwrap();
+    for below in 0..64 {
+        items.insert(&[below], u64::MAX - u64::from(below), 0).unwrap();
+    }
+    assert_eq!(items.iter().count(), 64);
+    assert_eq!(items.range(u64::MAX).count(), 1);
+}
+
+#[test]
+fn a_key_comes_back_and_room_is_made() {
+    let mut items = Keyed::new(1, 2).unwrap();
+    items.reserve(100).unwrap();
+    assert!(items.room() >= 100);
+    for key in [&b""[..], b"a", &[0; 10_000]] {
+        let index = items.insert(key, key.len() as u64, 0).unwrap();
+        assert_eq!(items.key(index).as_deref(), Some(key));
+    }
+    assert_eq!(items.key(3), None);
+}
+
+#[test]
+fn an_index_finds_records_by_keys_of_any_type() {
+    let people: Vec<(String, u64)> = (0..10_000).map(|number| (format!("person {number}"), number)).collect();
+    let mut by_name = Index::new(|person: &(String, u64)| person.0.clone()).unwrap();
+    for at in 0..people.len() as u32 {
+        assert_eq!(by_name.insert(&people, at), Ok(true));
+        assert_eq!(by_name.insert(&people, at), Ok(false));
+    }
+    for (at, person) in people.iter().enumerate() {
+        assert_eq!(by_name.find(&people, &person.0), Some(at as u32));
+    }
+    assert_eq!(by_name.remove(&people, &people[7].0), Some(7));
+    assert_eq!(by_name.find(&people, &people[7].0), None);
+    assert_eq!(by_name.len(), people.len() - 1);
+}

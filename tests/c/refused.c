@@ -1,0 +1,91 @@
+/* Each allocation of a run of calls fails in turn: the call returns MEMORY, what was there stays, and the same call
+ * passes once there is memory again. Link it with -Wl,--wrap=malloc,--wrap=realloc,--wrap=free. */
+#include "iddqd.h"
+
+#include <stdio.h>
+#include <stdlib.h>
+
+void *__real_malloc(size_t size);
+void *__real_realloc(void *at, size_t size);
+void __real_free(void *at);
+
+static long before_refusal; /* how many allocations pass; the next one fails; negative: none fails */
+static long held;           /* how many blocks are held */
+
+static int is_refused(void) {
+    return before_refusal >= 0 && before_refusal-- == 0;
+}
+
+void *__wrap_malloc(size_t size) {
+    void *at = is_refused() ? NULL : __real_malloc(size);
+    held += at != NULL;
+    return at;
+}
+
+void *__wrap_realloc(void *old, size_t size) {
+    void *at = is_refused() ? NULL : __real_realloc(old, size);
+    held += at != NULL && old == NULL;
+    return at;
+}
+
+void __wrap_free(void *at) {
+    held -= at != NULL;
+    __real_free(at);
+}
+
+#define CHECK(holds) \
+    do { \
+        if (!(holds)) { \
+            fprintf(stderr, "%s:%d: %s, refusal %ld\n", __FILE__, __LINE__, #holds, at); \
+            exit(1); \
+        } \
+    } while (0)
+
+enum { ITEMS = 300 };
+
+static uint32_t insert(iddqd_table *table, uint64_t i) {
+    iddqd_conflict conflict;
+    uint32_t index;
+    return iddqd_keyed_insert(table, (const uint8_t *)&i, sizeof i, i, i, &index, &conflict);
+}
+
+/* Whether allocation `at` of the run was refused. */
+static int is_refused_at(long at) {
+    iddqd_table table = IDDQD_NONE;
+    int refused = 0;
+    before_refusal = at;
+    uint32_t answer = iddqd_keyed_new(&table, 1, 2);
+    if (answer != IDDQD_OK) {
+        CHECK(answer == IDDQD_MEMORY && table.at == NULL && table.state == 0);
+        refused++;
+        CHECK(iddqd_keyed_new(&table, 1, 2) == IDDQD_OK);
+    }
+    for (uint64_t i = 0; i < ITEMS; i++) {
+        size_t count;
+        answer = insert(&table, i);
+        if (answer != IDDQD_OK) {
+            CHECK(answer == IDDQD_MEMORY);
+            CHECK(iddqd_keyed_len(&table, &count) == IDDQD_OK && count == i);
+            refused++;
+            CHECK(insert(&table, i) == IDDQD_OK);
+        }
+    }
+    for (uint64_t i = 0; i < ITEMS; i++) {
+        iddqd_row row;
+        CHECK(iddqd_keyed_find1(&table, (const uint8_t *)&i, sizeof i, &row) == IDDQD_OK && row.value == i);
+        CHECK(iddqd_keyed_find2(&table, i, &row) == IDDQD_OK && row.value == i);
+    }
+    iddqd_free(&table);
+    CHECK(held == 0);
+    CHECK(refused <= 1);
+    return refused;
+}
+
+int main(void) {
+    long refusals = 0;
+    while (is_refused_at(refusals)) {
+        refusals++;
+    }
+    printf("refused: ok, %ld allocations\n", refusals);
+    return refusals > ITEMS ? 0 : 1;
+}
