@@ -18,14 +18,14 @@ use Rattle.iddqd_by_hash.proofs.FindLemmas.{hit_from_passes, passes_from_hit}
 use Rattle.iddqd_map.specs.Groups.{AreHits, FindsOther, FindsSome}
 
 -- the members of a list that pass a test
-module _ (test : ℕ → Bool) where
-  pub filter-passed : (x : ℕ) (xs : List ℕ) → test x ≡ true → filter test (x ∷ xs) ≡ x ∷ filter test xs
+module _ {X : Type 0} (test : X → Bool) where
+  pub filter-passed : (x : X) (xs : List X) → test x ≡ true → filter test (x ∷ xs) ≡ x ∷ filter test xs
   filter-passed x xs is = rw is refl
 
-  pub filter-refused : (x : ℕ) (xs : List ℕ) → test x ≡ false → filter test (x ∷ xs) ≡ filter test xs
+  pub filter-refused : (x : X) (xs : List X) → test x ≡ false → filter test (x ∷ xs) ≡ filter test xs
   filter-refused x xs is = rw is refl
 
-  kept : (xs : List ℕ) (x : ℕ) → Contains xs x → test x ≡ true → Contains (filter test xs) x
+  pub kept : (xs : List X) (x : X) → Contains xs x → test x ≡ true → Contains (filter test xs) x
   kept [] x here is = absurd (contains_none x here)
   kept (y ∷ xs) x here is =
       elim (test y) as (λ b. test y ≡ b → Contains (cond b (y ∷ filter test xs) (filter test xs)) x) [
@@ -38,7 +38,7 @@ module _ (test : ℕ → Bool) where
             (λ rest. kept xs x rest is) (contains_cases y x xs here)
       ] refl
 
-  was_there : (xs : List ℕ) (x : ℕ) → Contains (filter test xs) x → Contains xs x × (test x ≡ true)
+  pub was_there : (xs : List X) (x : X) → Contains (filter test xs) x → Contains xs x × (test x ≡ true)
   was_there [] x here = absurd (contains_none x here)
   was_there (y ∷ xs) x here =
       elim (test y) as (λ b. test y ≡ b → Contains (cond b (y ∷ filter test xs) (filter test xs)) x

@@ -1,6 +1,7 @@
 mod ChainLemmas
 mod FilesLemmas
 mod GroupLemmas
+mod GroupModifyLemmas
 mod InsertLinkLemmas
 mod LinkLemmas
 mod LinkListLemmas

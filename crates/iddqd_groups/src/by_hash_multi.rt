@@ -21,6 +21,7 @@ ghost use Rattle.iddqd_by_hash.specs.Hashed.{hashing_of};
 ghost use Rattle.iddqd_map.specs.Groups.{AreHits, CountsHits};
 ghost use Rattle.iddqd_keys.specs.Scan.{HasNoHit};
 
+use crate::group_modify::modify_group;
 use crate::group_query::{count_by, find_any, find_other, group_by};
 pub use crate::hashed_group::Group;
 use crate::linked_steps;
@@ -371,5 +372,15 @@ where
         ix: ItemIndex,
     ) -> Option<ItemIndex> {
         find_other::<T, E, S, Q>(&self.table, items, state, query, ix)
+    }
+
+    fn modify_group<F: FnMut(&mut T)>(
+        &self,
+        items: &mut ItemSet<T>,
+        state: &S,
+        query: Q,
+        f: &mut F,
+    ) -> usize {
+        modify_group::<T, E, S, Q, F>(&self.table, items, state, query, f)
     }
 }

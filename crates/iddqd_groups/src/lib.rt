@@ -5,6 +5,7 @@
 #![tactic(auto)]
 
 pub mod by_hash_multi;
+mod group_modify;
 mod group_query;
 pub mod hashed_group;
 pub mod in_groups;

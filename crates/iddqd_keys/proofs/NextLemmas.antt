@@ -140,7 +140,7 @@ module _ {T K : Type 0} (key_of : T → K) (compare : K → K → Ordering) wher
       from_later (Some n) j is (inr behind) = (totals key_of compare total s).trans ix n j is.1 behind
 
       -- and the other way round, where it hits
-      from_behind :
+      pub from_behind :
           (next : Option ℕ) (j : ℕ)
           → IsNextHit key_of compare s test ix next
           → IsHit s test j

@@ -1,15 +1,15 @@
 -- For callers: live indexes that are sorted by key, and then by index.
-use Rattle.std.proofs.Common.{◌≡◌, ◌<◌, ℕ, zero, suc, Bool, nat_eq, true, false, List, [], ◌∷◌, Option, Some, None, slice_get, refl, ap, subst, arith}
+use Rattle.std.proofs.Common.{◌≡◌, ◌<◌, ℕ, zero, suc, Bool, nat_eq, true, false, List, [], ◌∷◌, Some, None, slice_get, refl, ap, subst, arith}
 use Rattle.std.specs.List.{AllByRecursion, Contains, IsDistinct}
 use Rattle.std.specs.List.Sorted.{IsStrictlySortedBy}
-use Rattle.std.specs.Option.{option_cmp, option_map}
-use Rattle.std.specs.Ordering.{nat_cmp, eq_by_cmp, is_eq, on, then_cmp}
+use Rattle.std.specs.Cmp.{IsTotalOrder}
+use Rattle.std.specs.Ordering.{nat_cmp, eq_by_cmp, is_eq}
 use Rattle.std.specs.declared.cmp.Ordering.{Ordering}
 use Rattle.std.specs.declared.cmp.Ordering.TheVariants.{Less, Equal}
 use Rattle.std.proofs.lemmas.Cmp.{tied_itself, nat_cmp_total}
 use Rattle.std.proofs.lemmas.Map.Keys.{IsDistinct-from_sorted, IsDistinct-cons, IsDistinct-head, IsDistinct-tail}
-use Rattle.iddqd.specs.Store.{Store, get}
-use Rattle.iddqd_keys.specs.KeyWalk.{ComesBefore, IsInPlace, SortsWithin}
+use Rattle.iddqd.specs.Store.{Store}
+use Rattle.iddqd_keys.specs.KeyWalk.{by_key_then_index, ComesBefore, IsInPlace, key_at, SortsWithin}
 use Rattle.iddqd_keys.specs.OrderedQuery.{is_equal}
 use Rattle.iddqd_keys.proofs.KeyLemmas.{is_same, is_tied}
 
@@ -42,78 +42,75 @@ module _ {T K : Type 0} (key_of : T → K) (compare : K → K → Ordering) (s :
   sorted_at (x ∷ rest) (suc m) (suc n) i j sorted less first second =
       sorted_at rest m n i j sorted.1 (omega arith) first second
 
--- indexes that are sorted by an unsigned number, and then by index, are distinct
+-- indexes that are sorted by a key in a total order, and then by index, are distinct
+module _
+    {T K : Type 0} (key_of : T → K) (compare : K → K → Ordering) (total : IsTotalOrder compare) (s : Store T)
+  where
+    tied : (ix : ℕ) → by_key_then_index key_of compare s ix ix ≡ Equal
+    tied ix =
+        elim (key_at key_of s ix) as (λ o. key_at key_of s ix ≡ o → by_key_then_index key_of compare s ix ix ≡ Equal) [
+          | Some key ↦ λ is. rw (is, tied_itself total key) (tied_itself nat_cmp_total ix)
+          | None ↦ λ is. rw is (tied_itself nat_cmp_total ix)
+        ] refl
+
+    apart :
+        (ix : ℕ) (rest : List ℕ)
+        → AllByRecursion (λ j. eq_by_cmp (by_key_then_index key_of compare s) ix j ≡ false) rest
+        → AllByRecursion (λ j. nat_eq ix j ≡ false) rest
+    apart ix [] all = all
+    apart ix (j ∷ rest) (one, others) = (
+      elim (nat_eq ix j) as (λ b. nat_eq ix j ≡ b → nat_eq ix j ≡ false) [
+        | true ↦ λ is.
+            let same : j ≡ ix = (is_same ix j).0 is in
+            let equal : is_eq (by_key_then_index key_of compare s ix j) ≡ true = rw same (ap is_eq (tied ix)) in
+            absurd (cc)
+        | false ↦ λ is. is
+      ] refl,
+      apart ix rest others,
+    )
+
+    distinct :
+        (indexes : List ℕ)
+        → IsDistinct (eq_by_cmp (by_key_then_index key_of compare s)) indexes
+        → IsDistinct nat_eq indexes
+    unfolding IsDistinct
+    distinct [] once = once
+    distinct (ix ∷ rest) once =
+        IsDistinct-cons nat_eq ix rest
+        (apart ix rest (IsDistinct-head (eq_by_cmp (by_key_then_index key_of compare s)) ix rest once))
+        (distinct rest (IsDistinct-tail (eq_by_cmp (by_key_then_index key_of compare s)) ix rest once))
+
+    pub sorted_once :
+        (within : K → Bool) (indexes : List ℕ)
+        → SortsWithin key_of compare within s indexes
+        → IsDistinct nat_eq indexes
+    sorted_once within indexes sorted =
+        distinct indexes (IsDistinct-from_sorted (by_key_then_index key_of compare s) indexes sorted.placed)
+
+-- and where their items share a key, an unsigned number, they rise
 module _ {T : Type 0} (key_of : T → ℕ) (s : Store T) where
-  abbrev key_at : ℕ → Option ℕ
-  key_at ix = option_map key_of (get s ix)
-
-  abbrev by_key_then_index : ℕ → ℕ → Ordering
-  by_key_then_index = then_cmp (on key_at (option_cmp nat_cmp)) nat_cmp
-
-  tied : (ix : ℕ) → by_key_then_index ix ix ≡ Equal
-  tied ix =
-      elim (key_at ix) as (λ o. key_at ix ≡ o → by_key_then_index ix ix ≡ Equal) [
-        | Some key ↦ λ is. rw (is, tied_itself nat_cmp_total key) (tied_itself nat_cmp_total ix)
-        | None ↦ λ is. rw is (tied_itself nat_cmp_total ix)
-      ] refl
-
-  apart :
-      (ix : ℕ) (rest : List ℕ)
-      → AllByRecursion (λ j. eq_by_cmp by_key_then_index ix j ≡ false) rest
-      → AllByRecursion (λ j. nat_eq ix j ≡ false) rest
-  apart ix [] all = all
-  apart ix (j ∷ rest) (one, others) = (
-    elim (nat_eq ix j) as (λ b. nat_eq ix j ≡ b → nat_eq ix j ≡ false) [
-      | true ↦ λ is.
-          let same : j ≡ ix = (is_same ix j).0 is in
-          let equal : is_eq (by_key_then_index ix j) ≡ true = rw same (ap is_eq (tied ix)) in
-          absurd (cc)
-      | false ↦ λ is. is
-    ] refl,
-    apart ix rest others,
-  )
-
-  distinct :
-      (indexes : List ℕ)
-      → IsDistinct (eq_by_cmp by_key_then_index) indexes
-      → IsDistinct nat_eq indexes
-  unfolding IsDistinct
-  distinct [] once = once
-  distinct (ix ∷ rest) once =
-      IsDistinct-cons nat_eq ix rest
-      (apart ix rest (IsDistinct-head (eq_by_cmp by_key_then_index) ix rest once))
-      (distinct rest (IsDistinct-tail (eq_by_cmp by_key_then_index) ix rest once))
-
-  pub sorted_once :
-      (within : ℕ → Bool) (indexes : List ℕ)
-      → SortsWithin key_of nat_cmp within s indexes
-      → IsDistinct nat_eq indexes
-  sorted_once within indexes sorted =
-      distinct indexes (IsDistinct-from_sorted by_key_then_index indexes sorted.placed)
-
-  -- and where their items share a key, they rise
   above :
       (key ix : ℕ) (rest : List ℕ)
-      → key_at ix ≡ Some key
-      → ((j : ℕ) → Contains rest j → key_at j ≡ Some key)
-      → AllByRecursion (λ j. by_key_then_index ix j ≡ Less) rest
+      → key_at key_of s ix ≡ Some key
+      → ((j : ℕ) → Contains rest j → key_at key_of s j ≡ Some key)
+      → AllByRecursion (λ j. by_key_then_index key_of nat_cmp s ix j ≡ Less) rest
       → AllByRecursion (λ j. nat_cmp ix j ≡ Less) rest
   above key ix [] here shared all = all
   above key ix (j ∷ rest) here shared (one, others) =
-      let there : key_at j ≡ Some key = shared j (zero, omega arith, refl) in (
+      let there : key_at key_of s j ≡ Some key = shared j (zero, omega arith, refl) in (
         rw (here, there, tied_itself nat_cmp_total key) at one,
         above key ix rest here (λ i (n, within, is). shared i (suc n, omega (arith, within), is)) others,
       )
 
   rising :
       (key : ℕ) (indexes : List ℕ)
-      → ((ix : ℕ) → Contains indexes ix → key_at ix ≡ Some key)
-      → IsStrictlySortedBy by_key_then_index indexes
+      → ((ix : ℕ) → Contains indexes ix → key_at key_of s ix ≡ Some key)
+      → IsStrictlySortedBy (by_key_then_index key_of nat_cmp s) indexes
       → IsStrictlySortedBy nat_cmp indexes
   unfolding IsStrictlySortedBy
   rising key [] shared sorted = sorted
   rising key (ix ∷ rest) shared (first, others) =
-      let behind : (j : ℕ) → Contains rest j → key_at j ≡ Some key =
+      let behind : (j : ℕ) → Contains rest j → key_at key_of s j ≡ Some key =
       λ j (n, within, is). shared j (suc n, omega (arith, within), is) in
       (above key ix rest (shared ix (zero, omega arith, refl)) behind first, rising key rest behind others)
 

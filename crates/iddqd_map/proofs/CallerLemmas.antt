@@ -9,6 +9,7 @@ use Rattle.std.specs.Cmp.{unsigned_tied}
 use Rattle.std.specs.Fn.{Once, FnOnceReturnsAtMut}
 use Rattle.std.specs.List.{count_by}
 use Rattle.std.specs.Ordering.{nat_cmp}
+use Rattle.std.proofs.lemmas.Cmp.{nat_cmp_total}
 use Rattle.std.proofs.lemmas.List.Sums.{sum_by-cons}
 use Rattle.iddqd.proofs.LiveLemmas.{get-removed_other}
 use Rattle.iddqd.specs.Store.{Store, get, live_count, rebound, removed}
@@ -154,7 +155,7 @@ sorted_hits key_of s key indexes sorted = record {
         (item, live, sym (unsigned_tied key (key_of item)) ∙ passes),
     λ (item, live, passes). (sorted.each ix).1 (item, live, unsigned_tied key (key_of item) ∙ passes),
   );
-  once = sorted_once key_of s (is_equal (nat_cmp key)) indexes sorted;
+  once = sorted_once key_of nat_cmp nat_cmp_total s (is_equal (nat_cmp key)) indexes sorted;
 }
 
 -- after the removal of a group or a range no item of it is left

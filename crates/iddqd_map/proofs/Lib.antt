@@ -1,4 +1,6 @@
 pub use Rattle.iddqd.proofs.LiveCountLemmas
+pub mod AlongLemmas
+pub mod BulkLemmas
 pub mod CallerLemmas
 pub mod CloneLemmas
 pub mod ConflictLemmas
@@ -9,11 +11,14 @@ pub mod FoundLemmas
 pub mod GroupLemmas
 pub mod HashLemmas
 pub mod IndexingLemmas
+pub mod IntoLemmas
 pub mod MapLemmas
+pub mod ModifyLemmas
 pub mod OneKeyLemmas
 pub mod OverwriteLemmas
 pub mod RangeLemmas
 pub mod RangeRetainLemmas
+pub mod RemakeLemmas
 pub mod RetainLemmas
 pub mod RetainedLemmas
 pub mod RoomLemmas

@@ -57,6 +57,11 @@ less p q (suc n) x up within fails passes = elim (cases_eq x n) [
       omega (arith, less p q n x up lower fails passes, at_most (p n) (q n) (up n))
 ]
 
+-- never more than the limit
+no_more : (p : ℕ → Bool) (n : ℕ) → how_many p n ≤ n
+no_more p zero = omega arith
+no_more p (suc n) = omega (arith, no_more p n, at_most (p n) true (λ passes. refl))
+
 module _ {T K : Type 0} (key_of : T → K) (compare : K → K → Ordering) where
   -- the first hits
   pub first_passes :
@@ -77,6 +82,11 @@ module _ {T K : Type 0} (key_of : T → K) (compare : K → K → Ordering) wher
   -- how many may be asked about still: an upper bound, since not all need be within
   pub to_ask : Store T → Option ℕ → ℕ
   to_ask s next = how_many (awaits s next) (length s.items)
+
+  -- and no more than there are slots
+  pub to_ask-most : (s : Store T) (next : Option ℕ) → to_ask s next ≤ length s.items
+  unfolding to_ask
+  to_ask-most s next = no_more (awaits s next) (length s.items)
 
   module _ (total : IsTotalOrder compare) (s : Store T) (test : T → Bool) (ix : ℕ) (next : Option ℕ)
       (is : IsNextHit key_of compare s test ix next) (item : T) (live : get s ix ≡ Some item) where

@@ -1,3 +1,4 @@
+pub mod Bulk
 pub mod Calls
 pub mod Clones
 pub mod Drops
@@ -13,6 +14,7 @@ pub mod KeyLaws
 pub mod Map
 pub mod Memory
 pub mod Modify
+pub mod ModifyMany
 pub mod NoConflict
 pub mod OneKey
 pub mod OneKeyLaws
@@ -22,8 +24,10 @@ pub mod PairLaws
 pub mod RangeRetain
 pub mod Ranges
 pub mod Refusal
+pub mod Remake
 pub mod Retain
 pub mod Several
 pub mod ThreeKeys
 pub mod TwoKeys
+pub mod Upsert
 pub mod Validation

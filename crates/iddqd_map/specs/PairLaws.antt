@@ -9,6 +9,7 @@ use Rattle.iddqd.specs.Store.{Store, get}
 use Rattle.iddqd_keys.specs.Scan.{IsHit, HasNoHit, AnswersScan, AreApart}
 use Rattle.iddqd_map.specs.EqualityLaws.{both_true}
 use Rattle.iddqd_map.specs.KeyIndex.{HaveSameKeys, IsNextReported}
+use Rattle.iddqd_map.specs.OneKey.{IsReported}
 use Rattle.iddqd_map.specs.PairConflict.{Reports, ReportBoth, IsReportedBy, IsEither, lesser_of}
 use Rattle.iddqd_map.specs.Several.{either_key, both_keys, HasNoOther}
 
@@ -31,6 +32,31 @@ left_true false b is = absurd (cc)
 right_true : (a b : Bool) → b ≡ true → (a || b) ≡ true
 right_true true b is = refl
 right_true false b is = is
+
+module _ {T : Type 0} (first second : T → T → Bool) (x y : T) where
+  -- items that share a key of one of two share a key of either
+  pub alike_first : first x y ≡ true → either_key first second x y ≡ true
+  alike_first is = left_true (first x y) (second x y) is
+
+  pub alike_second : second x y ≡ true → either_key first second x y ≡ true
+  alike_second is = right_true (first x y) (second x y) is
+
+-- where one of the two reports nothing, no item shares a key of it
+pub reports_none :
+    {T : Type 0} (alike at_key : T → T → Bool)
+    → ((x y : T) → at_key x y ≡ true → alike x y ≡ true)
+    → (s : Store T) (item : T)
+    → HasNoHit s (alike item)
+    → HasNoHit s (at_key item)
+reports_none alike at_key alike_there s item none ix hit = none ix (hit.0, hit.1, alike_there item hit.0 hit.2)
+
+-- the index that a table by a unique key reported, if it reported one, is what a scan answers
+pub reported_scan :
+    {T : Type 0} (alike : T → T → Bool) (s : Store T) (item : T) (reported : Option ℕ)
+    → Reports alike (IsReported alike) s item reported
+    → AnswersScan s (alike item) reported
+reported_scan alike s item None none = none
+reported_scan alike s item (Some at) is = is
 
 -- one of two moves if and only if not both keys stay
 pub moves_either : (m n a b : Bool) → m ≡ not a → n ≡ not b → (m || n) ≡ not (a && b)

@@ -17,7 +17,7 @@ ghost use Rattle.iddqd_map.specs.Indexing.{Indexes};
 use crate::hashed_plan::plan_move;
 use crate::hashed_query::{find_item, find_under, take_by};
 use crate::hashed_steps;
-use crate::key_index::{FindsSame, Here, KeyIndex, UniqueAt};
+use crate::key_index::{FindsSame, Here, KeyIndex, ReportsAt, UniqueAt};
 use iddqd::index_remap::IndexRemap;
 use iddqd::internal::{ValidateCompact, ValidateRefusal, ValidationError};
 use iddqd::item_index::ItemIndex;
@@ -314,6 +314,22 @@ where
             hash_of::<T, E, S>(state, item),
             item,
         )
+    }
+}
+
+impl<T, S, E> ReportsAt<Here, T, S> for ByHashOf<E>
+where
+    E: HashKey<T>,
+    S: BuildHasher,
+{
+    ghost use Rattle.iddqd_map.specs.Map.{shares};
+
+    ghost alike_at = { shares E.key_of E.eq };
+
+    ghost alike_there = { λ x y shares. shares };
+
+    fn reported_at(conflict: &ItemIndex) -> Option<ItemIndex> {
+        Some(*conflict)
     }
 }
 

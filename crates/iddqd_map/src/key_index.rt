@@ -481,6 +481,23 @@ pub trait UniqueAt<P, Q, T, S>: KeyIndex<T, S> {
         ensures cells { Self.KeyIndex.cells self.new ≡ Self.KeyIndex.cells self.old };
 }
 
+/// A key index that tells from a conflict which item shares the unique key at the place `P`.
+pub trait ReportsAt<P, T, S>: KeyIndex<T, S> {
+    ghost use Rattle.std.specs.Prelude.{Bool, true};
+    ghost use Rattle.iddqd.specs.Store.{Store};
+
+    // The items share the key at the place.
+    ghost alike_at: { T → T → Bool };
+
+    /// The index of the item that shares the key at the place; `None` if none does.
+    fn reported_at(conflict: &Self::Conflict) -> Option<ItemIndex>
+        ensures { (s : Store T) (item : T) → Self.KeyIndex.conflicts s item conflict.now
+            → AnswersScan s (alike_at item) result };
+
+    // Items that share that key share a unique key.
+    ghost alike_there: { (x y : T) → alike_at x y ≡ true → Self.KeyIndex.alike x y ≡ true };
+}
+
 /// A key index with a key by its order at the place `P`, unique or not, and queries `Q` that fit that order.
 ///
 /// A call that goes along the order may remove items as it goes. So nothing is borrowed between two steps: a spot says
@@ -489,6 +506,7 @@ pub trait OrderedAt<P, Q, T, S>: KeyIndex<T, S> {
     ghost use Rattle.std.specs.Prelude.{ℕ};
     ghost use Rattle.std.specs.Cmp.{IsTotalOrder};
     ghost use Rattle.std.specs.declared.cmp.Ordering.{Ordering};
+    ghost use Rattle.std.specs.declared.cmp.Ordering.TheVariants.{Equal};
     ghost use Rattle.iddqd_keys.specs.OrderedQuery.{FitsOrder};
 
     /// Where an index stands in the order.
@@ -554,4 +572,7 @@ pub trait OrderedAt<P, Q, T, S>: KeyIndex<T, S> {
     ghost total: { IsTotalOrder order };
 
     ghost fits: { (query : Q) → FitsOrder order (compare query) };
+
+    // Items with the same keys compare Equal.
+    ghost keys_tie: { (x y : T) → Self.KeyIndex.keys x ≡ Self.KeyIndex.keys y → order x y ≡ Equal };
 }

@@ -12,23 +12,31 @@ ghost use Rattle.std.specs.Prelude.{◌≡◌, ◌↔◌, IsTrue, option_copied}
 ghost use Rattle.iddqd.specs.{get, live_count};
 ghost use Rattle.iddqd_map.specs.Map.{empty_map, IsMap};
 
+mod bulk_inserts;
 mod by_place;
 mod changes;
 mod checks;
 mod clones;
+mod drains;
 mod equality;
+mod group_modify;
 mod hashed_groups;
 mod inserts;
 mod memory;
 mod modifies;
+mod modify_each;
 mod numbered_keys;
 mod overwrites;
+mod range_modify;
 mod range_retain;
 mod ranges;
+mod remakes;
 mod removals;
 mod replaces;
 mod retain;
+mod retain_into;
 mod steps;
+mod upserts;
 mod walks;
 mod whole;
 

@@ -16,7 +16,7 @@ ghost use Rattle.iddqd_map.specs.KeyIndex.{IsNextReported};
 ghost use Rattle.iddqd_map.specs.PairConflict.{IsReportedBy, first_of, second_of};
 ghost use Rattle.iddqd_map.specs.Ranges.{itself};
 
-use crate::key_index::{FindsSame, KeyIndex, Left, OrderedAt, Right, UniqueAt};
+use crate::key_index::{FindsSame, KeyIndex, Left, OrderedAt, ReportsAt, Right, UniqueAt};
 use crate::pair_conflict::PairConflict;
 use crate::reported::lesser;
 use iddqd::index_remap::IndexRemap;
@@ -470,11 +470,30 @@ where
     }
 }
 
+impl<P, T, S, A, B> ReportsAt<Left<P>, T, S> for Pair<A, B>
+where
+    A: ReportsAt<P, T, S>,
+    B: KeyIndex<T, S>,
+{
+    ghost use Rattle.iddqd_map.specs.PairLaws.{alike_first};
+
+    ghost alike_at = { A.ReportsAt.alike_at };
+
+    ghost alike_there = { λ x y shares. alike_first A.KeyIndex.alike B.KeyIndex.alike x y
+        (A.ReportsAt.alike_there x y shares) };
+
+    fn reported_at(conflict: &PairConflict<A::Conflict, B::Conflict>) -> Option<ItemIndex> {
+        A::reported_at(&conflict.first()?)
+    }
+}
+
 impl<P, Q, T, S, A, B> OrderedAt<Left<P>, Q, T, S> for Pair<A, B>
 where
     A: OrderedAt<P, Q, T, S>,
     B: KeyIndex<T, S>,
 {
+    ghost use Rattle.std.proofs.Common.{ap};
+
     type Spot = A::Spot;
 
     ghost order = { A.OrderedAt.order };
@@ -486,6 +505,8 @@ where
     ghost total = { A.OrderedAt.total };
 
     ghost fits = { A.OrderedAt.fits };
+
+    ghost keys_tie = { λ x y same. A.OrderedAt.keys_tie x y (ap (λ both. both.0) same) };
 
     fn first_between(
         &self,
@@ -549,11 +570,30 @@ where
     }
 }
 
+impl<P, T, S, A, B> ReportsAt<Right<P>, T, S> for Pair<A, B>
+where
+    A: KeyIndex<T, S>,
+    B: ReportsAt<P, T, S>,
+{
+    ghost use Rattle.iddqd_map.specs.PairLaws.{alike_second};
+
+    ghost alike_at = { B.ReportsAt.alike_at };
+
+    ghost alike_there = { λ x y shares. alike_second A.KeyIndex.alike B.KeyIndex.alike x y
+        (B.ReportsAt.alike_there x y shares) };
+
+    fn reported_at(conflict: &PairConflict<A::Conflict, B::Conflict>) -> Option<ItemIndex> {
+        B::reported_at(&conflict.second()?)
+    }
+}
+
 impl<P, Q, T, S, A, B> OrderedAt<Right<P>, Q, T, S> for Pair<A, B>
 where
     A: KeyIndex<T, S>,
     B: OrderedAt<P, Q, T, S>,
 {
+    ghost use Rattle.std.proofs.Common.{ap};
+
     type Spot = B::Spot;
 
     ghost order = { B.OrderedAt.order };
@@ -565,6 +605,8 @@ where
     ghost total = { B.OrderedAt.total };
 
     ghost fits = { B.OrderedAt.fits };
+
+    ghost keys_tie = { λ x y same. B.OrderedAt.keys_tie x y (ap (λ both. both.1) same) };
 
     fn first_between(
         &self,

@@ -36,6 +36,17 @@ pub enum ReplaceRefusal<T, C> {
     Memory(T),
 }
 
+/// A refusal of one of many items, and what is left of their iterator.
+#[derive(Drop)]
+pub struct Stopped<T, C, I> {
+    /// How many items were inserted.
+    pub inserted: usize,
+    /// Why the next item was not inserted. It comes back.
+    pub refusal: InsertRefusal<T, C>,
+    /// The items after that one.
+    pub rest: I,
+}
+
 impl<T, C: Drop> InsertRefusal<T, C> {
     /// The item that was not inserted.
     pub fn into_item(self) -> T

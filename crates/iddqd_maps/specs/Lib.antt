@@ -15,9 +15,14 @@ pub use Rattle.iddqd_by_order.specs.OrderedWalk
 pub use Rattle.iddqd_order.specs.Range
 pub use Rattle.iddqd_map.specs.Map
 pub use Rattle.iddqd_map.specs.Memory
+pub use Rattle.iddqd_map.specs.Bulk
 pub use Rattle.iddqd_map.specs.Calls
 pub use Rattle.iddqd_map.specs.Clones
 pub use Rattle.iddqd_map.specs.Modify
+pub use Rattle.iddqd_map.specs.ModifyMany
+pub use Rattle.iddqd_map.specs.Refusal
+pub use Rattle.iddqd_map.specs.Remake
+pub use Rattle.iddqd_map.specs.Upsert
 pub use Rattle.iddqd_map.specs.Several
 pub use Rattle.iddqd_map.specs.Ranges
 pub use Rattle.iddqd_map.specs.Drops

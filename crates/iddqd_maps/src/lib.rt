@@ -11,30 +11,58 @@
 //! a stored item another key without updating the tables, so a look-up always answers as a scan of all items would.
 //!
 //! What callers name of the crates below, indexes, iterators, hashers, queries, refusals and what `validate` takes and
-//! answers, is re-exported here.
+//! answers, is re-exported here: modules, and at the root what most callers name. The iterators stand in their modules,
+//! since those of hashed maps and those in order have the same names.
 #![tactic(auto)]
 
+pub use iddqd::hash_builder::DefaultHashBuilder;
 pub use iddqd::internal::{
     TableValidationError, ValidateCompact, ValidateRefusal, ValidationError,
 };
+pub use iddqd::item_index::ItemIndex;
 pub use iddqd::{
     hash_builder as hash_builder, index_remap as index_remap, item_index as item_index,
     item_set as item_set,
 };
 pub use iddqd_by_order::ordered_walk as ordered_walk;
+pub use iddqd_groups::by_hash_multi::{ByHashMulti, ByHashMultiOf};
+pub use iddqd_groups::in_groups::{GroupItems, InGroups};
 pub use iddqd_groups::{
     by_hash_multi as by_hash_multi, hashed_group as hashed_group, in_groups as in_groups,
 };
+pub use iddqd_keys::hash_key::HashKey;
+pub use iddqd_keys::hash_query::HashQuery;
+pub use iddqd_keys::item_hash_query::ItemHashQuery;
+pub use iddqd_keys::item_order_query::{ItemOrdQuery, ItemRangeQuery, Part, Prefix};
+pub use iddqd_keys::key_kinds::{Computed, ComputedKey, Field, Reversed};
+pub use iddqd_keys::key_of::KeyOf;
+pub use iddqd_keys::order_key::OrdKey;
+pub use iddqd_keys::order_query::OrdQuery;
+pub use iddqd_keys::starts_with::StartsWith;
 pub use iddqd_keys::{
     hash_key as hash_key, hash_query as hash_query, item_hash_query as item_hash_query,
     item_order_query as item_order_query, key_kinds as key_kinds, key_of as key_of,
     order_key as order_key, order_query as order_query, starts_with as starts_with,
 };
+pub use iddqd_map::bi_hash_map::{BiClash, BiHashItem, BiHashMap, BiHashMapBy};
+pub use iddqd_map::by_hash::{ByHash, ByHashOf};
+pub use iddqd_map::id_hash_map::{HashMapBy, IdHashItem, IdHashMap};
+pub use iddqd_map::key_index::{First, Here, KeyIndex, Left, Right, Second, Third};
+pub use iddqd_map::map::{Map, Parts};
+pub use iddqd_map::no_conflict::NoConflict;
+pub use iddqd_map::pair::Pair;
+pub use iddqd_map::pair_conflict::PairConflict;
+pub use iddqd_map::refusal::{InsertRefusal, OverwriteRefusal, ReplaceRefusal, Stopped};
+pub use iddqd_map::tri_hash_map::{TriClash, TriHashItem, TriHashMap, TriHashMapBy};
 pub use iddqd_map::{
     bi_hash_map as bi_hash_map, by_hash as by_hash, grouped_at as grouped_at,
     id_hash_map as id_hash_map, key_index as key_index, map as map, no_conflict as no_conflict,
     pair as pair, pair_conflict as pair_conflict, refusal as refusal, tri_hash_map as tri_hash_map,
 };
+pub use iddqd_ord_map::by_order::{ByOrder, ByOrderOf};
+pub use iddqd_ord_map::by_order_multi::{ByOrderMulti, ByOrderMultiOf};
+pub use iddqd_ord_map::id_ord_map::{IdOrdItem, IdOrdMap, OrdMapBy};
+pub use iddqd_ord_map::in_order::InOrder;
 pub use iddqd_ord_map::{
     by_order as by_order, by_order_multi as by_order_multi, id_ord_map as id_ord_map,
     in_order as in_order, ranges_at as ranges_at,

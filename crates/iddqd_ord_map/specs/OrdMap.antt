@@ -1,10 +1,18 @@
--- What a replacement returns and leaves in a map with one ordered key, given that at most one item has a key.
+-- What inserts and replacements return and leave in a map with one ordered key, given that at most one item has a key.
 use Rattle.std.specs.Prelude.{ℕ, Bool, true, Option, Result}
+use Rattle.std.specs.Fn.{Once}
+use Rattle.std.specs.Iterator.{Count}
 use Rattle.std.specs.declared.cmp.Ordering.{Ordering}
-use Rattle.iddqd_map.specs.Calls.{ReplacesIfLive, Replaces, Changes}
+use Rattle.iddqd_map.specs.Bulk.{InsertsFrom}
+use Rattle.iddqd_map.specs.Calls.{Inserts, ReplacesIfLive, Replaces, Changes}
 use Rattle.iddqd_map.specs.Map.{MapState}
-use Rattle.iddqd_map.specs.OneKey.{IsTaken}
+use Rattle.iddqd_map.specs.OneKey.{IsReported, IsTaken}
+use Rattle.iddqd_map.specs.Remake.{Remakes, RemakesIfLive}
+use Rattle.iddqd_map.specs.Upsert.{InsertsMade}
+use Rattle.iddqd_map.specs.declared.refusal.InsertRefusal.{InsertRefusal}
 use Rattle.iddqd_map.specs.declared.refusal.ReplaceRefusal.{ReplaceRefusal}
+use Rattle.iddqd_map.specs.declared.refusal.Stopped.{Stopped}
+use Rattle.iddqd_ord_map.specs.OrderedSteps.{most_cells}
 use Rattle.iddqd_ord_map.specs.OrderedIndexing.{alike_in_order}
 
 -- A new item may have another key than the item that it replaces. Then its index moves in the table, which may need
@@ -29,3 +37,41 @@ module _ {T K : Type 0} (key_of : T → K) (compare : K → K → Ordering) wher
   ChangesInOrder gives old test result new =
       let alike = alike_in_order key_of compare in
       Changes alike alike true (IsTaken alike) gives old test result new
+
+  -- what an insert may return and leave
+  abbrev pub InsertsInOrder : MapState T → T → Result ℕ (InsertRefusal T ℕ) → MapState T → Type 0
+  InsertsInOrder old item result new =
+      let alike = alike_in_order key_of compare in
+      Inserts alike (λ count. 0) (IsReported alike) old item result new
+
+  -- what an insert of all items of an iterator may return, and what it leaves; `remaining` says how many items an
+  -- iterator gives at most
+  abbrev pub InsertsFromInOrder :
+      {I : Type 0} → (I → Option T → I → Type 0) → (I → Count) → I → MapState T → Result ℕ (Stopped T ℕ I) → MapState T
+      → Type 0
+  InsertsFromInOrder gives remaining it old result new =
+      let alike = alike_in_order key_of compare in
+      InsertsFrom gives alike (λ count. 0) (IsReported alike) remaining most_cells it old result new
+
+  -- and one of an item that the closure made
+  abbrev pub InsertsMadeInOrder :
+      {F : Type 0} → Once F (Unit {0}) T → F → MapState T → Result ℕ (InsertRefusal T ℕ) → MapState T → Type 0
+  InsertsMadeInOrder g f old result new =
+      let alike = alike_in_order key_of compare in
+      InsertsMade alike (λ count. 0) (IsReported alike) g f old result new
+
+  -- what a replacement by value may return and leave, at an index
+  abbrev pub RemakesInOrderIfLive :
+      {F : Type 0} → Once F (T × Unit {0}) T → F → MapState T → ℕ → Result (Option ℕ) (InsertRefusal T ℕ) → MapState T
+      → Type 0
+  RemakesInOrderIfLive g f old ix result new =
+      let alike = alike_in_order key_of compare in
+      RemakesIfLive alike true (IsReported alike) g f old ix result new
+
+  -- and of the item that passes the test
+  abbrev pub RemakesInOrder :
+      {F : Type 0} → Once F (T × Unit {0}) T → F → MapState T → (T → Bool) → Result (Option ℕ) (InsertRefusal T ℕ)
+      → MapState T → Type 0
+  RemakesInOrder g f old test result new =
+      let alike = alike_in_order key_of compare in
+      Remakes alike true (IsReported alike) g f old test result new

@@ -3,8 +3,9 @@
 use Rattle.std.proofs.Common.{◌≡◌, ◌∙◌, ◌↔◌, ℕ, List, true, Some, sym, subst, Ordering}
 use Rattle.std.specs.Cmp.{IsTotalOrder, IsEquivalence, Equal-is, eq_by_cmp_equiv}
 use Rattle.std.specs.Option.{option_cmp}
-use Rattle.std.specs.Ordering.{eq_by_cmp}
+use Rattle.std.specs.Ordering.{eq_by_cmp, on}
 use Rattle.std.specs.declared.cmp.Ordering.TheVariants.{Equal}
+use Rattle.std.proofs.lemmas.Cmp.{tied_itself}
 use Rattle.iddqd.specs.Store.{Store, get, rebound}
 use Rattle.iddqd.proofs.LiveLemmas.{item_at, live_at}
 use Rattle.iddqd_order.specs.MapBTreeTable.{Order, HasSameTree, order_of}
@@ -27,6 +28,10 @@ module _ {T K : Type 0} (key_of : T → K) (compare : K → K → Ordering) wher
   IsSortedScan-same_tree s t u same is = subst (IsSortedScan key_of compare s) (sym (order-same t u same)) is
 
   module _ (total : IsTotalOrder compare) where
+    -- items with the same key compare Equal by it
+    pub tied_by_key : (x y : T) → key_of x ≡ key_of y → on key_of compare x y ≡ Equal
+    tied_by_key x y same = subst (λ k. compare (key_of x) k ≡ Equal) same (tied_itself total (key_of x))
+
     pub shares_equivalence : IsEquivalence (alike_in_order key_of compare)
     shares_equivalence =
         let e = eq_by_cmp_equiv total in

@@ -38,7 +38,7 @@ use iddqd_keys::item_order_query::{ItemOrdQuery, ItemRangeQuery};
 use iddqd_keys::key_kinds::Field;
 use iddqd_keys::key_of::{Itself, key_at};
 use iddqd_keys::order_key::OrdKey;
-use iddqd_map::key_index::{FindsSame, Here, KeyIndex, OrderedAt, UniqueAt};
+use iddqd_map::key_index::{FindsSame, Here, KeyIndex, OrderedAt, ReportsAt, UniqueAt};
 use iddqd_order::btree_table::{Asking, Blocks, Gap, Iter, MapBTreeTable, Range, Spot};
 use std::alloc::{AllocError, Global};
 use std::cmp::Ordering;
@@ -400,6 +400,22 @@ where
     }
 }
 
+impl<T, S, E> ReportsAt<Here, T, S> for ByOrderOf<E>
+where
+    E: OrdKey<T>,
+{
+    ghost use Rattle.std.specs.Ordering.{eq_by_cmp};
+    ghost use Rattle.iddqd_map.specs.Map.{shares};
+
+    ghost alike_at = { shares E.key_of (eq_by_cmp E.cmp) };
+
+    ghost alike_there = { λ x y shares. shares };
+
+    fn reported_at(conflict: &ItemIndex) -> Option<ItemIndex> {
+        Some(*conflict)
+    }
+}
+
 impl<T, S, E, Q> UniqueAt<Here, Q, T, S> for ByOrderOf<E>
 where
     E: OrdKey<T>,
@@ -422,6 +438,7 @@ where
     Q: ItemRangeQuery<T, E>,
 {
     ghost use Rattle.std.proofs.lemmas.Cmp.{on_total};
+    ghost use Rattle.iddqd_ord_map.specs.SortedScanLaws.{tied_by_key};
 
     type Spot = Spot;
 
@@ -434,6 +451,8 @@ where
     ghost total = { on_total E.key_of E.total };
 
     ghost fits = { Q.fits };
+
+    ghost keys_tie = { tied_by_key E.key_of E.cmp E.total };
 
     fn first_between(
         &self,

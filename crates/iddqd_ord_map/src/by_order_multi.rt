@@ -445,6 +445,7 @@ where
     Q: ItemRangeQuery<T, E>,
 {
     ghost use Rattle.std.proofs.lemmas.Cmp.{on_total};
+    ghost use Rattle.iddqd_ord_map.specs.SortedScanLaws.{tied_by_key};
 
     type Spot = Spot;
 
@@ -457,6 +458,8 @@ where
     ghost total = { on_total E.key_of E.total };
 
     ghost fits = { Q.fits };
+
+    ghost keys_tie = { tied_by_key E.key_of E.cmp E.total };
 
     fn first_between(
         &self,

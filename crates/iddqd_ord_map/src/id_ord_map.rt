@@ -17,6 +17,7 @@ ghost use Rattle.iddqd_ord_map.specs.OrderedIndexing.{Sorts};
 ghost use Rattle.iddqd_by_order.specs.Ordered.{is_equal};
 ghost use Rattle.iddqd_keys.specs.Scan.{HasNoHit, AnswersScan};
 
+mod bulk_inserts;
 mod checks;
 mod clones;
 mod equality;
@@ -25,8 +26,10 @@ mod iter;
 mod modifies;
 mod range;
 mod ranges;
+mod remakes;
 mod replaces;
 mod retain;
+mod upserts;
 mod values;
 mod walks;
 

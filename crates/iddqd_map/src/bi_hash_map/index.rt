@@ -5,7 +5,7 @@
 use super::clash::{BiClash, both_moves, clash_of};
 use super::item::{BiHashItem, Key1, Key2};
 use crate::by_hash::ByHashOf;
-use crate::key_index::{FindsSame, First, KeyIndex, Second, UniqueAt};
+use crate::key_index::{FindsSame, First, KeyIndex, ReportsAt, Second, UniqueAt};
 use crate::reported::{lesser, past};
 use iddqd::index_remap::IndexRemap;
 use iddqd::internal::{ValidateCompact, ValidateRefusal, ValidationError};
@@ -355,6 +355,24 @@ where
         alike_both first (shares B.key_of B.eq) first (λ x y same. same) (shares B.key_of B.eq) };
 }
 
+impl<T, S, A, B> ReportsAt<First, T, S> for BiIndexOf<A, B>
+where
+    A: HashKey<T>,
+    B: HashKey<T>,
+    S: BuildHasher,
+{
+    ghost use Rattle.iddqd_map.specs.Map.{shares};
+    ghost use Rattle.iddqd_map.specs.PairLaws.{alike_first};
+
+    ghost alike_at = { shares A.key_of A.eq };
+
+    ghost alike_there = { λ x y is. alike_first (shares A.key_of A.eq) (shares B.key_of B.eq) x y is };
+
+    fn reported_at(conflict: &BiClash) -> Option<ItemIndex> {
+        conflict.key1
+    }
+}
+
 impl<T, S, A, B, Q> UniqueAt<First, Q, T, S> for BiIndexOf<A, B>
 where
     A: HashKey<T>,
@@ -378,6 +396,24 @@ where
         let found = self.first.take(items, state, query)?;
         self.second.remove(items, state, found);
         Some(found)
+    }
+}
+
+impl<T, S, A, B> ReportsAt<Second, T, S> for BiIndexOf<A, B>
+where
+    A: HashKey<T>,
+    B: HashKey<T>,
+    S: BuildHasher,
+{
+    ghost use Rattle.iddqd_map.specs.Map.{shares};
+    ghost use Rattle.iddqd_map.specs.PairLaws.{alike_second};
+
+    ghost alike_at = { shares B.key_of B.eq };
+
+    ghost alike_there = { λ x y is. alike_second (shares A.key_of A.eq) (shares B.key_of B.eq) x y is };
+
+    fn reported_at(conflict: &BiClash) -> Option<ItemIndex> {
+        conflict.key2
     }
 }
 

@@ -13,7 +13,7 @@ ghost use Rattle.iddqd_keys.specs.Removals.{padded};
 
 use super::Map;
 use super::inserts::insert;
-use super::steps::{next_in_room, put_into, store_in_room, take_out};
+use super::steps::{put_in_room, put_into, take_out};
 use crate::key_index::KeyIndex;
 use crate::refusal::{InsertRefusal, OverwriteRefusal};
 use iddqd::item_index::ItemIndex;
@@ -166,8 +166,5 @@ fn insert_in_room<T, X: KeyIndex<T, S>, S>(
     ensures cells { X.cells indexes.new ≡ X.cells indexes.old }
 {
     let position = indexes.position(items, state, hashes, &item);
-    let ix = next_in_room(items);
-    let plan = indexes.plan(items, state, position, ix, &item);
-    indexes.insert(hashes, &plan, blocks, ix);
-    store_in_room(items, item)
+    put_in_room(items, indexes, state, hashes, position, blocks, item)
 }

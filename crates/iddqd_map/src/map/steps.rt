@@ -4,7 +4,7 @@ ghost use Rattle.std.specs.Range.Bound.{bound_map};
 ghost use Rattle.iddqd.specs.{get, next_index, inserted, removed, room, sentinel};
 ghost use Rattle.iddqd_keys.specs.KeyWalk.{IsNextHit};
 ghost use Rattle.iddqd_keys.specs.OrderedQuery.{is_up_to};
-ghost use Rattle.iddqd_keys.specs.Scan.{IsLive};
+ghost use Rattle.iddqd_keys.specs.Scan.{HasNoHit, IsLive};
 ghost use Rattle.iddqd_map.specs.KeyIndex.{IsIndexed};
 ghost use Rattle.iddqd_map.specs.Ranges.{itself};
 
@@ -63,8 +63,8 @@ pub(super) fn take_out_between<P, Q, T, X: OrderedAt<P, Q, T, S>, S>(
     (items.remove(ix), next)
 }
 
-/// The index that the next item gets. There is room for one.
-pub(super) fn next_in_room<T>(items: &mut ItemSet<T>) -> ItemIndex
+// The index that the next item gets. There is room for one.
+fn next_in_room<T>(items: &mut ItemSet<T>) -> ItemIndex
     requires { 1 ≤ room items.old }
     ensures index { result ≡ next_index items.old.store }
     ensures assigned { result ≢ sentinel }
@@ -74,6 +74,35 @@ pub(super) fn next_in_room<T>(items: &mut ItemSet<T>) -> ItemIndex
         Ok(handle) => handle.next_index(),
         Err(_) => unreachable!(),
     }
+}
+
+/// Inserts the index of an item at the position that was found for it, and stores the item. There is room for it, and
+/// it shares no unique key with another.
+pub(super) fn put_in_room<T, X: KeyIndex<T, S>, S>(
+    items: &mut ItemSet<T>,
+    indexes: &mut X,
+    state: &S,
+    hashes: X::Hashes,
+    position: X::Position,
+    blocks: X::Blocks,
+    item: T,
+) -> ItemIndex
+    requires map { IsIndexed (X.indexes indexes.old) state.now items.old.store }
+    requires hashed { X.are_hashes state.now item hashes }
+    requires apart { HasNoHit items.old.store (X.alike item) }
+    requires position { X.is_position indexes.old state.now items.old.store item position }
+    requires room { 1 ≤ room items.old }
+    requires roomy { (plan : X.InsertPlan) → X.has_room_for indexes.old plan blocks }
+    ensures index { result ≡ next_index items.old.store }
+    ensures map { IsIndexed (X.indexes indexes.new) state.now items.new.store }
+    ensures stored { items.new ≡ record items.old { store = inserted items.old.store item } }
+    ensures capacity { X.capacity indexes.new ≡ X.capacity indexes.old }
+    ensures cells { X.cells indexes.new ≡ X.cells indexes.old }
+{
+    let ix = next_in_room(items);
+    let plan = indexes.plan(items, state, position, ix, &item);
+    indexes.insert(hashes, &plan, blocks, ix);
+    store_in_room(items, item)
 }
 
 /// Stores an item. There is room for it. It is inlined, as the insert into a hash table is.

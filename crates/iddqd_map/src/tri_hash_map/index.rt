@@ -8,7 +8,7 @@ ghost use Rattle.iddqd_map.specs.Several.{both_keys};
 
 use super::clash::{TriClash, all_moves, clash_of};
 use crate::by_hash::ByHashOf;
-use crate::key_index::{FindsSame, First, KeyIndex, Second, Third, UniqueAt};
+use crate::key_index::{FindsSame, First, KeyIndex, ReportsAt, Second, Third, UniqueAt};
 use crate::reported::{lesser, past};
 use iddqd::index_remap::IndexRemap;
 use iddqd::internal::{ValidateCompact, ValidateRefusal, ValidationError};
@@ -443,6 +443,27 @@ fn shares_later_keys<T, B: HashKey<T>, C: HashKey<T>>(item: &T, other: &T) -> bo
     B::is_same(item, other) && C::is_same(item, other)
 }
 
+impl<T, S, A, B, C> ReportsAt<First, T, S> for TriIndexOf<A, B, C>
+where
+    A: HashKey<T>,
+    B: HashKey<T>,
+    C: HashKey<T>,
+    S: BuildHasher,
+{
+    ghost use Rattle.iddqd_map.specs.Map.{shares};
+    ghost use Rattle.iddqd_map.specs.PairLaws.{alike_first};
+    ghost use Rattle.iddqd_map.specs.Several.{either_key};
+
+    ghost alike_at = { shares A.key_of A.eq };
+
+    ghost alike_there = { λ x y is. let rest = either_key (shares B.key_of B.eq) (shares C.key_of C.eq) in
+        alike_first (shares A.key_of A.eq) rest x y is };
+
+    fn reported_at(conflict: &TriClash) -> Option<ItemIndex> {
+        conflict.key1
+    }
+}
+
 impl<T, S, A, B, C, Q> UniqueAt<First, Q, T, S> for TriIndexOf<A, B, C>
 where
     A: HashKey<T>,
@@ -474,6 +495,28 @@ where
     }
 }
 
+impl<T, S, A, B, C> ReportsAt<Second, T, S> for TriIndexOf<A, B, C>
+where
+    A: HashKey<T>,
+    B: HashKey<T>,
+    C: HashKey<T>,
+    S: BuildHasher,
+{
+    ghost use Rattle.iddqd_map.specs.Map.{shares};
+    ghost use Rattle.iddqd_map.specs.PairLaws.{alike_first, alike_second};
+    ghost use Rattle.iddqd_map.specs.Several.{either_key};
+
+    ghost alike_at = { shares B.key_of B.eq };
+
+    ghost alike_there = { λ x y is. let rest = either_key (shares B.key_of B.eq) (shares C.key_of C.eq) in
+        alike_second (shares A.key_of A.eq) rest x y
+        (alike_first (shares B.key_of B.eq) (shares C.key_of C.eq) x y is) };
+
+    fn reported_at(conflict: &TriClash) -> Option<ItemIndex> {
+        conflict.key2
+    }
+}
+
 impl<T, S, A, B, C, Q> UniqueAt<Second, Q, T, S> for TriIndexOf<A, B, C>
 where
     A: HashKey<T>,
@@ -502,6 +545,28 @@ where
         self.first.remove(items, state, found);
         self.third.remove(items, state, found);
         Some(found)
+    }
+}
+
+impl<T, S, A, B, C> ReportsAt<Third, T, S> for TriIndexOf<A, B, C>
+where
+    A: HashKey<T>,
+    B: HashKey<T>,
+    C: HashKey<T>,
+    S: BuildHasher,
+{
+    ghost use Rattle.iddqd_map.specs.Map.{shares};
+    ghost use Rattle.iddqd_map.specs.PairLaws.{alike_second};
+    ghost use Rattle.iddqd_map.specs.Several.{either_key};
+
+    ghost alike_at = { shares C.key_of C.eq };
+
+    ghost alike_there = { λ x y is. let rest = either_key (shares B.key_of B.eq) (shares C.key_of C.eq) in
+        alike_second (shares A.key_of A.eq) rest x y
+        (alike_second (shares B.key_of B.eq) (shares C.key_of C.eq) x y is) };
+
+    fn reported_at(conflict: &TriClash) -> Option<ItemIndex> {
+        conflict.key3
     }
 }
 

@@ -6,7 +6,9 @@ ghost use Rattle.iddqd.specs.LiveItems.{live_items};
 ghost use Rattle.iddqd_keys.specs.OrderedQuery.{is_within};
 ghost use Rattle.iddqd_ord_map.specs.ItemOrder.{RemovesBetween, RetainsBetween};
 ghost use Rattle.std.specs.Ordering.{on};
+ghost use Rattle.iddqd_map.specs.Groups.{CountsHits};
 ghost use Rattle.iddqd_map.specs.Map.{capacity, room};
+ghost use Rattle.iddqd_map.specs.ModifyMany.{IsStoredHit, KeepsKeys, MayLeave, ModifiesWithin, TakesMut};
 ghost use Rattle.iddqd_map.specs.RangeRetain.{KeepsMisses, MayAskWithin};
 ghost use Rattle.iddqd_map.specs.Ranges.{GivesItem, LeavesOthers, MayGive};
 
@@ -63,5 +65,32 @@ impl<T: Drop, E: OrdKey<T>> OrdMapBy<T, E> {
         ensures count { result + live_count self.new.store ≡ live_count self.old.store }
     {
         self.map.retain_range_by::<Here, Q, F>(lower, upper, f)
+    }
+
+    /// Calls the closure with a `&mut` to each item whose key is within the bounds, by key, and returns how many there
+    /// are. With two open bounds these are all items.
+    ///
+    /// The caller proves that the closure leaves each of them its key, as for `modify`. All other items stay. It takes
+    /// no memory. It costs one search, and for each item a comparison with the upper bound.
+    pub fn modify_range<Q: ItemRangeQuery<T, E>, F: FnMut(&mut T)>(
+        &mut self,
+        lower: Bound<Q>,
+        upper: Bound<Q>,
+        f: F,
+    ) -> usize
+        requires callable { MayAskWithin (on E.key_of E.cmp) (is_within Q.compare_item lower upper)
+            (TakesMut F.FnMut) (MayLeave F.FnMut) f self.old.store }
+        requires keeps { KeepsKeys F.FnMut E.key_of
+            (IsStoredHit self.old.store (is_within Q.compare_item lower upper)) }
+        ensures modified { (last : F) × ModifiesWithin F.FnMut (on E.key_of E.cmp)
+            (is_within Q.compare_item lower upper) f self.old.store self.new.store last result }
+        ensures counted { CountsHits self.old.store (is_within Q.compare_item lower upper) result }
+        ensures others { KeepsMisses self.old.store (is_within Q.compare_item lower upper)
+            self.new.store }
+        ensures memory { self.new.memory ≡ self.old.memory }
+        ensures room { room self.new ≡ room self.old }
+        ensures count { live_count self.new.store ≡ live_count self.old.store }
+    {
+        self.map.modify_range_by::<Here, Q, F>(lower, upper, f)
     }
 }

@@ -2,7 +2,7 @@ use Rattle.std.proofs.Common.{rules}
 use Rattle.iddqd.specs.Store.{IsFull}
 use Rattle.iddqd.proofs.RoomLemmas.{not_full}
 use Rattle.iddqd_map.proofs.MapLemmas.{IsIndexed-inserted}
-use Rattle.iddqd_map.proofs.map.overwrites.insert_in_room.Goals as goal
+use Rattle.iddqd_map.proofs.map.steps.put_in_room.Goals as goal
 
 pub returns-clause-map : goal.returns-clause-map
 returns-clause-map g c =

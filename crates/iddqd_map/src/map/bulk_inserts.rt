@@ -1,0 +1,88 @@
+//! Inserts the items of an iterator.
+ghost use Rattle.std.specs.Prelude.{◌≡◌, ◌+◌, ℕ, List, Some, IfErr, IfSome};
+ghost use Rattle.std.specs.Iterator.{IsFinite, IsNearerEnd, UpTo};
+ghost use Rattle.iddqd.specs.{IsValid, get, live_count};
+ghost use Rattle.iddqd_map.specs.Bulk.{InsertsFrom, InsertsNext, InsertsUntil, inserted_count};
+ghost use Rattle.iddqd_map.specs.Calls.{IsDuplicate};
+ghost use Rattle.iddqd_map.specs.Map.{room};
+
+use super::Map;
+use crate::key_index::KeyIndex;
+use crate::refusal::{InsertRefusal, Stopped};
+use iddqd::item_index::ItemIndex;
+
+impl<T, X: KeyIndex<T, S>, S> Map<T, X, S> {
+    /// Inserts the items of an iterator in turn, up to the first that is refused, and returns how many there were.
+    ///
+    /// Each is inserted as by `insert_unique`. A refusal comes back with its item, with the number of items that were
+    /// inserted before it, and with the rest of the iterator; the items that were inserted stay. Memory is reserved at
+    /// once for as many items as the lower bound of `size_hint`, or as the limit allows; if it runs out, the items are
+    /// inserted all the same, as far as there is memory.
+    pub fn insert_all<I: Iterator<Item = T>>(
+        &mut self,
+        mut iter: I,
+    ) -> Result<usize, Stopped<T, X::Conflict, I>>
+        requires { I.can_next iter }
+        ensures inserts { InsertsFrom I.next_gives X.alike X.grown X.conflicts I.remaining X.most iter self.old result
+            self.new }
+        ensures count { live_count self.new.store ≡ live_count self.old.store + inserted_count result }
+        ensures others { (ix : ℕ) (item : T) → get self.old.store ix ≡ Some item → get self.new.store ix ≡ Some item }
+        ensures not_refused { UpTo (I.remaining iter) (room self.old)
+            → IfErr result (λ stopped. IsDuplicate stopped.refusal) }
+        ensures goes_on { IfErr result (λ stopped. I.can_next stopped.rest) }
+        ensures nearer { IsFinite (I.remaining iter)
+            → IfErr result (λ stopped. IsNearerEnd I.can_next I.remaining iter stopped.rest) }
+    {
+        let before = self.len();
+        let (least, _) = iter.size_hint();
+        let _reserved = self.reserve(least);
+        let refusal = self.insert_each(&mut iter);
+        let inserted = self.len() - before;
+        match refusal {
+            None => Ok(inserted),
+            Some(refusal) => Err(Stopped {
+                inserted,
+                refusal,
+                rest: iter,
+            }),
+        }
+    }
+
+    // Inserts the items of an iterator in turn, up to the first refusal, which it returns.
+    fn insert_each<I: Iterator<Item = T>>(
+        &mut self,
+        iter: &mut I,
+    ) -> Option<InsertRefusal<T, X::Conflict>>
+        requires can { I.can_next iter.old }
+        requires valid { IsValid self.old.store }
+        ensures inserts { (items : List T) × InsertsUntil I.next_gives X.alike X.grown X.conflicts iter.old
+            self.old items result iter.new self.new }
+        ensures not_refused { UpTo (I.remaining iter.old) (room self.old) → IfSome result IsDuplicate }
+        ensures goes_on { IfSome result (λ refusal. I.can_next iter.new) }
+        ensures nearer { IsFinite (I.remaining iter.old)
+            → IfSome result (λ refusal. IsNearerEnd I.can_next I.remaining iter.old iter.new) }
+    {
+        while let Some(answer) = self.insert_next(iter) {
+            if let Err(refusal) = answer {
+                return Some(refusal);
+            }
+        }
+        None
+    }
+
+    // Inserts the next item of an iterator; `None` at its end. A function of its own, since the check takes a loop over
+    // `next` to end by its iterator: the loop above ends by the map's limit.
+    fn insert_next<I: Iterator<Item = T>>(
+        &mut self,
+        iter: &mut I,
+    ) -> Option<Result<ItemIndex, InsertRefusal<T, X::Conflict>>>
+        requires { I.can_next iter.old }
+        ensures { InsertsNext I.next_gives X.alike X.grown X.conflicts I.can_next I.remaining iter.old self.old result
+            iter.new self.new }
+    {
+        match iter.next() {
+            Some(item) => Some(self.insert_unique(item)),
+            None => None,
+        }
+    }
+}

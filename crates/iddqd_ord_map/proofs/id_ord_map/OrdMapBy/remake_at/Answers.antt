@@ -1,0 +1,16 @@
+use Rattle.iddqd_ord_map.proofs.id_ord_map.OrdMapBy.remake_at.Goals as goal
+
+pub returns-clause-remakes : goal.returns-clause-remakes
+returns-clause-remakes g c = rw (← c.self.view_is) c.remake_at.ensures.remakes
+
+pub returns-clause-unchanged : goal.returns-clause-unchanged
+returns-clause-unchanged g c = rw (← c.self.view_is) c.remake_at.ensures.unchanged
+
+pub returns-clause-gone : goal.returns-clause-gone
+returns-clause-gone g c = rw (← c.self.view_is) c.remake_at.ensures.gone
+
+pub returns-clause-room : goal.returns-clause-room
+returns-clause-room g c = rw (← c.self.view_is) c.remake_at.ensures.room
+
+pub returns-clause-count : goal.returns-clause-count
+returns-clause-count g c = rw (← c.self.view_is) c.remake_at.ensures.count
