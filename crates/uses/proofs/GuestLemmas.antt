@@ -23,7 +23,7 @@ use Rattle.iddqd_maps.specs.OrderedWalk.{SortsWithin}
 use Rattle.uses.specs.Exchanges.{HitsBeside}
 use Rattle.uses.specs.Guests.{came_at, is_called, Came, HasArrival, HasNoArrival, IsBetween}
 use Rattle.uses.specs.declared.guests.Guest.{Guest}
-use Rattle.iddqd_maps.proofs.KeyLemmas.{is_earlier, is_tied as is_then}
+use Rattle.iddqd_maps.proofs.CallerLemmas.{is_earlier, is_tied as is_then}
 
 module _ (s : Store Guest) (name : List ℕ) (ix : ℕ) where
   pub came :

@@ -4,7 +4,7 @@ use Rattle.std.specs.Prelude.{Ok}
 use Rattle.std.specs.List.{count_by}
 use Rattle.iddqd_maps.specs.Calls.{Overwrites}
 use Rattle.iddqd_maps.specs.Map.{MapState}
-use Rattle.iddqd_maps.proofs.RemovalLemmas.{count-padded}
+use Rattle.iddqd_maps.proofs.CallerLemmas.{count-padded}
 use Rattle.uses.specs.Leases.{share_key, Grants}
 use Rattle.uses.specs.declared.leases.Lease.{Lease}
 

@@ -6,5 +6,7 @@ pub mod WordLemmas
 pub mod BadgeLemmas
 pub mod StockLemmas
 pub mod UpdateLemmas
+pub mod RemakeLemmas
 pub mod LeaseLemmas
 pub mod GuestLemmas
+pub mod IntakeLemmas

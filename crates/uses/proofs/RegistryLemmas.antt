@@ -7,7 +7,7 @@ use Rattle.std.specs.Cmp.Lexicographic.{bytes_decides}
 use Rattle.std.proofs.lemmas.List.{length_push}
 use Rattle.iddqd_maps.specs.Store.{IsFull, Store, get, next_index, filled, inserted, slot_limit}
 use Rattle.iddqd_maps.specs.Scan.{IsHit, AnswersScan}
-use Rattle.iddqd_maps.proofs.ScanLemmas.{scan_hits}
+use Rattle.iddqd_maps.proofs.CallerLemmas.{scan_hits}
 use Rattle.uses.specs.declared.registry.Entry.{Entry}
 use Rattle.uses.specs.Registry.{names_of, IsDense}
 

@@ -3,7 +3,7 @@ use Rattle.std.proofs.Common.{◌≡◌, ◌∙◌, ◌+◌, ◌-◌, ◌^◌, �
 use Rattle.std.specs.Borrow.{MutBor}
 use Rattle.std.specs.Fn.{Once}
 use Rattle.std.specs.Prelude.{Result, Ok, Err}
-use Rattle.iddqd_maps.proofs.CallerLemmas.{called_leaves, found_same}
+use Rattle.iddqd_maps.proofs.CallerLemmas.{called_leaves, found_same, is_same}
 use Rattle.iddqd_maps.specs.Calls.{Changes}
 use Rattle.iddqd_maps.specs.Map.{MapState, FindsItem}
 use Rattle.iddqd_maps.specs.Modify.{ModifiesAt}
@@ -15,7 +15,6 @@ use Rattle.uses.specs.Exchanges.{Exchanges}
 use Rattle.uses.specs.Stock.{has_kind, same_kind, with_one_less}
 use Rattle.uses.specs.declared.stock.Part.{Part}
 use Rattle.uses.proofs.ExchangeLemmas.{changes}
-use Rattle.iddqd_maps.proofs.KeyLemmas.{is_same}
 
 -- a change that keeps the kind of a part is not refused
 not_refused :

@@ -70,6 +70,24 @@ module _ {T : Type 0} (alike : T → T → Bool) where
   IsWhyNotAdded item old (Full back) = (back ≡ item) × HasNoHit old.store (alike item) × IsFull old.store
   IsWhyNotAdded item old (Memory back) = (back ≡ item) × HasNoHit old.store (alike item) × (room old ≡ 0)
 
+  -- Why an item that was made in place of the one at an index comes back, and none is there then: another one shares a
+  -- key with it, or memory ran out, which comes only where `may_need_memory` is true, and past the capacity.
+  abbrev pub IsWhyGone : {C : Type 0} → Bool → ℕ → T → MapState T → InsertRefusal T C → Type 0
+  IsWhyGone may_need_memory ix made old (Duplicate back at) = (back ≡ made) × HitsOther old.store (alike made) ix
+  IsWhyGone may_need_memory ix made old (Full back) = ⊥
+  IsWhyGone may_need_memory ix made old (Memory back) =
+      (back ≡ made) × (may_need_memory ≡ true) × (old.memory.capacity < live_count old.store)
+
+  -- the same of what `becomes` makes of the item at the index
+  abbrev pub IsWhyGoneAt : {C : Type 0} → Bool → ℕ → (T → T) → MapState T → InsertRefusal T C → Type 0
+  IsWhyGoneAt may_need_memory ix becomes old refusal =
+      (was : T) × (get old.store ix ≡ Some was) × IsWhyGone may_need_memory ix (becomes was) old refusal
+
+  -- and of what it makes of the item that passes the test
+  abbrev pub IsWhyGoneBy : {C : Type 0} → Bool → (T → Bool) → (T → T) → MapState T → InsertRefusal T C → Type 0
+  IsWhyGoneBy may_need_memory test becomes old refusal =
+      (ix : ℕ) × (was : T) × IsOnly old.store test ix was × IsWhyGone may_need_memory ix (becomes was) old refusal
+
   -- an item at another index than this one shares a key with the item, whatever is reported
   abbrev pub IsKeyTaken : {C : Type 0} → Store T → ℕ → T → C → Type 0
   IsKeyTaken s ix item at = HitsOther s (alike item) ix

@@ -7,6 +7,7 @@ pub mod RouteLaws
 pub mod Registry
 pub mod Calendar
 pub mod Devices
+pub mod Intake
 pub mod Ledger
 pub mod Sessions
 pub mod Diary

@@ -1,6 +1,8 @@
 -- Scores by their hours.
 use Rattle.std.specs.Prelude.{ℕ, Bool}
 use Rattle.std.specs.Ordering.{nat_cmp, eq_by_cmp}
+use Rattle.std.specs.declared.ops.Bound.TheVariants.{Included, Unbounded}
+use Rattle.iddqd_maps.specs.OrderedQuery.{is_within}
 use Rattle.uses.specs.declared.scores.Score.{Score}
 
 -- the score is of this hour
@@ -15,6 +17,14 @@ with_hour hour score = record score { hour = hour }
 abbrev pub with_points : ℕ → Score → Score
 with_points points score = record score { points = points }
 
+-- the score of this hour without points
+abbrev pub unscored : ℕ → Score
+unscored hour = record { hour = hour; points = 0 }
+
 -- the scores are of one hour
 abbrev pub same_hour : Score → Score → Bool
 same_hour x y = has_hour x.hour y
+
+-- the score is of this hour or a later one
+abbrev pub is_from : ℕ → Score → Bool
+is_from hour score = is_within (λ (from : ℕ) (score : Score). nat_cmp from score.hour) (Included hour) Unbounded score

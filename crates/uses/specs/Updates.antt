@@ -1,7 +1,7 @@
 -- What calls return of an item that they find, and what they leave if they change it.
-use Rattle.std.specs.Prelude.{◌≡◌, ℕ, Bool, Option, Some, None}
+use Rattle.std.specs.Prelude.{◌≡◌, ℕ, Bool, true, Option, Some, None}
 use Rattle.iddqd_maps.specs.Map.{MapState, IsOnly}
-use Rattle.iddqd_maps.specs.Scan.{HasNoHit}
+use Rattle.iddqd_maps.specs.Scan.{HasNoHit, IsHit}
 use Rattle.iddqd_maps.specs.Store.{Store, get, rebound}
 
 module _ {T : Type 0} where
@@ -16,6 +16,10 @@ module _ {T : Type 0} where
   abbrev pub UpdatesItem : Store T → ℕ → (T → T) → Store T → Type 0
   UpdatesItem old ix becomes new = (was : T) × (get old ix ≡ Some was) × (new ≡ rebound old ix (becomes was))
 
+  -- the one item that passes the test is at the index and was updated, and all others stay
+  abbrev pub UpdatesHit : Store T → (T → Bool) → ℕ → (T → T) → Store T → Type 0
+  UpdatesHit old test ix becomes new = (was : T) × IsOnly old test ix was × (new ≡ rebound old ix (becomes was))
+
   -- What an update of the item that passes the test may return and leave. It returns `None` if and only if no item
   -- passes, and then nothing changes.
   abbrev pub Updates : MapState T → (T → Bool) → (T → T) → Option (Unit {0}) → MapState T → Type 0
@@ -28,3 +32,8 @@ module _ {T : Type 0} where
   abbrev pub UpdatesAt : MapState T → ℕ → (T → T) → Option (Unit {0}) → MapState T → Type 0
   UpdatesAt old ix becomes (Some done) new = UpdatesItem old.store ix becomes new.store × (new.memory ≡ old.memory)
   UpdatesAt old ix becomes None new = (get old.store ix ≡ None) × (new ≡ old)
+
+  -- each item that passes the test was updated, and all others stay
+  pub record UpdatesAll (old : Store T) (test : T → Bool) (becomes : T → T) (new : Store T) : Type 0 where
+    pub updated : (ix : ℕ) (item : T) → get old ix ≡ Some item → test item ≡ true → get new ix ≡ Some (becomes item)
+    pub others : (ix : ℕ) → (IsHit old test ix → ⊥) → get new ix ≡ get old ix

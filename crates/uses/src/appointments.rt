@@ -1,5 +1,5 @@
 //! Appointments by their rooms and starts, in that order: all of a room are a group, by the first part of the key.
-ghost use Rattle.std.specs.Prelude.{◌≡◌, ◌+◌, IfOk, IfErr, OnOk, OnErr};
+ghost use Rattle.std.specs.Prelude.{◌≡◌, ◌+◌, true, IfOk, IfErr, OnOk, OnErr};
 ghost use Rattle.std.specs.Option.{option_map};
 ghost use Rattle.iddqd_maps.specs.Drops.{Drops};
 ghost use Rattle.iddqd_maps.specs.Groups.{CountsHits};
@@ -7,7 +7,7 @@ ghost use Rattle.iddqd_maps.specs.InOrder.{shown, FindsFirst, IteratesInOrder};
 ghost use Rattle.iddqd_maps.specs.Map.{FindsItem};
 ghost use Rattle.iddqd_maps.specs.Store.{inserted, live_count, next_index};
 ghost use Rattle.uses.specs.Appointments.{by_room, is_at, is_in, is_in_from, same_place, starting};
-ghost use Rattle.uses.specs.Exchanges.{ExchangesIfFound, IsWhyNotAdded};
+ghost use Rattle.uses.specs.Exchanges.{ExchangesIfFound, IsKeyTaken, IsWhyNotAdded, IsWhyNotChanged};
 
 use iddqd_maps::by_order::ByOrderOf;
 use iddqd_maps::in_order::InOrder;
@@ -89,6 +89,8 @@ pub fn move_to(
 ) -> Result<Option<Appointment>, ReplaceRefusal<Appointment, ItemIndex>>
     ensures moved { let at = is_at room start in IfOk result
         (λ found. ExchangesIfFound same_place at (starting to) appointments.old found appointments.new) }
+    ensures refused { IfErr result
+        (IsWhyNotChanged (IsKeyTaken same_place) true (is_at room start) (starting to) appointments.old) }
     ensures unchanged { OnErr result (appointments.new ≡ appointments.old) }
 {
     appointments.change_by::<Here, _, _>(

@@ -1,17 +1,14 @@
 //! Artifacts by their names and versions: a key of two texts, both of which a look-up borrows.
-ghost use Rattle.std.specs.Prelude.{◌≡◌, IfOk, IfErr, OnOk, OnErr, option_copied};
-ghost use Rattle.iddqd_maps.specs.Map.{FindsItem, Removes};
+ghost use Rattle.std.specs.Prelude.{◌≡◌, false, None, IfOk, IfErr, IfSome, IfNone, OnOk, OnErr, option_copied};
+ghost use Rattle.iddqd_maps.specs.Map.{FindsItem, Removes, RemovesHit};
 ghost use Rattle.iddqd_maps.specs.Scan.{HasNoHit};
-ghost use Rattle.iddqd_maps.specs.Store.{inserted, next_index};
-ghost use Rattle.uses.specs.Artifacts.{is_called, same_artifact, with_size};
-ghost use Rattle.uses.specs.Exchanges.{IsWhyNotAdded};
-ghost use Rattle.uses.specs.Updates.{Updates};
+ghost use Rattle.iddqd_maps.specs.Store.{get, inserted, next_index, removed};
+ghost use Rattle.uses.specs.Artifacts.{IsReleased, Releases, is_called, same_artifact, with_size, with_version};
+ghost use Rattle.uses.specs.declared.artifacts.Artifact.{Artifact};
+ghost use Rattle.uses.specs.Exchanges.{IsWhyGoneAt, IsWhyNotAdded};
+ghost use Rattle.uses.specs.Updates.{Updates, UpdatesItem};
 
-use iddqd_maps::id_hash_map::HashMapBy;
-use iddqd_maps::item_index::ItemIndex;
-use iddqd_maps::key_kinds::Field;
-use iddqd_maps::key_of::KeyOf;
-use iddqd_maps::refusal::InsertRefusal;
+use iddqd_maps::{Field, HashMapBy, Here, InsertRefusal, ItemIndex, KeyOf};
 use std::alloc::{AllocError, Global};
 
 /// An artifact. No two have the same name and version.
@@ -87,6 +84,55 @@ pub fn remove(artifacts: &mut Artifacts, name: &str, version: &str) -> Option<Ar
     artifacts.remove((name, version))
 }
 
+/// Gives an artifact another version, which it keeps under its index; `Ok(None)` if and only if there is no such
+/// artifact. It takes no memory. If another artifact has its name and the new version, it comes back and is gone.
+pub fn release(
+    artifacts: &mut Artifacts,
+    name: &str,
+    version: &str,
+    next: String,
+) -> Result<Option<ItemIndex>, InsertRefusal<Artifact, ItemIndex>>
+    ensures released { IfOk result (λ found. IfSome found
+        (Releases artifacts.old.store name.now version.now next artifacts.new.store)) }
+    ensures missing { let called = is_called name.now version.now in
+        IfOk result (λ found. IfNone found (HasNoHit artifacts.old.store called)) }
+    ensures unchanged { IfOk result (λ found. IfNone found (artifacts.new ≡ artifacts.old)) }
+    ensures refused { OnErr result (IsReleased artifacts.old.store name.now version.now next) }
+    ensures gone { OnErr result ((was : Artifact)
+        × RemovesHit artifacts.old (is_called name.now version.now) was artifacts.new) }
+{
+    artifacts.remake_by::<Here, _, _>(
+        (name, version),
+        |artifact| Artifact {
+            version: next,
+            ..artifact
+        },
+    )
+}
+
+/// The same by an artifact's index.
+pub fn release_at(
+    artifacts: &mut Artifacts,
+    ix: ItemIndex,
+    next: String,
+) -> Result<Option<ItemIndex>, InsertRefusal<Artifact, ItemIndex>>
+    ensures released { IfOk result (λ found. IfSome found
+        (λ at. (at ≡ ix) × UpdatesItem artifacts.old.store ix (with_version next) artifacts.new.store)) }
+    ensures missing { IfOk result (λ found. IfNone found (get artifacts.old.store ix ≡ None)) }
+    ensures unchanged { IfOk result (λ found. IfNone found (artifacts.new ≡ artifacts.old)) }
+    ensures refused { IfErr result
+        (IsWhyGoneAt same_artifact false ix (with_version next) artifacts.old) }
+    ensures gone { OnErr result (artifacts.new.store ≡ removed artifacts.old.store ix) }
+{
+    artifacts.remake_at(
+        ix,
+        |artifact| Artifact {
+            version: next,
+            ..artifact
+        },
+    )
+}
+
 fn made(alloc: Global, name: &str, version: &str) -> Result<Artifact, AllocError> {
     Ok(Artifact {
         name: String::from_str(alloc, name)?,
@@ -105,9 +151,19 @@ fn script(alloc: Global, artifacts: &mut Artifacts) -> Result<String, AllocError
         find(artifacts, "serde", "").is_some(),
         find(artifacts, "serde1", ".1").is_some(),
     );
+    let next = (
+        release(artifacts, "serde", "1.1", String::from_str(alloc, "2.0")?).is_ok(),
+        release_at(
+            artifacts,
+            ItemIndex::new(7),
+            String::from_str(alloc, "3.0")?,
+        )
+        .is_ok(),
+        find(artifacts, "serde", "2.0").is_some(),
+    );
     let removed = remove(artifacts, "serde", "1.0").is_some();
     format!(in alloc;
-        "artifacts: {first}, {second}, {third}, {resized}, {found:?}, {removed}, {}",
+        "artifacts: {first}, {second}, {third}, {resized}, {found:?}, {next:?}, {removed}, {}",
         artifacts.len()
     )
 }

@@ -1,24 +1,30 @@
 //! A board of scores: further calls of an `IdOrdMap`, beside those of `scores` and `words`, and what each promises.
-ghost use Rattle.std.specs.Prelude.{◌≡◌, ◌⊎◌, ◌≤◌, ◌<◌, ◌+◌, ◌↔◌, false, true, length, max, min, Some, IfOk, IfErr, OnOk, OnErr};
+ghost use Rattle.std.specs.Prelude.{◌≡◌, ◌⊎◌, ◌≤◌, ◌<◌, ◌+◌, ◌↔◌, ℕ, Ok, false, true, length, max, min, None, Some, IfOk, IfErr, IfSome, IfNone, OnOk, OnErr};
 ghost use Rattle.std.specs.Ordering.{nat_cmp, eq_by_cmp};
 ghost use Rattle.std.specs.declared.cmp.Ordering.TheVariants.{Less, Greater};
+ghost use Rattle.std.specs.Iterator.{UpTo};
+ghost use Rattle.iddqd_maps.specs.Bulk.{inserted_count};
+ghost use Rattle.iddqd_maps.specs.Calls.{IsDuplicate};
 ghost use Rattle.iddqd_maps.specs.Compaction.{compacted};
+ghost use Rattle.iddqd_maps.specs.Groups.{CountsHits};
 ghost use Rattle.iddqd_maps.specs.KeyOrder.{AreInKeyOrder, FindsEnd, IsKeyWalk, PopsEnd};
-ghost use Rattle.iddqd_maps.specs.Map.{FindsItem, Removes, RemovesAt, capacity, empty_map, room};
+ghost use Rattle.iddqd_maps.specs.Map.{FindsItem, Removes, RemovesAt, RemovesHit, capacity, empty_map, room};
 ghost use Rattle.iddqd_maps.specs.OneKey.{IsTaken};
-ghost use Rattle.iddqd_maps.specs.Scan.{AnswersScan, HasNoHit};
+ghost use Rattle.iddqd_maps.specs.Scan.{AnswersScan, HasNoHit, IsHit};
 ghost use Rattle.iddqd_maps.specs.Sizes.{insertable};
-ghost use Rattle.iddqd_maps.specs.Store.{cleared, empty, get, live_count, rebound, slot_count, slot_limit};
+ghost use Rattle.iddqd_maps.specs.Store.{cleared, empty, get, inserted, live_count, next_index, rebound, removed, slot_count, slot_limit};
 ghost use Rattle.iddqd_maps.specs.Validation.{Tells, Validates, not_compact_text};
 ghost use Rattle.iddqd_maps.specs.Drops.{Drops};
-ghost use Rattle.uses.specs.Exchanges.{Exchanges, ExchangesIfFound, IsWhyNot, IsWhyNotAt, IsWhyNotChanged, IsWhyNotTakenOver, TakesOverOne};
-ghost use Rattle.uses.specs.Scores.{has_hour, same_hour, with_hour, with_points};
-ghost use Rattle.uses.specs.Updates.{Updates, UpdatesAt};
+ghost use Rattle.uses.specs.Exchanges.{Exchanges, ExchangesIfFound, IsWhyGoneAt, IsWhyGoneBy, IsWhyNot, IsWhyNotAdded, IsWhyNotAt, IsWhyNotChanged, IsWhyNotTakenOver, TakesOverOne};
+ghost use Rattle.uses.specs.Intake.{AddsAll, AddsUntil};
+ghost use Rattle.uses.specs.Scores.{has_hour, is_from, same_hour, unscored, with_hour, with_points};
+ghost use Rattle.uses.specs.declared.scores.Score.{Score};
+ghost use Rattle.uses.specs.Updates.{Updates, UpdatesAll, UpdatesAt, UpdatesHit, UpdatesItem};
 
 use crate::scores::Score;
 use iddqd_maps::id_ord_map::{IdOrdMap, IntoValues, Iter, Values};
 use iddqd_maps::item_index::ItemIndex;
-use iddqd_maps::refusal::{OverwriteRefusal, ReplaceRefusal};
+use iddqd_maps::refusal::{InsertRefusal, OverwriteRefusal, ReplaceRefusal, Stopped};
 use iddqd_maps::{ValidateCompact, ValidateRefusal, ValidationError};
 use std::alloc::{AllocError, Global};
 use std::ops::Bound;
@@ -253,4 +259,112 @@ pub fn forget_low(board: &mut Board, hour: u32, least: u32) -> usize
     board.retain_range(Bound::Unbounded, Bound::Included(&hour), |score| {
         score.points >= least
     })
+}
+
+/// Voids the scores of an hour and of later ones, and returns how many they are. It takes no memory.
+pub fn void_from(board: &mut Board, hour: u32) -> usize
+    ensures void { UpdatesAll board.old.store (is_from hour) (with_points 0) board.new.store }
+    ensures counted { CountsHits board.old.store (is_from hour) result }
+    ensures memory { board.new.memory ≡ board.old.memory }
+{
+    board.modify_range(
+        Bound::Included(&hour),
+        Bound::Unbounded,
+        |score| score.points = 0,
+    )
+}
+
+/// Gives the score of its hour the points of this one, or adds this one if there is none. It is refused only then.
+pub fn enter(board: &mut Board, score: Score) -> Result<ItemIndex, InsertRefusal<Score, ItemIndex>>
+    ensures index { (ix : ℕ) → IsHit board.old.store (same_hour score) ix → result ≡ Ok ix }
+    ensures given { (ix : ℕ) → IsHit board.old.store (same_hour score) ix →
+        UpdatesItem board.old.store ix (with_points score.points) board.new.store }
+    ensures added { HasNoHit board.old.store (same_hour score) → OnOk result
+        (board.new.store ≡ inserted board.old.store score) }
+    ensures place { HasNoHit board.old.store (same_hour score) → IfOk result (λ ix. ix ≡ next_index board.old.store) }
+    ensures refused { IfErr result (IsWhyNotAdded same_hour score board.old) }
+    ensures unchanged { OnErr result (board.new.store ≡ board.old.store) }
+{
+    board.modify_or_insert(score, |was, new| was.points = new.points)
+}
+
+/// Adds scores in turn, up to the first that is refused: it comes back with the rest.
+pub fn add_all<I: Iterator<Item = Score>>(
+    board: &mut Board,
+    scores: I,
+) -> Result<usize, Stopped<Score, ItemIndex, I>>
+    requires { I.can_next scores }
+    ensures all { IfOk result (λ count. AddsAll I.next_gives scores board.old.store count board.new.store) }
+    ensures refused { IfErr result
+        (λ stopped. AddsUntil I.next_gives scores board.old.store stopped board.new.store) }
+    ensures count { live_count board.new.store ≡ live_count board.old.store + inserted_count result }
+    ensures others { (ix : ℕ) (score : Score) → get board.old.store ix ≡ Some score
+        → get board.new.store ix ≡ Some score }
+    ensures taken { UpTo (I.remaining scores) (room board.old)
+        → IfErr result (λ stopped. IsDuplicate stopped.refusal) }
+{
+    board.insert_all(scores)
+}
+
+/// The index of the score of an hour; if there is none, of one without points, which is added.
+pub fn hour_or_new(
+    board: &mut Board,
+    hour: u32,
+) -> Result<ItemIndex, InsertRefusal<Score, ItemIndex>>
+    ensures there { IfOk result (IsHit board.new.store (has_hour hour)) }
+    ensures found { (ix : ℕ) → IsHit board.old.store (has_hour hour) ix →
+        (result ≡ Ok ix) × (board.new ≡ board.old) }
+    ensures added { HasNoHit board.old.store (has_hour hour) → OnOk result
+        (board.new.store ≡ inserted board.old.store (unscored hour)) }
+    ensures refused { IfErr result (IsWhyNotAdded same_hour (unscored hour) board.old) }
+    ensures unchanged { OnErr result (board.new.store ≡ board.old.store) }
+{
+    board.find_or_insert_with(&hour, || Score { hour, points: 0 })
+}
+
+/// Moves the score of an hour to another one, as `move_to` does, and returns its index. If another one is of that hour,
+/// or memory ran out, it comes back and is on the board no longer.
+pub fn shift(
+    board: &mut Board,
+    hour: u32,
+    other: u32,
+) -> Result<Option<ItemIndex>, InsertRefusal<Score, ItemIndex>>
+    ensures shifted { IfOk result (λ found. IfSome found
+        (λ ix. UpdatesHit board.old.store (has_hour hour) ix (with_hour other) board.new.store)) }
+    ensures missing { IfOk result (λ found. IfNone found (HasNoHit board.old.store (has_hour hour))) }
+    ensures unchanged { IfOk result (λ found. IfNone found (board.new ≡ board.old)) }
+    ensures refused { IfErr result
+        (IsWhyGoneBy same_hour true (has_hour hour) (with_hour other) board.old) }
+    ensures gone { OnErr result
+        ((was : Score) × RemovesHit board.old (has_hour hour) was board.new) }
+{
+    board.remake(
+        &hour,
+        |score| Score {
+            hour: other,
+            ..score
+        },
+    )
+}
+
+/// The same of the score at an index.
+pub fn shift_at(
+    board: &mut Board,
+    ix: ItemIndex,
+    other: u32,
+) -> Result<Option<ItemIndex>, InsertRefusal<Score, ItemIndex>>
+    ensures shifted { IfOk result (λ found. IfSome found
+        (λ at. (at ≡ ix) × UpdatesItem board.old.store ix (with_hour other) board.new.store)) }
+    ensures missing { IfOk result (λ found. IfNone found (get board.old.store ix ≡ None)) }
+    ensures unchanged { IfOk result (λ found. IfNone found (board.new ≡ board.old)) }
+    ensures refused { IfErr result (IsWhyGoneAt same_hour true ix (with_hour other) board.old) }
+    ensures gone { OnErr result (board.new.store ≡ removed board.old.store ix) }
+{
+    board.remake_at(
+        ix,
+        |score| Score {
+            hour: other,
+            ..score
+        },
+    )
 }

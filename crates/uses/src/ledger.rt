@@ -1,34 +1,25 @@
 //! Orders by their numbers, by their customers, and in the order of their days. Many orders may have one customer, and
 //! many may be due on one day.
-ghost use Rattle.std.specs.Prelude.{◌≡◌, ◌==◌, ◌≤◌, ◌<◌, ◌+◌, ◌↔◌, true, false, length, IfOk, IfErr, OnOk, OnErr, OnSome};
+ghost use Rattle.std.specs.Prelude.{◌≡◌, ◌==◌, ◌≤◌, ◌<◌, ◌+◌, ◌↔◌, ℕ, Ok, true, false, length, IfOk, IfErr, OnOk, OnErr, OnSome};
 ghost use Rattle.std.specs.Option.{option_map};
 ghost use Rattle.iddqd_maps.specs.Groups.{CountsHits, FindsSome};
 ghost use Rattle.iddqd_maps.specs.Map.{FindsItem};
 ghost use Rattle.iddqd_maps.specs.InGroups.{ListsHits};
 ghost use Rattle.iddqd_maps.specs.InOrder.{shown, FindsFirst, FindsLast, IteratesInOrder, PopsFirst, PopsLast};
-ghost use Rattle.iddqd_maps.specs.Scan.{HasNoHit};
+ghost use Rattle.iddqd_maps.specs.Scan.{HasNoHit, IsHit};
 ghost use Rattle.iddqd_maps.specs.Store.{inserted, live_count, next_index};
 ghost use Rattle.iddqd_maps.specs.Drops.{Drops};
 ghost use Rattle.uses.specs.Exchanges.{IsWhyNotAdded};
-ghost use Rattle.uses.specs.Ledger.{by_day, is_due_from, is_due_on, shares_number};
+ghost use Rattle.uses.specs.Ledger.{by_day, halved, has_number, is_due_from, is_due_on, shares_number, unpriced};
+ghost use Rattle.uses.specs.Updates.{UpdatesAll};
 ghost use Rattle.uses.specs.declared.ledger.Order.{Order};
 
-use iddqd_maps::by_hash::ByHash;
-use iddqd_maps::by_hash_multi::ByHashMulti;
-use iddqd_maps::by_order_multi::ByOrderMulti;
 use iddqd_maps::id_ord_map::Iter;
-use iddqd_maps::in_groups::{GroupItems, InGroups};
-use iddqd_maps::in_order::InOrder;
-use iddqd_maps::item_index::ItemIndex;
-use iddqd_maps::key_index::{Here, Left, Right};
-use iddqd_maps::key_kinds::Field;
-use iddqd_maps::key_of::KeyOf;
-use iddqd_maps::map::Map;
-use iddqd_maps::no_conflict::NoConflict;
 use iddqd_maps::ordered_walk::Range;
-use iddqd_maps::pair::Pair;
-use iddqd_maps::pair_conflict::PairConflict;
-use iddqd_maps::refusal::InsertRefusal;
+use iddqd_maps::{
+    ByHash, ByHashMulti, ByOrderMulti, Field, GroupItems, Here, InGroups, InOrder, InsertRefusal,
+    ItemIndex, KeyOf, Left, Map, NoConflict, Pair, PairConflict, Right,
+};
 use std::alloc::{AllocError, Global};
 use std::ops::Bound;
 
@@ -254,6 +245,72 @@ pub fn drop_small_until(ledger: &mut Ledger, day: u32, least: u64) -> usize
     })
 }
 
+/// Halves the amount of each order, and returns how many orders there are. It takes no memory.
+pub fn halve_all(ledger: &mut Ledger) -> usize
+    ensures halved { UpdatesAll ledger.old.store (λ order. true) halved ledger.new.store }
+    ensures all { result ≡ live_count ledger.old.store }
+    ensures memory { ledger.new.memory ≡ ledger.old.memory }
+{
+    ledger.modify_each(|order| order.amount /= 2)
+}
+
+/// Halves the amounts of the orders of a day and of later ones, and returns how many they are. It takes no memory.
+pub fn halve_from(ledger: &mut Ledger, day: u32) -> usize
+    ensures halved { UpdatesAll ledger.old.store (is_due_from day) halved ledger.new.store }
+    ensures counted { CountsHits ledger.old.store (is_due_from day) result }
+    ensures memory { ledger.new.memory ≡ ledger.old.memory }
+{
+    ledger.modify_range_by::<ByDay, _, _>(Bound::Included(&day), Bound::Unbounded, |order| {
+        order.amount /= 2
+    })
+}
+
+/// Halves the amounts of the orders of a day, and returns how many they are. It takes no memory.
+pub fn halve_day(ledger: &mut Ledger, day: u32) -> usize
+    ensures halved { UpdatesAll ledger.old.store (is_due_on day) halved ledger.new.store }
+    ensures counted { CountsHits ledger.old.store (is_due_on day) result }
+    ensures memory { ledger.new.memory ≡ ledger.old.memory }
+{
+    ledger.modify_group_by::<ByDay, _, _>(&day, |order| order.amount /= 2)
+}
+
+/// Halves the amounts of a customer's orders, and returns how many they are. It takes no memory.
+pub fn halve_of(ledger: &mut Ledger, customer: u32) -> usize
+    ensures halved { UpdatesAll ledger.old.store (λ order. customer == order.customer) halved ledger.new.store }
+    ensures counted { CountsHits ledger.old.store (λ order. customer == order.customer) result }
+    ensures memory { ledger.new.memory ≡ ledger.old.memory }
+{
+    ledger.modify_hashed_group_by::<ByCustomer, _, _>(&customer, |order| order.amount /= 2)
+}
+
+/// The index of the order with this number; if there is none, of one of this customer and day that comes to nothing,
+/// which is added.
+pub fn number_or_new(
+    ledger: &mut Ledger,
+    number: u64,
+    customer: u32,
+    day: u32,
+) -> Result<ItemIndex, InsertRefusal<Order, Taken>>
+    ensures there { IfOk result (IsHit ledger.new.store (has_number number)) }
+    ensures found { (ix : ℕ) → IsHit ledger.old.store (has_number number) ix →
+        (result ≡ Ok ix) × (ledger.new ≡ ledger.old) }
+    ensures added { HasNoHit ledger.old.store (has_number number) →
+        OnOk result (ledger.new.store ≡ inserted ledger.old.store (unpriced number customer day)) }
+    ensures refused { IfErr result
+        (IsWhyNotAdded shares_number (unpriced number customer day) ledger.old) }
+    ensures unchanged { OnErr result (ledger.new.store ≡ ledger.old.store) }
+{
+    ledger.find_or_insert_with::<ByNumber, _, _>(
+        &number,
+        || Order {
+            number,
+            customer,
+            day,
+            amount: 0,
+        },
+    )
+}
+
 fn added(ledger: &mut Ledger, number: u64, customer: u32, day: u32) -> bool {
     let amount = 10 * (number % 10);
     add(
@@ -299,14 +356,27 @@ fn script(alloc: Global, ledger: &mut Ledger) -> Result<String, AllocError> {
         orders_of(ledger, &8).next().is_some(),
     );
     let small = (drop_small(ledger, 20, 20), drop_small_until(ledger, 20, 40));
+    let halved = (
+        halve_all(ledger),
+        halve_from(ledger, 30),
+        halve_day(ledger, 20),
+        halve_of(ledger, 7),
+    );
+    let numbered = (
+        number_or_new(ledger, 3, 9, 90).is_ok(),
+        number_or_new(ledger, 9, 9, 40).is_ok(),
+        ledger.len(),
+    );
+    let later = (halved, numbered);
     let gone = (forget(ledger, 7), close_day(ledger, 30));
     let more = added_two(ledger);
     let taken = (
         take_first_due(ledger).is_some(),
         take_last_due(ledger).is_some(),
     );
+    let changed = (small, later, gone);
     format!(in alloc;
-        "ledger: {added:?}, {counts:?}, {walk:?}, {ends:?}, {early}, {left:?}, {small:?}, {gone:?}, {more:?}, {taken:?}"
+        "ledger: {added:?}, {counts:?}, {walk:?}, {ends:?}, {early}, {left:?}, {changed:?}, {more:?}, {taken:?}"
     )
 }
 

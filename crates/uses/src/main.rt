@@ -1,5 +1,5 @@
 //! Callers of the maps and of keyed items, a module each. All are proved. The program prints what those answer that
-//! have a `line`; `board`, `depot`, `diary`, `hall` and `lockers` are proved only.
+//! have a `line`; `board`, `depot`, `diary`, `hall`, `intake` and `lockers` are proved only.
 #![tactic(auto)]
 
 mod appointments;
@@ -14,6 +14,7 @@ mod guests;
 mod hall;
 mod handles;
 mod hashers;
+mod intake;
 mod leases;
 mod ledger;
 mod lockers;

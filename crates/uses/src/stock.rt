@@ -9,10 +9,10 @@ ghost use Rattle.uses.specs.Exchanges.{Exchanges};
 ghost use Rattle.uses.specs.Stock.{has_kind, same_kind, sum_of, with_one_less};
 ghost use Rattle.uses.specs.declared.stock.Part.{Part};
 
-use iddqd_maps::id_hash_map::{IdHashItem, IdHashMap};
-use iddqd_maps::item_index::ItemIndex;
-use iddqd_maps::refusal::InsertRefusal;
-use iddqd_maps::{ValidateCompact, ValidateRefusal, ValidationError};
+use iddqd_maps::{
+    Here, IdHashItem, IdHashMap, InsertRefusal, ItemIndex, ValidateCompact, ValidateRefusal,
+    ValidationError,
+};
 use std::alloc::{AllocError, Global};
 
 /// So many parts of a kind.
@@ -60,12 +60,11 @@ pub fn merge(stock: &mut IdHashMap<Part>, part: Part) -> Result<(), Part>
         × (IsFull stock.old.store ⊎ (room stock.old ≡ 0))) }
     ensures unchanged { OnErr result (stock.new.store ≡ stock.old.store) }
 {
-    match stock.insert_unique(part) {
+    match stock.modify_or_insert_by::<Here, _>(part, |was, more| {
+        was.count = was.count.saturating_add(more.count)
+    }) {
         Ok(_) => Ok(()),
-        Err(InsertRefusal::Duplicate { at, .. }) => {
-            stock.modify_at(at, |was| was.count = was.count.saturating_add(part.count));
-            Ok(())
-        }
+        Err(InsertRefusal::Duplicate { .. }) => unreachable!(),
         Err(InsertRefusal::Full(item)) => Err(item),
         Err(InsertRefusal::Memory(item)) => Err(item),
     }

@@ -1,7 +1,7 @@
 use Rattle.uses.specs.Badges.{same_holder, same_number}
 use Rattle.uses.specs.declared.badges.Badge.{Badge}
 use Rattle.uses.proofs.BadgeLemmas.{why_taken}
-use Rattle.iddqd_maps.proofs.ConflictLemmas.{first_hits, second_hits}
+use Rattle.iddqd_maps.proofs.CallerLemmas.{first_hits, second_hits}
 use Rattle.uses.proofs.badges.hand_out.Goals as goal
 
 pub returns-in-Ok-clause-new_number : goal.returns-in-Ok-clause-new_number

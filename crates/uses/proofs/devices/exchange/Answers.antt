@@ -3,7 +3,7 @@ use Rattle.std.specs.Prelude.{Ok, Err, IfOk, IfErr}
 use Rattle.iddqd_maps.specs.declared.refusal.ReplaceRefusal.TheVariants.{Missing, Duplicate, Memory}
 use Rattle.uses.specs.Devices.{has_serial, share_key}
 use Rattle.uses.specs.Exchanges.{Exchanges, IsKeyTaken, IsWhyNot}
-use Rattle.iddqd_maps.proofs.ConflictLemmas.{reported_other}
+use Rattle.iddqd_maps.proofs.CallerLemmas.{reported_other}
 use Rattle.uses.proofs.devices.exchange.Goals as goal
 
 pub returns-clause-exchanged : goal.returns-clause-exchanged

@@ -1,5 +1,5 @@
 use Rattle.std.proofs.Common.{rules, ◌≡◌, nat_le, refl}
-use Rattle.iddqd_maps.proofs.RetainedLemmas.{RetainsTo-tested}
+use Rattle.iddqd_maps.proofs.CallerLemmas.{RetainsTo-tested}
 use Rattle.uses.specs.declared.calendar.Appointment.{Appointment}
 use Rattle.uses.proofs.diary.cancel_before.Goals as goal
 

@@ -2,7 +2,7 @@ use Rattle.std.proofs.Common.{rules, ◌≡◌, ◌+◌, ◌≤◌, length, nat_
 use Rattle.iddqd_keyed.specs.LiveItems.{live_items}
 use Rattle.iddqd_keyed.proofs.LiveItemLemmas.{length-items_in}
 use Rattle.iddqd_keyed.proofs.RetainLemmas.{AsksInTurn-to_come}
-use Rattle.iddqd_maps.proofs.RetainedLemmas.{RetainsTo-tested}
+use Rattle.iddqd_maps.proofs.CallerLemmas.{RetainsTo-tested}
 use Rattle.uses.specs.declared.guests.Guest.{Guest}
 use Rattle.uses.proofs.guests.dismiss.Goals as goal
 

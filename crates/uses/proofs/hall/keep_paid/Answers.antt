@@ -1,5 +1,5 @@
 use Rattle.std.proofs.Common.{rules}
-use Rattle.iddqd_maps.proofs.RetainedLemmas.{Retains-tested}
+use Rattle.iddqd_maps.proofs.CallerLemmas.{Retains-tested}
 use Rattle.uses.specs.declared.seats.Seat.{Seat}
 use Rattle.uses.proofs.hall.keep_paid.Goals as goal
 

@@ -4,7 +4,7 @@ use Rattle.iddqd_maps.specs.Scan.{HasNoHit}
 use Rattle.iddqd_maps.specs.declared.refusal.InsertRefusal.TheVariants.{Duplicate, Full, Memory}
 use Rattle.uses.specs.Exchanges.{IsWhyNotAdded}
 use Rattle.uses.specs.Ledger.{shares_number}
-use Rattle.iddqd_maps.proofs.ConflictLemmas.{reported_hit, first_alone, not_first}
+use Rattle.iddqd_maps.proofs.CallerLemmas.{first_alone, not_first, reported_hit}
 use Rattle.uses.proofs.ledger.add.Goals as goal
 
 pub returns-clause-unlike : goal.returns-clause-unlike

@@ -1,8 +1,7 @@
 use Rattle.std.proofs.Common.{◌≡◌}
 use Rattle.std.specs.Ordering.{nat_cmp, is_eq}
 use Rattle.uses.specs.declared.ledger.Order.{Order}
-use Rattle.iddqd_maps.proofs.DropLemmas.{Drops-left}
-use Rattle.iddqd_maps.proofs.KeyLemmas.{is_tied}
+use Rattle.iddqd_maps.proofs.CallerLemmas.{Drops-left, is_tied}
 use Rattle.uses.proofs.ledger.close_day.Goals as goal
 
 pub returns-clause-dropped : goal.returns-clause-dropped

@@ -1,9 +1,7 @@
 use Rattle.std.proofs.Common.{rules, ◌≡◌, ◌<◌, ℕ, nat_le, refl}
 use Rattle.std.specs.Ordering.{nat_cmp, is_eq}
-use Rattle.iddqd_maps.proofs.RetainedLemmas.{RetainsWithin-stays, RetainsWithin-gone}
+use Rattle.iddqd_maps.proofs.CallerLemmas.{Drops-retained, RetainsWithin-gone, RetainsWithin-stays, is_less, is_tied}
 use Rattle.uses.specs.declared.ledger.Order.{Order}
-use Rattle.iddqd_maps.proofs.DropLemmas.{Drops-retained}
-use Rattle.iddqd_maps.proofs.KeyLemmas.{is_tied, is_less}
 use Rattle.uses.proofs.ledger.drop_small.Goals as goal
 
 pub returns-clause-dropped : goal.returns-clause-dropped

@@ -1,9 +1,7 @@
 use Rattle.std.proofs.Common.{rules, ◌≡◌, ◌≤◌, ◌<◌, ℕ, nat_le, not, refl}
 use Rattle.std.specs.Ordering.{nat_cmp, is_lt}
-use Rattle.iddqd_maps.proofs.RetainedLemmas.{RetainsWithin-stays, RetainsWithin-gone}
+use Rattle.iddqd_maps.proofs.CallerLemmas.{Drops-retained, RetainsWithin-gone, RetainsWithin-stays, is_less, is_no_later}
 use Rattle.uses.specs.declared.ledger.Order.{Order}
-use Rattle.iddqd_maps.proofs.DropLemmas.{Drops-retained}
-use Rattle.iddqd_maps.proofs.KeyLemmas.{is_no_later, is_less}
 use Rattle.uses.proofs.ledger.drop_small_until.Goals as goal
 
 pub returns-clause-dropped : goal.returns-clause-dropped

@@ -1,7 +1,6 @@
 use Rattle.std.proofs.Common.{◌≡◌, ◌==◌}
 use Rattle.uses.specs.declared.ledger.Order.{Order}
-use Rattle.iddqd_maps.proofs.DropLemmas.{Drops-left}
-use Rattle.iddqd_maps.proofs.KeyLemmas.{is_same}
+use Rattle.iddqd_maps.proofs.CallerLemmas.{Drops-left, is_same}
 use Rattle.uses.proofs.ledger.forget.Goals as goal
 
 pub returns-clause-dropped : goal.returns-clause-dropped

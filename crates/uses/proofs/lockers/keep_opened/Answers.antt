@@ -1,5 +1,5 @@
 use Rattle.std.proofs.Common.{rules, ◌==◌, not}
-use Rattle.iddqd_maps.proofs.RetainedLemmas.{Retains-tested}
+use Rattle.iddqd_maps.proofs.CallerLemmas.{Retains-tested}
 use Rattle.uses.specs.declared.lockers.Locker.{Locker}
 use Rattle.uses.proofs.lockers.keep_opened.Goals as goal
 

@@ -3,7 +3,7 @@ use Rattle.std.specs.Prelude.{Ok, Err, IfErr}
 use Rattle.iddqd_maps.specs.declared.refusal.InsertRefusal.TheVariants.{Duplicate, Full, Memory}
 use Rattle.uses.specs.Exchanges.{IsWhyNotAdded}
 use Rattle.uses.specs.Purchases.{shares_number}
-use Rattle.iddqd_maps.proofs.ConflictLemmas.{reported_hit, first_alone, not_first}
+use Rattle.iddqd_maps.proofs.CallerLemmas.{first_alone, not_first, reported_hit}
 use Rattle.uses.proofs.purchases.add.Goals as goal
 
 pub returns-clause-refused : goal.returns-clause-refused

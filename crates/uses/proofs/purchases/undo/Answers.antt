@@ -3,8 +3,7 @@ use Rattle.std.specs.Ordering.{is_eq, nat_cmp, ordering_reverse, ordering_then}
 use Rattle.std.specs.declared.cmp.Ordering.{Ordering}
 use Rattle.std.specs.declared.cmp.Ordering.TheVariants.{Less, Equal, Greater}
 use Rattle.uses.specs.declared.purchases.Purchase.{Purchase}
-use Rattle.iddqd_maps.proofs.DropLemmas.{Drops-left}
-use Rattle.iddqd_maps.proofs.KeyLemmas.{is_tied}
+use Rattle.iddqd_maps.proofs.CallerLemmas.{Drops-left, is_tied}
 use Rattle.uses.proofs.purchases.undo.Goals as goal
 
 -- both answers are Equal, whichever way round the second is

@@ -1,8 +1,7 @@
 use Rattle.std.proofs.Common.{◌<◌}
 use Rattle.std.specs.Ordering.{nat_cmp, is_gt}
 use Rattle.uses.specs.declared.scores.Score.{Score}
-use Rattle.iddqd_maps.proofs.DropLemmas.{Drops-left}
-use Rattle.iddqd_maps.proofs.KeyLemmas.{is_earlier}
+use Rattle.iddqd_maps.proofs.CallerLemmas.{Drops-left, is_earlier}
 use Rattle.uses.proofs.scores.forget_before.Goals as goal
 
 pub returns-clause-dropped : goal.returns-clause-dropped

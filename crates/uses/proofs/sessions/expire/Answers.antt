@@ -1,5 +1,5 @@
 use Rattle.std.proofs.Common.{rules, ◌≡◌, nat_lt, refl}
-use Rattle.iddqd_maps.proofs.RetainedLemmas.{Retains-tested}
+use Rattle.iddqd_maps.proofs.CallerLemmas.{Retains-tested}
 use Rattle.uses.specs.declared.sessions.Session.{Session}
 use Rattle.uses.proofs.sessions.expire.Goals as goal
 

@@ -7,7 +7,7 @@ use Rattle.iddqd_maps.specs.Several.{HitsOther}
 use Rattle.uses.specs.Exchanges.{ExchangesIfFound, IsKeyTaken, IsWhyNotChanged}
 use Rattle.uses.specs.Sessions.{ending, has_id, share_key}
 use Rattle.uses.specs.declared.sessions.Session.{Session}
-use Rattle.iddqd_maps.proofs.ConflictLemmas.{reported_other}
+use Rattle.iddqd_maps.proofs.CallerLemmas.{reported_other}
 use Rattle.uses.proofs.sessions.extend.Goals as goal
 
 pub returns-clause-extended : goal.returns-clause-extended

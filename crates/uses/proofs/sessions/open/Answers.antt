@@ -3,7 +3,7 @@ use Rattle.std.specs.Prelude.{Ok, Err, IfErr}
 use Rattle.iddqd_maps.specs.declared.refusal.InsertRefusal.TheVariants.{Duplicate, Full, Memory}
 use Rattle.uses.specs.Exchanges.{IsWhyNotAdded}
 use Rattle.uses.specs.Sessions.{share_key}
-use Rattle.iddqd_maps.proofs.ConflictLemmas.{reported_hit}
+use Rattle.iddqd_maps.proofs.CallerLemmas.{reported_hit}
 use Rattle.uses.proofs.sessions.open.Goals as goal
 
 pub returns-clause-refused : goal.returns-clause-refused

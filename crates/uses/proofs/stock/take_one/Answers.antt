@@ -1,9 +1,8 @@
 use Rattle.std.proofs.Common.{rules, ◌≡◌, nat_eq, ap, arith, subst}
 use Rattle.std.proofs.lemmas.Grind.{common_steps}
-use Rattle.iddqd_maps.proofs.CallerLemmas.{found_same}
+use Rattle.iddqd_maps.proofs.CallerLemmas.{found_same, is_same}
 use Rattle.uses.specs.Stock.{with_one_less}
 use Rattle.uses.specs.declared.stock.Part.{Part}
-use Rattle.iddqd_maps.proofs.KeyLemmas.{is_same}
 use Rattle.uses.proofs.StockLemmas.{none_left, takes_one}
 use Rattle.uses.proofs.stock.take_one.Goals as goal
 

@@ -1,6 +1,5 @@
 use Rattle.std.proofs.Common.{rules, arith}
-use Rattle.iddqd_maps.proofs.CallerLemmas.{retains_fewer}
-use Rattle.iddqd_maps.proofs.RetainedLemmas.{Retains-tested}
+use Rattle.iddqd_maps.proofs.CallerLemmas.{Retains-tested, retains_fewer}
 use Rattle.uses.specs.Users.{has_logged_in}
 use Rattle.uses.proofs.users.forget_idle.Goals as goal
 

@@ -1,7 +1,6 @@
 use Rattle.std.proofs.Common.{rules, ◌≡◌, nat_le, refl}
-use Rattle.iddqd_maps.proofs.RetainedLemmas.{RetainsAlong-tested}
+use Rattle.iddqd_maps.proofs.CallerLemmas.{RetainsAlong-tested, walked}
 use Rattle.uses.specs.declared.words.Word.{Word}
-use Rattle.iddqd_maps.proofs.RetainedLemmas.{walked}
 use Rattle.uses.proofs.WordLemmas.{listed_up_to}
 use Rattle.uses.proofs.words.up_to.Goals as goal
 

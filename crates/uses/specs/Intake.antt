@@ -1,0 +1,21 @@
+-- What calls leave that add the items of an iterator.
+use Rattle.std.specs.Prelude.{◌≡◌, ℕ, List, Option, Some, length}
+use Rattle.std.specs.Iterator.{Drains, YieldsThen}
+use Rattle.iddqd_maps.specs.Bulk.{inserted_all}
+use Rattle.iddqd_maps.specs.Refusal.{insert_refusal_item}
+use Rattle.iddqd_maps.specs.Store.{Store}
+use Rattle.iddqd_maps.specs.declared.refusal.Stopped.{Stopped}
+
+-- `gives` says what a call of the iterator's `next` gives
+module _ {I T : Type 0} (gives : I → Option T → I → Type 0) where
+  -- the iterator gave so many items up to its end, and each was stored in turn
+  abbrev pub AddsAll : I → Store T → ℕ → Store T → Type 0
+  AddsAll it old count new =
+      (items : List T) × Drains gives it items × (count ≡ length items) × (new ≡ inserted_all old items)
+
+  -- The iterator gave as many items as were inserted, and each was stored in turn. Then it gave the one that comes
+  -- back, and the rest is what is left of it.
+  abbrev pub AddsUntil : {C : Type 0} → I → Store T → Stopped T C I → Store T → Type 0
+  AddsUntil it old stopped new =
+      (items : List T) × YieldsThen gives it items (Some (insert_refusal_item stopped.refusal)) stopped.rest
+      × (stopped.inserted ≡ length items) × (new ≡ inserted_all old items)

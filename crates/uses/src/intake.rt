@@ -1,0 +1,50 @@
+//! Orders that come and go in many: a ledger takes them from an iterator, and is emptied at the end.
+ghost use Rattle.std.specs.Prelude.{◌≡◌, ◌+◌, ℕ, Some, IfOk, IfErr, filter, nat_le};
+ghost use Rattle.std.specs.Iterator.{UpTo};
+ghost use Rattle.iddqd_maps.specs.Bulk.{inserted_count};
+ghost use Rattle.iddqd_maps.specs.Calls.{IsDuplicate};
+ghost use Rattle.iddqd_maps.specs.LiveItems.{live_pairs};
+ghost use Rattle.iddqd_maps.specs.Map.{room};
+ghost use Rattle.iddqd_maps.specs.Store.{cleared, get, live_count};
+ghost use Rattle.uses.specs.Intake.{AddsAll, AddsUntil};
+ghost use Rattle.uses.specs.declared.ledger.Order.{Order};
+
+use crate::ledger::{Ledger, Order, Taken};
+use iddqd_maps::refusal::Stopped;
+
+/// Adds orders in turn, up to the first that is refused: it comes back with the rest.
+pub fn add_all<I: Iterator<Item = Order>>(
+    ledger: &mut Ledger,
+    orders: I,
+) -> Result<usize, Stopped<Order, Taken, I>>
+    requires { I.can_next orders }
+    ensures all { IfOk result (λ count. AddsAll I.next_gives orders ledger.old.store count ledger.new.store) }
+    ensures refused { IfErr result
+        (λ stopped. AddsUntil I.next_gives orders ledger.old.store stopped ledger.new.store) }
+    ensures count { live_count ledger.new.store ≡ live_count ledger.old.store + inserted_count result }
+    ensures others { (ix : ℕ) (order : Order) → get ledger.old.store ix ≡ Some order
+        → get ledger.new.store ix ≡ Some order }
+    ensures taken { UpTo (I.remaining orders) (room ledger.old)
+        → IfErr result (λ stopped. IsDuplicate stopped.refusal) }
+{
+    ledger.insert_all(orders)
+}
+
+/// Empties the ledger, and returns how many orders there were. It keeps its memory, and takes none.
+pub fn close(ledger: &mut Ledger) -> usize
+    ensures count { result ≡ live_count ledger.old.store }
+    ensures emptied { ledger.new.store ≡ cleared ledger.old.store }
+    ensures memory { ledger.new.memory ≡ ledger.old.memory }
+{
+    ledger.drain_into(|_order| ())
+}
+
+/// Removes the orders that were due before a day, and returns how many they were. It takes no memory.
+pub fn write_off(ledger: &mut Ledger, day: u32) -> usize
+    ensures stay { live_pairs ledger.new.store
+        ≡ filter (λ pair. nat_le day pair.1.day) (live_pairs ledger.old.store) }
+    ensures count { result + live_count ledger.new.store ≡ live_count ledger.old.store }
+    ensures memory { ledger.new.memory ≡ ledger.old.memory }
+{
+    ledger.retain_into(|order| order.day >= day, |_order| ())
+}
