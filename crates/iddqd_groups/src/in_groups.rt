@@ -2,9 +2,11 @@
 //!
 //! They are calls of one trait, `InGroups`, which every `Map` has, since the linked table stands above the crate of the
 //! maps. No memory is taken.
-ghost use Rattle.std.specs.Prelude.{◌≡◌, ℕ, Contains};
-ghost use Rattle.std.specs.Iterator.{YieldsFirstBy, item_count};
+ghost use Rattle.std.specs.Prelude.{◌≡◌, ◌≤◌, ℕ, Contains, IfSome, MatchOption, length};
+ghost use Rattle.std.specs.Iterator.{YieldsFirstBy, item_count, at_most, UpTo};
+ghost use Rattle.std.specs.Iterator.SizeHint.{IsWithinCount};
 ghost use Rattle.iddqd.specs.{live_count};
+ghost use Rattle.iddqd.specs.Store.{sentinel};
 ghost use Rattle.iddqd_keys.specs.Scan.{IsLive};
 ghost use Rattle.iddqd_keys.specs.KeyWalk.{pairs_at};
 ghost use Rattle.iddqd_map.specs.Groups.{AreHits, CountsHits};
@@ -27,7 +29,8 @@ use std::marker::Model;
 
 /// The items that have a key with their indexes, each once, in no order that a caller can rely on. It is fused.
 ///
-/// A contract sees it as the pairs that are left. To count a group call `count_hashed_group_by`.
+/// A contract sees it as the pairs that are left. Its `size_hint` has an upper bound, which is no count: to count a group
+/// call `count_hashed_group_by`.
 #[derive(Drop)]
 pub struct GroupItems<'a, T, E: HashKey<T>, Q: ItemHashQuery<T, E>> {
     indexes: Group<'a, T, E, Q>,
@@ -66,6 +69,16 @@ impl<'a, T, E: HashKey<T>, Q: ItemHashQuery<T, E>> Iterator for GroupItems<'a, T
     fn next(&mut self) -> Option<(ItemIndex, &'a T)> {
         let ix = self.indexes.next()?;
         Some((ix, &self.items[ix]))
+    }
+
+    fn size_hint(&self) -> (usize, Option<usize>)
+        ensures lower { IsWithinCount result.0 (at_most (length self.now)) }
+        ensures upper { IfSome result.1 (UpTo (at_most (length self.now))) }
+
+        // There is a bound, and there are no more indexes than that.
+        ensures few { MatchOption result.1 (λ most. most ≤ sentinel) ⊥ }
+    {
+        self.indexes.size_hint()
     }
 }
 

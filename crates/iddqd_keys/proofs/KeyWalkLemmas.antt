@@ -1,5 +1,5 @@
 -- For callers: lists of live indexes in the order of a key, and the first of them whose items' keys are within.
-use Rattle.std.proofs.Common.{◌≡◌, ◌≢◌, ◌++◌, ◌∙◌, ◌+◌, ◌&&◌, inl, inr, ℕ, Bool, not, List, [], ◌∷◌, get_or, Option, Some, None, option_map, MatchOption, refl, sym, ap, subst, Ordering, arith}
+use Rattle.std.proofs.Common.{◌≡◌, ◌≢◌, ◌++◌, ◌∙◌, ◌+◌, ◌<◌, ◌&&◌, inl, inr, ℕ, Bool, not, List, [], ◌∷◌, length, get_or, Option, Some, None, option_map, MatchOption, refl, sym, ap, subst, Ordering, arith}
 use Rattle.std.specs.Cmp.{IsTotalOrder}
 use Rattle.std.specs.Cmp.Lexicographic.{options_total}
 use Rattle.std.specs.List.{Contains}
@@ -10,14 +10,15 @@ use Rattle.std.specs.declared.cmp.Ordering.TheVariants.{Less, Equal, Greater}
 use Rattle.std.specs.declared.ops.Bound.TheVariants.{Included}
 use Rattle.std.proofs.lemmas.Bool.{cases_eq}
 use Rattle.std.proofs.lemmas.Cmp.{alike_right, tied_itself, then_total, on_total, nat_cmp_total}
-use Rattle.std.proofs.lemmas.List.Elements.{All-contains, All-from_recursion, recursion_from_All, Contains-append_right, Contains-get_or, Contains-push_cases}
+use Rattle.std.proofs.lemmas.List.Elements.{All-contains, All-from_recursion, recursion_from_All, Contains-append_left, Contains-append_right, Contains-get_or, Contains-push_cases, filter_map-append}
+use Rattle.std.proofs.lemmas.List.{length_push}
 use Rattle.std.proofs.lemmas.Map.Keys.{Less-from_sorted, sorted_from_all_adjacent}
 use Rattle.iddqd.specs.Store.{Store, get, removed}
-use Rattle.iddqd.proofs.LiveLemmas.{get-removed_other}
+use Rattle.iddqd.proofs.LiveLemmas.{get-removed_other, item_at}
 use Rattle.iddqd.proofs.StoreLemmas.{contains_head, contains_tail, contains_cases, contains_none}
-use Rattle.iddqd_keys.specs.KeyWalk.{pairs_at, key_at, by_key_then_index, IsInPlace, ComesBefore, IsFirstHit, SortsWithin}
+use Rattle.iddqd_keys.specs.KeyWalk.{index_with_item, pairs_at, key_at, by_key_then_index, IsInPlace, ComesBefore, IsFirstHit, SortsWithin}
 use Rattle.iddqd_keys.specs.OrderedQuery.{is_between, is_equal}
-use Rattle.iddqd_keys.specs.Scan.{IsHit, HasNoHit, passes_by}
+use Rattle.iddqd_keys.specs.Scan.{IsLive, IsHit, HasNoHit, passes_by}
 use Rattle.iddqd_keys.proofs.ScanLemmas.{live_before}
 
 module _ {T K : Type 0} (key_of : T → K) (compare : K → K → Ordering) (total : IsTotalOrder compare) where
@@ -49,13 +50,59 @@ module _ {T K : Type 0} (key_of : T → K) (compare : K → K → Ordering) (tot
   IsInPlace-alike s t order same = IsInPlace-tied s t order (λ j here.
       subst (λ o. option_cmp compare (option_map key_of o) (key_at key_of s j) ≡ Equal) (sym (same j here)) (tied_itself (options_total total) (key_at key_of s j)))
 
+-- what a walk over live indexes with their items has left
 module _ {T : Type 0} (s : Store T) where
+  -- what a walk that had these indexes left keeps once it gives the first one, or the last one
+  pub record Gave (ix : ℕ) (left : List ℕ) : Type 0 where
+    pub live : IsLive s ix
+    pub others_live : (j : ℕ) → Contains left j → IsLive s j
+
+  module _ (all left : List ℕ) (ix : ℕ) (live : (j : ℕ) → Contains all j → IsLive s j) where
+    pub Gave-first : all ≡ ix ∷ left → Gave ix left
+    Gave-first is = record {
+      live = live ix (subst (λ xs. Contains xs ix) (sym is) (contains_head ix left));
+      others_live = λ j here. live j (subst (λ xs. Contains xs j) (sym is) (contains_tail ix j left here));
+    }
+
+    pub Gave-last : all ≡ left ++ ix ∷ [] → Gave ix left
+    Gave-last is = record {
+      live = live ix (subst (λ xs. Contains xs ix) (sym is) (Contains-append_right left (ix ∷ []) ix (contains_head ix [])));
+      others_live = λ j here. live j (subst (λ xs. Contains xs j) (sym is) (Contains-append_left left (ix ∷ []) j here));
+    }
+
+  pub AreLive-none : (left : List ℕ) → left ≡ [] → (j : ℕ) → Contains left j → IsLive s j
+  AreLive-none left is j here = absurd (contains_none j (subst (λ xs. Contains xs j) is here))
+
   pub pairs_at-first :
       (all left : List ℕ) (ix : ℕ) (item : T)
       → all ≡ ix ∷ left
       → get s ix ≡ Some item
       → pairs_at s all ≡ (ix, item) ∷ pairs_at s left
   pairs_at-first all left ix item given is = ap (pairs_at s) given ∙ rw is refl
+
+  pub pairs_at-last :
+      (all left : List ℕ) (ix : ℕ) (item : T)
+      → all ≡ left ++ ix ∷ []
+      → get s ix ≡ Some item
+      → pairs_at s all ≡ pairs_at s left ++ (ix, item) ∷ []
+  pairs_at-last all left ix item given is =
+      let one : pairs_at s (ix ∷ []) ≡ (ix, item) ∷ [] = rw is refl in
+      ap (pairs_at s) given ∙ filter_map-append (index_with_item s) left (ix ∷ []) ∙ ap (λ l. pairs_at s left ++ l) one
+
+  -- so it has fewer left
+  pub pairs_at-fewer :
+      (all : List (ℕ × T)) (left : List ℕ) (pair : ℕ × T)
+      → all ≡ pairs_at s left ++ pair ∷ []
+      → length (pairs_at s left) < length all
+  pairs_at-fewer all left pair is = omega (arith, ap length is, length_push (pairs_at s left) pair)
+
+  pub length-pairs_at :
+      (xs : List ℕ) → ((j : ℕ) → Contains xs j → IsLive s j) → length (pairs_at s xs) ≡ length xs
+  length-pairs_at [] live = refl
+  length-pairs_at (x ∷ xs) live =
+      let (item, is) = item_at s x (live x (contains_head x xs)) in
+      let rest = length-pairs_at xs (λ j here. live j (contains_tail x j xs here)) in
+      ap length (pairs_at-first (x ∷ xs) xs x item refl is) ∙ omega (arith, rest)
 
 module _ {T K : Type 0} (key_of : T → K) (compare : K → K → Ordering) (s : Store T) where
   pub in_front :

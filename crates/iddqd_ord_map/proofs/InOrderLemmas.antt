@@ -9,11 +9,10 @@ use Rattle.iddqd_by_order.specs.Ordered.{AreLive, IsSortedScan}
 use Rattle.iddqd_by_order.proofs.OrderedCountLemmas.{length-held}
 use Rattle.iddqd_keys.specs.KeyWalk.{pairs_at}
 use Rattle.iddqd_keys.specs.OrderedQuery.{is_between, is_equal}
-use Rattle.iddqd_keys.proofs.KeyWalkLemmas.{between_equal}
+use Rattle.iddqd_keys.proofs.KeyWalkLemmas.{between_equal, length-pairs_at}
 use Rattle.iddqd_map.specs.Map.{MapState, RemovesAt}
 use Rattle.iddqd_map.specs.Ranges.{itself}
 use Rattle.iddqd_ord_map.specs.InOrder.{ListsInOrder, IteratesInOrder, FindsFirst, FindsLast, PopsFirst, PopsLast}
-use Rattle.iddqd_ord_map.proofs.WalkLemmas.{length-pairs_at}
 
 module _ {T : Type 0} (order : T → T → Ordering) (s : Store T) where
   pub AreLive-listed : (within : T → Bool) (indexes : List ℕ) → ListsInOrder order within s indexes → AreLive s indexes

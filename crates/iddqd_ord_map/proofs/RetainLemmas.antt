@@ -17,14 +17,14 @@ use Rattle.iddqd_order.proofs.IndexListLemmas.{IsDistinct-filter}
 use Rattle.iddqd_keys.specs.Scan.{IsLive}
 use Rattle.iddqd_by_order.specs.Ordered.{AreLive, Holds}
 use Rattle.iddqd_ord_map.specs.OrderedIndexing.{Sorts}
-use Rattle.iddqd_keys.proofs.KeyWalkLemmas.{IsInPlace-alike}
+use Rattle.iddqd_keys.proofs.KeyWalkLemmas.{IsInPlace-alike, pairs_at-first, pairs_at-last}
 use Rattle.iddqd_keys.specs.Removals.{removed_all}
 use Rattle.iddqd_map.specs.Retain.{AsksInTurn, kept_of, removed_of}
 use Rattle.iddqd_map.proofs.RetainLemmas.{AsksInTurn-everywhere}
 use Rattle.iddqd_ord_map.specs.KeyOrder.{IsKeyWalk}
 use Rattle.iddqd_keys.specs.KeyWalk.{index_with_item, pairs_at}
 use Rattle.iddqd_ord_map.specs.Retain.{AsksAlong, MayAskAlong, RetainsAlongTo}
-use Rattle.iddqd_ord_map.proofs.WalkLemmas.{SortsWithin-all, IsWalkWithin-sorted, pairs_at-first, pairs_at-last}
+use Rattle.iddqd_ord_map.proofs.WalkLemmas.{SortsWithin-all, IsWalkWithin-sorted}
 
 -- what passes a test stays where only that is kept
 contains_kept : (t : ℕ → Bool) (xs : List ℕ) (j : ℕ) → Contains xs j → t j ≡ true → Contains (filter t xs) j

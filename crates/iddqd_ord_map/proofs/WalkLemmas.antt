@@ -1,89 +1,26 @@
 -- The items of a store at listed indexes, and the order of their keys.
-use Rattle.std.proofs.Common.{◌≡◌, ◌∙◌, ◌<◌, inl, inr, ℕ, zero, suc, true, List, [], ◌∷◌, ◌++◌, length, map, get_or, slice_get, Some, None, refl, sym, ap, subst, Ordering, arith}
+use Rattle.std.proofs.Common.{◌≡◌, ◌∙◌, ◌<◌, inl, inr, ℕ, zero, suc, true, List, [], ◌∷◌, length, map, get_or, slice_get, Some, None, refl, sym, ap, subst, Ordering, arith}
 use Rattle.std.specs.List.{Contains, cons_option}
 use Rattle.std.specs.Option.{option_cmp, option_map}
 use Rattle.std.specs.Ordering.{nat_cmp, ordering_then, is_eq, eq_by_cmp}
 use Rattle.std.specs.Cmp.{nat_cmp_total}
 use Rattle.std.specs.declared.cmp.Ordering.TheVariants.{Less, Equal, Greater}
 use Rattle.std.proofs.lemmas.Cmp.{tied_itself}
-use Rattle.std.proofs.lemmas.List.{length_push}
-use Rattle.std.proofs.lemmas.List.Elements.{filter_map-append}
 use Rattle.std.proofs.lemmas.Map.Keys.{Less-from_sorted}
 use Rattle.iddqd.specs.Store.{Store, get}
 use Rattle.iddqd.proofs.LiveLemmas.{item_at, live_at}
 use Rattle.iddqd.proofs.StoreLemmas.{contains_head, contains_tail, contains_cases, contains_none}
 use Rattle.iddqd_order.specs.KeyOrder.{key_then_index}
-use Rattle.iddqd_keys.specs.Scan.{IsLive}
 use Rattle.iddqd_keys.specs.AnyTable.{HasDistinctKeys}
 use Rattle.iddqd_by_order.specs.Ordered.{AreLive, key_at}
 use Rattle.iddqd_by_order.specs.OrderedWalk.{SortsWithin}
 use Rattle.iddqd_ord_map.specs.OrderedIndexing.{Sorts}
 use Rattle.iddqd_ord_map.specs.KeyOrder.{IsWalkWithin}
 use Rattle.iddqd_keys.specs.KeyWalk.{index_with_item, pairs_at}
+use Rattle.iddqd_keys.proofs.KeyWalkLemmas.{pairs_at-first}
 use Rattle.iddqd_ord_map.specs.Pairs.{items_of_slots}
 
 module _ {T : Type 0} (s : Store T) where
-  -- what a walk that had these indexes left keeps once it gives the first one, or the last one
-  pub record Gave (ix : ℕ) (left : List ℕ) : Type 0 where
-    pub live : IsLive s ix
-    pub others_live : AreLive s left
-
-  pub Gave-first : (all left : List ℕ) (ix : ℕ) → AreLive s all → all ≡ ix ∷ left → Gave ix left
-  Gave-first all left ix live is = record {
-    live = live ix (subst (λ xs. Contains xs ix) (sym is) (contains_head ix left));
-    others_live = λ j here. live j (subst (λ xs. Contains xs j) (sym is) (contains_tail ix j left here));
-  }
-
-  at_front : (xs : List ℕ) (ix j : ℕ) → Contains xs j → Contains (xs ++ ix ∷ []) j
-  at_front [] ix j here = absurd (contains_none j here)
-  at_front (x ∷ xs) ix j here = elim (contains_cases x j xs here) [
-    | inl same ↦ subst (Contains (x ∷ (xs ++ ix ∷ []))) same (contains_head x (xs ++ ix ∷ []))
-    | inr there ↦ contains_tail x j (xs ++ ix ∷ []) (at_front xs ix j there)
-  ]
-
-  at_end : (xs : List ℕ) (ix : ℕ) → Contains (xs ++ ix ∷ []) ix
-  at_end [] ix = contains_head ix []
-  at_end (x ∷ xs) ix = contains_tail x ix (xs ++ ix ∷ []) (at_end xs ix)
-
-  pub Gave-last : (all left : List ℕ) (ix : ℕ) → AreLive s all → all ≡ left ++ ix ∷ [] → Gave ix left
-  Gave-last all left ix live is = record {
-    live = live ix (subst (λ xs. Contains xs ix) (sym is) (at_end left ix));
-    others_live = λ j here. live j (subst (λ xs. Contains xs j) (sym is) (at_front left ix j here));
-  }
-
-  pub AreLive-none : (left : List ℕ) → left ≡ [] → AreLive s left
-  AreLive-none left is ix here = absurd (contains_none ix (subst (λ xs. Contains xs ix) is here))
-
-  pub pairs_at-first :
-      (all left : List ℕ) (ix : ℕ) (item : T)
-      → all ≡ ix ∷ left
-      → get s ix ≡ Some item
-      → pairs_at s all ≡ (ix, item) ∷ pairs_at s left
-  pairs_at-first all left ix item given is = ap (pairs_at s) given ∙ rw is refl
-
-  pub pairs_at-last :
-      (all left : List ℕ) (ix : ℕ) (item : T)
-      → all ≡ left ++ ix ∷ []
-      → get s ix ≡ Some item
-      → pairs_at s all ≡ pairs_at s left ++ (ix, item) ∷ []
-  pairs_at-last all left ix item given is =
-      let one : pairs_at s (ix ∷ []) ≡ (ix, item) ∷ [] = rw is refl in
-      ap (pairs_at s) given ∙ filter_map-append (index_with_item s) left (ix ∷ []) ∙ ap (λ l. pairs_at s left ++ l) one
-
-  -- so it has fewer left
-  pub pairs_at-fewer :
-      (all : List (ℕ × T)) (left : List ℕ) (pair : ℕ × T)
-      → all ≡ pairs_at s left ++ pair ∷ []
-      → length (pairs_at s left) < length all
-  pairs_at-fewer all left pair is = omega (arith, ap length is, length_push (pairs_at s left) pair)
-
-  pub length-pairs_at : (xs : List ℕ) → AreLive s xs → length (pairs_at s xs) ≡ length xs
-  length-pairs_at [] live = refl
-  length-pairs_at (x ∷ xs) live =
-      let (item, is) = item_at s x (live x (contains_head x xs)) in
-      let rest = length-pairs_at xs (λ j here. live j (contains_tail x j xs here)) in
-      ap length (pairs_at-first (x ∷ xs) xs x item refl is) ∙ omega (arith, rest)
-
   listed :
       (xs : List ℕ) (ix : ℕ) (item : T)
       → Contains (pairs_at s xs) (ix, item)

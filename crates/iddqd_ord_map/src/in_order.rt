@@ -4,6 +4,7 @@
 //! maps. No memory is taken.
 ghost use Rattle.std.specs.Prelude.{◌≡◌, ◌≤◌, ◌+◌, Some, length, IfNone, IfSome, OnSome};
 ghost use Rattle.std.specs.Option.{option_map};
+ghost use Rattle.std.specs.Range.Bound.{bound_map};
 ghost use Rattle.iddqd.specs.{live_count};
 ghost use Rattle.iddqd_keys.specs.OrderedQuery.{is_equal, is_within};
 ghost use Rattle.iddqd_map.specs.Groups.{CountsHits};
@@ -16,7 +17,7 @@ use iddqd::item_index::ItemIndex;
 use iddqd_by_order::ordered_walk::Range;
 use iddqd_map::key_index::KeyIndex;
 use iddqd_map::map::{Map, Parts};
-use std::ops::Bound;
+use std::ops::{Bound, RangeBounds};
 
 /// Reads in the order of the key at the place `P`. Items with equal keys come by index.
 pub trait InOrder<T, X: KeyIndex<T, S>, S> {
@@ -71,6 +72,17 @@ pub trait InOrder<T, X: KeyIndex<T, S>, S> {
         X: RangesAt<P, Q, T, S>,
         ensures { let within = is_within X.compare lower upper in
             IteratesInOrder X.order within (state self.now).store result };
+
+    /// `range_by`, with both bounds as one range of queries: `ledger.range_in::<ByDay, &u32, _>(&from..=&to)`.
+    ///
+    /// Of a `RangeInclusive` that was iterated to its end nothing is said.
+    fn range_in<P, Q, R>(&self, bounds: R) -> Range<'_, T>
+    where
+        X: RangesAt<P, Q, T, S>,
+        Q: Copy,
+        R: RangeBounds<Q>,
+        ensures { let within = is_within X.compare (R.start_bound bounds) (R.end_bound bounds) in
+            R.has_bounds bounds → IteratesInOrder X.order within (state self.now).store result };
 
     /// The items that have the key for which the query stands with their indexes, in order, from both ends.
     ///
@@ -145,6 +157,15 @@ impl<T, X: KeyIndex<T, S>, S> InOrder<T, X, S> for Map<T, X, S> {
         Range::new(indexes.range_at(items, state, lower, upper), items)
     }
 
+    fn range_in<P, Q, R>(&self, bounds: R) -> Range<'_, T>
+    where
+        X: RangesAt<P, Q, T, S>,
+        Q: Copy,
+        R: RangeBounds<Q>,
+    {
+        self.range_by::<P, Q>(by_value(bounds.start_bound()), by_value(bounds.end_bound()))
+    }
+
     fn group_by<P, Q>(&self, query: Q) -> Range<'_, T>
     where
         X: RangesAt<P, Q, T, S>,
@@ -185,5 +206,16 @@ fn last_index<P, T, X: SortedAt<P, T, S>, S>(map: &Map<T, X, S>) -> Option<ItemI
     match map.last_by::<P>() {
         Some((ix, _)) => Some(ix),
         None => None,
+    }
+}
+
+// A bound without the reference.
+pub(crate) fn by_value<Q: Copy>(bound: Bound<&Q>) -> Bound<Q>
+    ensures { result ≡ bound_map (λ query. query.now) bound }
+{
+    match bound {
+        Bound::Included(query) => Bound::Included(*query),
+        Bound::Excluded(query) => Bound::Excluded(*query),
+        Bound::Unbounded => Bound::Unbounded,
     }
 }

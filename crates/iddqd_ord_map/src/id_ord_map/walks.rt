@@ -10,12 +10,13 @@ ghost use Rattle.iddqd_ord_map.specs.ByOrder.{FindsGreatest, FindsLeast};
 ghost use Rattle.iddqd_ord_map.specs.KeyOrder.{AreInKeyOrder, FindsEnd, IsKeyWalk, IsWalkWithin, PopsEnd};
 
 use super::{IdOrdItem, IdOrdMap, IntoValues, Iter, OrdMapBy, Range, Values};
+use crate::in_order::by_value;
 use crate::ordered_query::range_by;
 use iddqd::item_index::ItemIndex;
 use iddqd_keys::item_order_query::ItemRangeQuery;
 use iddqd_keys::order_key::OrdKey;
 use std::fmt;
-use std::ops::Bound;
+use std::ops::{Bound, RangeBounds};
 
 impl<T: Drop, E: OrdKey<T>> OrdMapBy<T, E> {
     /// The live indexes with their items, in the order of the keys, from both ends.
@@ -60,6 +61,16 @@ impl<T: Drop, E: OrdKey<T>> OrdMapBy<T, E> {
     {
         let (items, table) = self.parts();
         Range::new(range_by::<T, E, Q>(table, items, lower, upper), items)
+    }
+
+    /// `range`, with both bounds as one range of queries: `map.range_in(&from..=&to)`.
+    ///
+    /// Of a `RangeInclusive` that was iterated to its end nothing is said.
+    pub fn range_in<Q: ItemRangeQuery<T, E>, R: RangeBounds<Q>>(&self, bounds: R) -> Range<'_, T>
+        ensures { let within = is_within Q.compare_item (R.start_bound bounds) (R.end_bound bounds) in
+            R.has_bounds bounds → IsWalkWithin itself (on E.key_of E.cmp) within self.now.store result }
+    {
+        self.range(by_value(bounds.start_bound()), by_value(bounds.end_bound()))
     }
 
     /// The item with the least key.

@@ -1,6 +1,6 @@
 use Rattle.std.proofs.Common.{◌∙◌, rules, sym}
 use Rattle.iddqd_order.specs.Range.{indexes_ahead}
-use Rattle.iddqd_by_order.proofs.OrderedWalkLemmas.{Gave-last, AreLive-none, pairs_at-last, pairs_at-fewer}
+use Rattle.iddqd_keys.proofs.KeyWalkLemmas.{Gave-last, AreLive-none, pairs_at-last, pairs_at-fewer}
 use Rattle.iddqd_by_order.proofs.ordered_walk.RangeDoubleEndedIterator.next_back.Goals as goal
 
 pub invariant_of-self : goal.invariant_of-self

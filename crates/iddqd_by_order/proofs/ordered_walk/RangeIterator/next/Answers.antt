@@ -1,7 +1,6 @@
 use Rattle.std.proofs.Common.{◌∙◌, sym}
 use Rattle.iddqd_order.specs.Range.{indexes_ahead}
-use Rattle.iddqd_by_order.proofs.OrderedWalkLemmas.{Gave-first, AreLive-none}
-use Rattle.iddqd_keys.proofs.KeyWalkLemmas.{pairs_at-first}
+use Rattle.iddqd_keys.proofs.KeyWalkLemmas.{Gave-first, AreLive-none, pairs_at-first}
 use Rattle.iddqd_by_order.proofs.ordered_walk.RangeIterator.next.Goals as goal
 
 pub invariant_of-self : goal.invariant_of-self

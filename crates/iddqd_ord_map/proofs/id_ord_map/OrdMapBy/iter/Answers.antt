@@ -6,7 +6,8 @@ use Rattle.iddqd_by_order.specs.OrderedWalk.{SortsWithin}
 use Rattle.iddqd_by_order.proofs.OrderedCountLemmas.{length-held}
 use Rattle.iddqd_ord_map.specs.KeyOrder.{IsWalkWithin}
 use Rattle.iddqd_keys.specs.KeyWalk.{pairs_at}
-use Rattle.iddqd_ord_map.proofs.WalkLemmas.{SortsWithin-all, AreLive-within, IsWalkWithin-sorted, length-pairs_at}
+use Rattle.iddqd_keys.proofs.KeyWalkLemmas.{length-pairs_at}
+use Rattle.iddqd_ord_map.proofs.WalkLemmas.{SortsWithin-all, AreLive-within, IsWalkWithin-sorted}
 use Rattle.iddqd_ord_map.proofs.id_ord_map.OrdMapBy.iter.Goals as goal
 use Rattle.iddqd_ord_map.proofs.id_ord_map.OrdMapBy.iter.Goals.{After-iter}
 

@@ -1,6 +1,6 @@
 use Rattle.std.proofs.Common.{◌∙◌, rules, sym}
 use Rattle.iddqd_order.specs.Iter.{indexes_left}
-use Rattle.iddqd_ord_map.proofs.WalkLemmas.{Gave-last, AreLive-none, pairs_at-last, pairs_at-fewer}
+use Rattle.iddqd_keys.proofs.KeyWalkLemmas.{Gave-last, AreLive-none, pairs_at-last, pairs_at-fewer}
 use Rattle.iddqd_ord_map.proofs.id_ord_map.iter.IterDoubleEndedIterator.next_back.Goals as goal
 
 pub invariant_of-self : goal.invariant_of-self

@@ -1,6 +1,6 @@
 use Rattle.std.proofs.Common.{◌∙◌, sym}
 use Rattle.iddqd_order.specs.Iter.{indexes_left}
-use Rattle.iddqd_ord_map.proofs.WalkLemmas.{Gave-first, AreLive-none, pairs_at-first}
+use Rattle.iddqd_keys.proofs.KeyWalkLemmas.{Gave-first, AreLive-none, pairs_at-first}
 use Rattle.iddqd_ord_map.proofs.id_ord_map.iter.IterIterator.next.Goals as goal
 
 pub invariant_of-self : goal.invariant_of-self
