@@ -96,7 +96,7 @@ impl<T, X: KeyIndex<T, DefaultHashBuilder>> Map<T, X, DefaultHashBuilder> {
     pub fn with_limit(alloc: Global, limit: u32) -> Map<T, X, DefaultHashBuilder>
         ensures { result ≡ empty_map limit }
     {
-        Map::with_limit_and_hasher(alloc, limit, DefaultHashBuilder::default())
+        Map::with_limit_and_hasher(alloc, DefaultHashBuilder::default(), limit)
     }
 }
 
@@ -105,13 +105,13 @@ impl<T, X: KeyIndex<T, S>, S> Map<T, X, S> {
     pub fn with_hasher(alloc: Global, state: S) -> Map<T, X, S>
         ensures { result ≡ empty_map u32.MAX }
     {
-        Map::with_limit_and_hasher(alloc, u32::MAX, state)
+        Map::with_limit_and_hasher(alloc, state, u32::MAX)
     }
 
     /// An empty map that never has more slots than the limit. It takes no memory.
     ///
     /// No call changes the limit.
-    pub fn with_limit_and_hasher(alloc: Global, limit: u32, state: S) -> Map<T, X, S>
+    pub fn with_limit_and_hasher(alloc: Global, state: S, limit: u32) -> Map<T, X, S>
         ensures { result ≡ empty_map limit }
     {
         Map {
@@ -145,6 +145,13 @@ impl<T, X: KeyIndex<T, S>, S> Map<T, X, S> {
         ensures { option_copied result ≡ get self.now.store ix }
     {
         self.items.get(ix)
+    }
+
+    /// The state of the hasher, by which the items' keys are hashed.
+    pub fn hasher(&self) -> &S
+        ensures { (indexes : X) × X.indexes indexes result.now self.now.store }
+    {
+        &self.state
     }
 
     /// Borrows the parts, for look-ups that only this key index has.

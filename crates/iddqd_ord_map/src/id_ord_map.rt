@@ -6,7 +6,7 @@
 //! Look-ups, removals and iteration take no memory.
 ghost use Rattle.std.specs.Prelude.{◌≡◌, ◌≤◌, ◌↔◌, ◌+◌, false, [], min, max, length, None, IsTrue, IsOk, IfOk, IfErr, OnOk, OnErr, OnSome, IfNone, option_copied};
 ghost use Rattle.std.specs.Ordering.{eq_by_cmp};
-ghost use Rattle.iddqd.specs.{get, live_count, next_index, slot_limit, empty, inserted, cleared, IsRemapOf};
+ghost use Rattle.iddqd.specs.{get, live_count, next_index, slot_limit, empty, empty_within, inserted, cleared, IsRemapOf};
 ghost use Rattle.iddqd_map.specs.Calls.{Compacts, Inserts, IsDuplicate};
 ghost use Rattle.iddqd_map.specs.Map.{empty_map, shares, capacity, room, IsMap, FindsItem, Removes, RemovesAt};
 ghost use Rattle.iddqd_map.specs.Memory.{ReservesItems, ShrinksItems, HasMoreThanNeeded};
@@ -118,7 +118,7 @@ impl<T: Drop, E: OrdKey<T>> OrdMapBy<T, E> {
         ensures { result ≡ empty_map limit }
     {
         OrdMapBy {
-            map: Map::with_limit_and_hasher(alloc, limit, ()),
+            map: Map::with_limit_and_hasher(alloc, (), limit),
         }
     }
 
@@ -131,7 +131,25 @@ impl<T: Drop, E: OrdKey<T>> OrdMapBy<T, E> {
         ensures none { wanted ≡ 0 → IsOk result }
     {
         Ok(OrdMapBy {
-            map: Map::with_capacity_and_hasher(alloc, wanted, ())?,
+            map: Map::with_capacity_and_hasher(alloc, (), wanted)?,
+        })
+    }
+
+    /// Empty, never with more slots than the limit, and with memory for `wanted` items or for as many as the limit
+    /// allows. If that is 0 it takes none.
+    pub fn with_limit_and_capacity(
+        alloc: Global,
+        limit: u32,
+        wanted: usize,
+    ) -> Result<OrdMapBy<T, E>, AllocError>
+        ensures contents { IfOk result (λ m. m.store ≡ empty_within limit) }
+        ensures room { IfOk result (λ m. min wanted limit ≤ room m) }
+        ensures slots { IfOk result (λ m. m.memory.slots ≡ min wanted limit) }
+        ensures cells { IfOk result (λ m. m.memory.cells ≤ most_cells (min wanted limit)) }
+        ensures none { min wanted limit ≡ 0 → IsOk result }
+    {
+        Ok(OrdMapBy {
+            map: Map::with_limit_capacity_and_hasher(alloc, (), limit, wanted)?,
         })
     }
 
@@ -292,6 +310,13 @@ impl<T: Drop, E: OrdKey<T>> OrdMapBy<T, E> {
         ensures { ReservesItems most_cells additional self.old result self.new }
     {
         self.map.reserve(additional)
+    }
+
+    /// The same as `reserve`, under the name that it has in libraries whose `reserve` can't fail.
+    pub fn try_reserve(&mut self, additional: usize) -> Result<(), AllocError>
+        ensures { ReservesItems most_cells additional self.old result self.new }
+    {
+        self.reserve(additional)
     }
 
     /// Gives back the memory that the slots and the table don't need. If a smaller block can't be allocated, the items

@@ -38,14 +38,14 @@ pub fn hashed_with_room(
     ensures none { IfOk result (λ depot. depot.store ≡ empty) }
     ensures room { IfOk result (λ depot. min kinds slot_limit ≤ room depot) }
 {
-    IdHashMap::with_capacity_and_hasher(alloc, kinds, hasher)
+    IdHashMap::with_capacity_and_hasher(alloc, hasher, kinds)
 }
 
 /// A depot for at most so many kinds, under a hasher of one's own.
 pub fn hashed_within(alloc: Global, limit: u32, hasher: Base31) -> IdHashMap<Part, Base31>
     ensures { result ≡ empty_map limit }
 {
-    IdHashMap::with_limit_and_hasher(alloc, limit, hasher)
+    IdHashMap::with_limit_and_hasher(alloc, hasher, limit)
 }
 
 /// Makes room for so many more kinds, and tells how many can come without memory.

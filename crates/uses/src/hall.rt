@@ -38,7 +38,7 @@ pub fn within(alloc: Global, limit: u32) -> Hall
 pub fn hashed_within(alloc: Global, limit: u32, hasher: Base31) -> Hashed
     ensures { result ≡ empty_map limit }
 {
-    TriHashMap::with_limit_and_hasher(alloc, limit, hasher)
+    TriHashMap::with_limit_and_hasher(alloc, hasher, limit)
 }
 
 /// No seats under a hasher of one's own.
@@ -61,7 +61,7 @@ pub fn hashed_with_room(alloc: Global, count: usize, hasher: Base31) -> Result<H
     ensures none { IfOk result (λ hall. hall.store ≡ empty) }
     ensures room { IfOk result (λ hall. min count slot_limit ≤ room hall) }
 {
-    TriHashMap::with_capacity_and_hasher(alloc, count, hasher)
+    TriHashMap::with_capacity_and_hasher(alloc, hasher, count)
 }
 
 /// Makes room for so many more seats, and tells how many can come without memory.

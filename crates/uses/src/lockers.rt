@@ -64,7 +64,7 @@ pub fn within(alloc: Global, limit: u32) -> Lockers
 pub fn hashed_within(alloc: Global, limit: u32, hasher: Base31) -> Hashed
     ensures { result ≡ empty_map limit }
 {
-    BiHashMap::with_limit_and_hasher(alloc, limit, hasher)
+    BiHashMap::with_limit_and_hasher(alloc, hasher, limit)
 }
 
 /// Lockers under a hasher of one's own.
@@ -87,7 +87,7 @@ pub fn hashed_with_room(alloc: Global, count: usize, hasher: Base31) -> Result<H
     ensures none { IfOk result (λ lockers. lockers.store ≡ empty) }
     ensures room { IfOk result (λ lockers. min count slot_limit ≤ room lockers) }
 {
-    BiHashMap::with_capacity_and_hasher(alloc, count, hasher)
+    BiHashMap::with_capacity_and_hasher(alloc, hasher, count)
 }
 
 /// Makes room for so many more lockers, and tells how many can come without memory.

@@ -1,6 +1,6 @@
 //! Reserving memory, giving it back, and compaction.
 ghost use Rattle.std.specs.Prelude.{◌≡◌, ◌≤◌, ◌-◌, [], length, min, max, IsOk, IfOk, OnOk, OnErr};
-ghost use Rattle.iddqd.specs.{slot_limit, empty, cleared, live_count, IsRemapOf};
+ghost use Rattle.iddqd.specs.{slot_limit, empty, empty_within, cleared, live_count, IsRemapOf};
 ghost use Rattle.iddqd_map.specs.Map.{capacity, room};
 ghost use Rattle.iddqd_map.specs.Memory.{ReservesItems, ShrinksItems, HasMoreThanNeeded};
 ghost use Rattle.iddqd_map.specs.Calls.{Compacts};
@@ -26,7 +26,25 @@ impl<T, X: KeyIndex<T, DefaultHashBuilder>> Map<T, X, DefaultHashBuilder> {
         ensures cells { IfOk result (λ m. m.memory.cells ≤ X.most wanted) }
         ensures none { wanted ≡ 0 → IsOk result }
     {
-        Map::with_capacity_and_hasher(alloc, wanted, DefaultHashBuilder::default())
+        Map::with_capacity_and_hasher(alloc, DefaultHashBuilder::default(), wanted)
+    }
+
+    /// Empty, with the default hasher, never with more slots than the limit, and with memory for `wanted` items or for
+    /// as many as the limit allows.
+    pub fn with_limit_and_capacity(
+        alloc: Global,
+        limit: u32,
+        wanted: usize,
+    ) -> Result<Map<T, X, DefaultHashBuilder>, AllocError>
+    where
+        T: Drop,
+        ensures contents { IfOk result (λ m. m.store ≡ empty_within limit) }
+        ensures room { IfOk result (λ m. min wanted limit ≤ room m) }
+        ensures slots { IfOk result (λ m. m.memory.slots ≡ min wanted limit) }
+        ensures cells { IfOk result (λ m. m.memory.cells ≤ X.most (min wanted limit)) }
+        ensures none { min wanted limit ≡ 0 → IsOk result }
+    {
+        Map::with_limit_capacity_and_hasher(alloc, DefaultHashBuilder::default(), limit, wanted)
     }
 }
 
@@ -34,8 +52,8 @@ impl<T, X: KeyIndex<T, S>, S> Map<T, X, S> {
     /// Empty, with memory for `wanted` items. With 0 it takes none.
     pub fn with_capacity_and_hasher(
         alloc: Global,
-        wanted: usize,
         state: S,
+        wanted: usize,
     ) -> Result<Map<T, X, S>, AllocError>
     where
         T: Drop,
@@ -51,6 +69,28 @@ impl<T, X: KeyIndex<T, S>, S> Map<T, X, S> {
             indexes: X::with_capacity(alloc, wanted)?,
             state,
         })
+    }
+
+    /// Empty, never with more slots than the limit, and with memory for `wanted` items or for as many as the limit
+    /// allows. If that is 0 it takes none.
+    pub fn with_limit_capacity_and_hasher(
+        alloc: Global,
+        state: S,
+        limit: u32,
+        wanted: usize,
+    ) -> Result<Map<T, X, S>, AllocError>
+    where
+        T: Drop,
+        S: Drop,
+        ensures contents { IfOk result (λ m. m.store ≡ empty_within limit) }
+        ensures room { IfOk result (λ m. min wanted limit ≤ room m) }
+        ensures slots { IfOk result (λ m. m.memory.slots ≡ min wanted limit) }
+        ensures cells { IfOk result (λ m. m.memory.cells ≤ X.most (min wanted limit)) }
+        ensures none { min wanted limit ≡ 0 → IsOk result }
+    {
+        let mut map = Map::with_limit_and_hasher(alloc, state, limit);
+        map.reserve(wanted)?;
+        Ok(map)
     }
 
     /// How many items the memory has room for. For an ordered key only reserved memory counts, so with such a key it
@@ -82,6 +122,13 @@ impl<T, X: KeyIndex<T, S>, S> Map<T, X, S> {
         }
         self.items.reserve_slots(len + more)?;
         self.indexes.reserve(&self.items, &self.state, more)
+    }
+
+    /// The same as `reserve`, under the name that it has in libraries whose `reserve` can't fail.
+    pub fn try_reserve(&mut self, additional: usize) -> Result<(), AllocError>
+        ensures { ReservesItems X.most additional self.old result self.new }
+    {
+        self.reserve(additional)
     }
 
     /// Gives back the memory that the slots and the tables don't need. If a smaller block can't be allocated, the items

@@ -34,7 +34,7 @@ impl<T: Drop, E: OrdKey<T>> OrdMapBy<T, E> {
     {
         let before = self.len();
         let (_, table) = self.parts();
-        let none = Map::with_limit_and_hasher(table.allocator(), 0, ());
+        let none = Map::with_limit_and_hasher(table.allocator(), (), 0);
         let (mut items, mut index, state) = mem::replace(&mut self.map, none).into_parts();
         retain_in::<T, E, F>(&mut items, &mut index.table, &mut f);
         let removed = before - items.len();
