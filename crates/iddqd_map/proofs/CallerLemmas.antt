@@ -1,17 +1,18 @@
 -- For callers of maps: what a look-up found passes the test; what an item became that was replaced, changed or
 -- modified; what each call of a closure leaves holds of an item that was modified by it; what a removal leaves of the
--- others, and that none is left of a group; which items sorted indexes have; and `retain` leaves no more items than
--- there were.
+-- others, and that none is left of a group; which items sorted indexes have; `retain` leaves no more items than there
+-- were; and a copy whose clones are the items has the same store.
 use Rattle.std.proofs.Common.{◌≡◌, ◌∙◌, ◌≤◌, ◌==◌, ℕ, zero, suc, Bool, true, false, List, [], ◌∷◌, slice_set, Option, Some, None, is_some, cond, refl, sym, subst, ap, arith}
 use Rattle.std.specs.Prelude.{Result, Ok, Err, IfOk, MatchOption}
 use Rattle.std.specs.Borrow.{MutBor}
 use Rattle.std.specs.Cmp.{unsigned_tied}
 use Rattle.std.specs.Fn.{Once, FnOnceReturnsAtMut}
-use Rattle.std.specs.List.{count_by}
+use Rattle.std.specs.List.{AllZip, count_by, each_same}
 use Rattle.std.specs.Ordering.{nat_cmp}
 use Rattle.std.proofs.lemmas.Cmp.{nat_cmp_total}
 use Rattle.std.proofs.lemmas.List.Sums.{sum_by-cons}
 use Rattle.iddqd.proofs.LiveLemmas.{get-removed_other}
+use Rattle.iddqd.specs.Clones.{IsItemClone, IsStoreClone}
 use Rattle.iddqd.specs.Store.{Store, get, live_count, rebound, removed}
 use Rattle.iddqd_keys.specs.KeyWalk.{SortsWithin}
 use Rattle.iddqd_keys.specs.OrderedQuery.{is_equal}
@@ -163,3 +164,20 @@ pub none_left : {T : Type 0} (old new : Store T) (test : T → Bool) → LeavesO
 none_left old new test leaves ix (item, there, passes) =
     let fails : IsHit old test ix → ⊥ = λ hit. (let gone : None ≡ Some item = sym (leaves.gone ix hit) ∙ there in cc) in
     fails (item, sym (leaves.others ix fails) ∙ there, passes)
+
+module _ {T : Type 0} (is_clone : T → T → Type 0) (same : (x y : T) → is_clone x y → y ≡ x) where
+  same_slots : (xs ys : List (Option T)) → AllZip (IsItemClone is_clone) xs ys → AllZip (λ x y. y ≡ x) xs ys
+  same_slots [] [] all = all
+  same_slots [] (y ∷ ys) all = absurd all
+  same_slots (x ∷ xs) [] all = absurd all
+  same_slots (None ∷ xs) (y ∷ ys) (none, all) = (none, same_slots xs ys all)
+  same_slots (Some x ∷ xs) (y ∷ ys) ((other, is, clone), all) =
+      (is ∙ ap Some (same x other clone), same_slots xs ys all)
+
+  -- a copy has the same store, if each clone is the item
+  pub copied_same : (s copy : Store T) → IsStoreClone is_clone s copy → copy ≡ s
+  copied_same s copy is =
+      let items = each_same s.items copy.items (same_slots s.items copy.items is.items) in
+      let free = is.free in
+      let limit = is.limit in
+      λ i. record { items = items i; free = free i; limit = limit i }

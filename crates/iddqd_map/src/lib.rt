@@ -15,6 +15,7 @@ mod hashed_steps;
 pub mod id_hash_map;
 pub mod key_index;
 pub mod map;
+pub mod mix;
 pub mod no_conflict;
 pub mod pair;
 pub mod pair_conflict;

@@ -49,6 +49,7 @@ pub use iddqd_map::by_hash::{ByHash, ByHashOf};
 pub use iddqd_map::id_hash_map::{HashMapBy, IdHashItem, IdHashMap};
 pub use iddqd_map::key_index::{First, Here, KeyIndex, Left, Right, Second, Third};
 pub use iddqd_map::map::{Map, Parts};
+pub use iddqd_map::mix::CloneFor;
 pub use iddqd_map::no_conflict::NoConflict;
 pub use iddqd_map::pair::Pair;
 pub use iddqd_map::pair_conflict::PairConflict;
@@ -56,8 +57,9 @@ pub use iddqd_map::refusal::{InsertRefusal, OverwriteRefusal, ReplaceRefusal, St
 pub use iddqd_map::tri_hash_map::{TriClash, TriHashItem, TriHashMap, TriHashMapBy};
 pub use iddqd_map::{
     bi_hash_map as bi_hash_map, by_hash as by_hash, grouped_at as grouped_at,
-    id_hash_map as id_hash_map, key_index as key_index, map as map, no_conflict as no_conflict,
-    pair as pair, pair_conflict as pair_conflict, refusal as refusal, tri_hash_map as tri_hash_map,
+    id_hash_map as id_hash_map, key_index as key_index, map as map, mix as mix,
+    no_conflict as no_conflict, pair as pair, pair_conflict as pair_conflict, refusal as refusal,
+    tri_hash_map as tri_hash_map,
 };
 pub use iddqd_ord_map::by_order::{ByOrder, ByOrderOf};
 pub use iddqd_ord_map::by_order_multi::{ByOrderMulti, ByOrderMultiOf};

@@ -17,7 +17,7 @@ ghost use Rattle.uses.specs.declared.ledger.Order.{Order};
 use iddqd_maps::id_ord_map::Iter;
 use iddqd_maps::ordered_walk::Range;
 use iddqd_maps::{
-    ByHash, ByHashMulti, ByOrderMulti, Field, GroupItems, Here, InGroups, InOrder, InsertRefusal,
+    ByHash, ByHashMulti, ByOrderMulti, CloneFor, DefaultHashBuilder, Field, GroupItems, Here, InGroups, InOrder, InsertRefusal,
     ItemIndex, KeyOf, Left, Map, NoConflict, Pair, PairConflict, Right,
 };
 use std::alloc::{AllocError, Global};
@@ -82,8 +82,21 @@ type ByCustomer = Right<Left<Here>>;
 
 type ByDay = Right<Right<Here>>;
 
+type Keys = Pair<ByHash<Number, u64>, Shared>;
+
 /// Orders by their numbers, by their customers, and in the order of their days.
-pub type Ledger = Map<Order, Pair<ByHash<Number, u64>, Shared>>;
+pub type Ledger = Map<Order, Keys>;
+
+impl CloneFor<Keys, DefaultHashBuilder> for Order {
+    ghost same_keys = { Prim.search rules };
+}
+
+/// A copy of the ledger, with each order under its index.
+pub fn copy_of(ledger: &Ledger) -> Result<Ledger, AllocError>
+    ensures { IfOk result (λ copy. copy.store ≡ ledger.now.store) }
+{
+    ledger.clone()
+}
 
 /// Adds an order, unless another one has its number.
 pub fn add(ledger: &mut Ledger, order: Order) -> Result<ItemIndex, InsertRefusal<Order, Taken>>

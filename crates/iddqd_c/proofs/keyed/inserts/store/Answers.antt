@@ -42,7 +42,7 @@ returns-in-Ok-insert-clause-inserts c =
       (
         record { first = c.in-Ok.first; second = c.args.second; value = c.args.value },
         record { has_bytes = c.in-Ok.ensures.items; has_second = refl; has_value = refl },
-        Step-keeping _ _ _ _ _ out.keeps out.inserts out.reports.first out.reports.second,
+        Step-keeping _ _ _ _ _ out.keeps out.inserts out.tells.first out.tells.second,
       ),
     )
 
@@ -55,4 +55,4 @@ returns-in-Err-clause-inserts c =
     (record { passes = λ entry has. (bytes_decides _ _).1 (sym has); alike = λ entry has i key. bytes_eq (sym has i) key.items })
     (λ _. refl) (record { first = c.in-Ok.first; second = c.args.second; value = c.args.value })
     (record { has_bytes = c.in-Ok.ensures.items; has_second = refl; has_value = refl }) looked1 looked2
-    _ c.insert.new.self _ _ _ _ c.report.ensures.says out.inserts out.reports out.memory.refused_early
+    _ c.insert.new.self _ _ _ _ c.report.ensures.says out.inserts out.tells out.memory.refused_early
