@@ -17,6 +17,8 @@ pub use Rattle.iddqd_driver.specs.Queries
 pub use Rattle.iddqd_driver.specs.Walks
 pub use Rattle.iddqd_driver.specs.Replacement
 pub use Rattle.iddqd_driver.specs.Modify
+pub use Rattle.iddqd_driver.specs.Clones
+pub use Rattle.iddqd_driver.specs.Equality
 pub use Rattle.iddqd_driver.specs.Memory
 pub use Rattle.iddqd_driver.specs.Retain
 pub use Rattle.iddqd_tri.specs.TriKeys

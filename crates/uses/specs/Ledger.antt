@@ -26,6 +26,11 @@ is_due_on day order = eq_by_cmp nat_cmp day order.day
 abbrev pub is_due_from : ℕ → Order → Bool
 is_due_from day order = is_within (λ (from : ℕ) (order : Order). nat_cmp from order.day) (Included day) Unbounded order
 
+-- the order is due on one of the days from one to another one
+abbrev pub is_due_between : ℕ → ℕ → Order → Bool
+is_due_between from to order =
+    is_within (λ (day : ℕ) (order : Order). nat_cmp day order.day) (Included from) (Included to) order
+
 -- the order with half its amount
 abbrev pub halved : Order → Order
 halved order = record order { amount = order.amount / 2 }

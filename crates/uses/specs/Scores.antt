@@ -1,6 +1,7 @@
 -- Scores by their hours.
 use Rattle.std.specs.Prelude.{ℕ, Bool}
 use Rattle.std.specs.Ordering.{nat_cmp, eq_by_cmp}
+use Rattle.std.specs.declared.cmp.Ordering.{Ordering}
 use Rattle.std.specs.declared.ops.Bound.TheVariants.{Included, Unbounded}
 use Rattle.iddqd_maps.specs.OrderedQuery.{is_within}
 use Rattle.uses.specs.declared.scores.Score.{Score}
@@ -28,3 +29,12 @@ same_hour x y = has_hour x.hour y
 -- the score is of this hour or a later one
 abbrev pub is_from : ℕ → Score → Bool
 is_from hour score = is_within (λ (from : ℕ) (score : Score). nat_cmp from score.hour) (Included hour) Unbounded score
+
+-- the score is of an hour from one to another one
+abbrev pub is_between : ℕ → ℕ → Score → Bool
+is_between from to score =
+    is_within (λ (hour : ℕ) (score : Score). nat_cmp hour score.hour) (Included from) (Included to) score
+
+-- how two scores compare by their hours
+abbrev pub by_hour : Score → Score → Ordering
+by_hour x y = nat_cmp x.hour y.hour

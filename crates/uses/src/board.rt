@@ -12,7 +12,7 @@ ghost use Rattle.iddqd_maps.specs.Map.{FindsItem, Removes, RemovesAt, RemovesHit
 ghost use Rattle.iddqd_maps.specs.OneKey.{IsTaken};
 ghost use Rattle.iddqd_maps.specs.Scan.{AnswersScan, HasNoHit, IsHit};
 ghost use Rattle.iddqd_maps.specs.Sizes.{insertable};
-ghost use Rattle.iddqd_maps.specs.Store.{cleared, empty, get, inserted, live_count, next_index, rebound, removed, slot_count, slot_limit};
+ghost use Rattle.iddqd_maps.specs.Store.{cleared, empty, empty_within, get, inserted, live_count, next_index, rebound, removed, slot_count, slot_limit};
 ghost use Rattle.iddqd_maps.specs.Validation.{Tells, Validates, not_compact_text};
 ghost use Rattle.iddqd_maps.specs.Drops.{Drops};
 ghost use Rattle.uses.specs.Exchanges.{Exchanges, ExchangesIfFound, IsWhyGoneAt, IsWhyGoneBy, IsWhyNot, IsWhyNotAdded, IsWhyNotAt, IsWhyNotChanged, IsWhyNotTakenOver, TakesOverOne};
@@ -48,6 +48,14 @@ pub fn with_room(alloc: Global, scores: usize) -> Result<Board, AllocError>
     IdOrdMap::with_capacity(alloc, scores)
 }
 
+/// An empty board of at most so many scores, with room for some of them.
+pub fn within_with_room(alloc: Global, limit: u32, scores: usize) -> Result<Board, AllocError>
+    ensures none { IfOk result (λ board. board.store ≡ empty_within limit) }
+    ensures room { IfOk result (λ board. min scores limit ≤ room board) }
+{
+    IdOrdMap::with_limit_and_capacity(alloc, limit, scores)
+}
+
 /// Makes room for so many more scores, and tells how many can come without memory.
 pub fn make_room(board: &mut Board, more: usize) -> Result<usize, AllocError>
     ensures room { IfOk result (λ count. min more (insertable board.old.store) ≤ count) }
@@ -55,6 +63,14 @@ pub fn make_room(board: &mut Board, more: usize) -> Result<usize, AllocError>
 {
     board.reserve(more)?;
     Ok(board.room())
+}
+
+/// Makes room for so many more scores. If memory runs out, the scores stay.
+pub fn widen(board: &mut Board, more: usize) -> Result<(), AllocError>
+    ensures room { OnOk result (min more (insertable board.old.store) ≤ room board.new) }
+    ensures unchanged { board.new.store ≡ board.old.store }
+{
+    board.try_reserve(more)
 }
 
 /// Gives back the memory beyond what so many scores need, or those that there are if these are more.

@@ -6,7 +6,7 @@ ghost use Rattle.iddqd_maps.specs.Map.{RemovesAt, empty_map, room};
 ghost use Rattle.iddqd_maps.specs.OneKey.{IsTaken};
 ghost use Rattle.iddqd_maps.specs.Scan.{HasNoHit};
 ghost use Rattle.iddqd_maps.specs.Sizes.{insertable};
-ghost use Rattle.iddqd_maps.specs.Store.{cleared, empty, get, rebound, slot_limit};
+ghost use Rattle.iddqd_maps.specs.Store.{cleared, empty, empty_within, get, rebound, slot_limit};
 ghost use Rattle.uses.specs.Exchanges.{Exchanges, IsWhyNot, IsWhyNotAt, IsWhyNotTakenOver, TakesOverOne};
 ghost use Rattle.uses.specs.Stock.{has_kind, same_kind, with_count};
 ghost use Rattle.uses.specs.Updates.{UpdatesAt};
@@ -29,6 +29,14 @@ pub fn with_room(alloc: Global, kinds: usize) -> Result<Depot, AllocError>
     IdHashMap::with_capacity(alloc, kinds)
 }
 
+/// An empty depot for at most so many kinds, with room for some of them.
+pub fn within_with_room(alloc: Global, limit: u32, kinds: usize) -> Result<Depot, AllocError>
+    ensures none { IfOk result (λ depot. depot.store ≡ empty_within limit) }
+    ensures room { IfOk result (λ depot. min kinds limit ≤ room depot) }
+{
+    IdHashMap::with_limit_and_capacity(alloc, limit, kinds)
+}
+
 /// The same under a hasher of one's own.
 pub fn hashed_with_room(
     alloc: Global,
@@ -46,6 +54,13 @@ pub fn hashed_within(alloc: Global, limit: u32, hasher: Base31) -> IdHashMap<Par
     ensures { result ≡ empty_map limit }
 {
     IdHashMap::with_limit_and_hasher(alloc, hasher, limit)
+}
+
+/// An empty depot under the hasher of another one.
+pub fn hashed_alike(alloc: Global, depot: &IdHashMap<Part, Base31>) -> IdHashMap<Part, Base31>
+    ensures { result ≡ empty_map u32.MAX }
+{
+    IdHashMap::with_hasher(alloc, *depot.hasher())
 }
 
 /// Makes room for so many more kinds, and tells how many can come without memory.

@@ -10,15 +10,16 @@ ghost use Rattle.iddqd_maps.specs.Scan.{HasNoHit, IsHit};
 ghost use Rattle.iddqd_maps.specs.Store.{inserted, live_count, next_index};
 ghost use Rattle.iddqd_maps.specs.Drops.{Drops};
 ghost use Rattle.uses.specs.Exchanges.{IsWhyNotAdded};
-ghost use Rattle.uses.specs.Ledger.{by_day, halved, has_number, is_due_from, is_due_on, shares_number, unpriced};
+ghost use Rattle.uses.specs.Ledger.{by_day, halved, has_number, is_due_between, is_due_from, is_due_on, shares_number, unpriced};
 ghost use Rattle.uses.specs.Updates.{UpdatesAll};
 ghost use Rattle.uses.specs.declared.ledger.Order.{Order};
 
 use iddqd_maps::id_ord_map::Iter;
 use iddqd_maps::ordered_walk::Range;
 use iddqd_maps::{
-    ByHash, ByHashMulti, ByOrderMulti, CloneFor, DefaultHashBuilder, Field, GroupItems, Here, InGroups, InOrder, InsertRefusal,
-    ItemIndex, KeyOf, Left, Map, NoConflict, Pair, PairConflict, Right,
+    ByHash, ByHashMulti, ByOrderMulti, CloneFor, DefaultHashBuilder, Field, GroupItems, Here,
+    InGroups, InOrder, InsertRefusal, ItemIndex, KeyOf, Left, Map, NoConflict, Pair, PairConflict,
+    Right,
 };
 use std::alloc::{AllocError, Global};
 use std::ops::Bound;
@@ -168,6 +169,13 @@ pub fn orders_from(ledger: &Ledger, day: u32) -> Range<'_, Order>
     ensures { IteratesInOrder by_day (is_due_from day) ledger.now.store result }
 {
     ledger.range_by::<ByDay, _>(Bound::Included(&day), Bound::Unbounded)
+}
+
+/// The orders from one day to another one with their indexes, by day and then by index.
+pub fn orders_between(ledger: &Ledger, from: u32, to: u32) -> Range<'_, Order>
+    ensures { IteratesInOrder by_day (is_due_between from to) ledger.now.store result }
+{
+    ledger.range_in::<ByDay, &u32, _>(&from..=&to)
 }
 
 /// All orders with their indexes, by day and then by index.

@@ -95,7 +95,7 @@ pub fn make_room(lockers: &mut Lockers, more: usize) -> Result<usize, AllocError
     ensures room { IfOk result (λ count. min more (insertable lockers.old.store) ≤ count) }
     ensures unchanged { lockers.new.store ≡ lockers.old.store }
 {
-    lockers.reserve(more)?;
+    lockers.try_reserve(more)?;
     Ok(lockers.room())
 }
 

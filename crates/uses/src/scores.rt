@@ -2,8 +2,11 @@
 ghost use Rattle.std.specs.Prelude.{◌≡◌, ◌<◌};
 ghost use Rattle.iddqd_maps.specs.Store.{live_count};
 ghost use Rattle.iddqd_maps.specs.Drops.{Drops};
+ghost use Rattle.iddqd_maps.specs.KeyOrder.{IsWalkWithin};
+ghost use Rattle.iddqd_maps.specs.Ranges.{itself};
+ghost use Rattle.uses.specs.Scores.{by_hour, is_between};
 
-use iddqd_maps::id_ord_map::{IdOrdItem, IdOrdMap};
+use iddqd_maps::id_ord_map::{IdOrdItem, IdOrdMap, Range};
 use std::alloc::{AllocError, Global};
 use std::ops::Bound;
 
@@ -31,6 +34,13 @@ pub fn points(scores: &IdOrdMap<Score>, from: u32, below: u32) -> u32 {
         sum = sum.saturating_add(score.points);
     }
     sum
+}
+
+/// The scores between two hours with their indexes, the earliest first.
+pub fn between(scores: &IdOrdMap<Score>, from: u32, to: u32) -> Range<'_, Score>
+    ensures { IsWalkWithin itself by_hour (is_between from to) scores.now.store result }
+{
+    scores.range_in::<&u32, _>(&from..=&to)
 }
 
 /// Forgets the scores of the hours before one, and returns how many are left. It takes no memory.
