@@ -4,9 +4,12 @@ import glob
 import os
 import re
 import shutil
+from collections import defaultdict
+from functools import cache
 
 TOP = os.path.realpath(os.path.join(os.path.dirname(os.path.abspath(__file__)), ".."))
 
+LICENCES = ["LICENSE-APACHE", "LICENSE-MIT"]
 # The types that callers hold; `Map` is what the three names after it stand for, each with its own mix of keys.
 MAPS = ["Map", "IdHashMap", "BiHashMap", "TriHashMap", "IdOrdMap", "KeyedItems", "TriItems"]
 # The traits of crates above that add calls to such a type.
@@ -18,10 +21,22 @@ def read(path):
         return file.read()
 
 
+def dead_links(page, top):
+    """The links of a page that lead to no file below this folder."""
+    places = {link: os.path.abspath(os.path.join(os.path.dirname(page), link))
+              for link in re.findall(r"\]\(([^)#:]+)(?:#[^)]*)?\)", read(page))}
+    return [link for link, place in places.items() if not (place.startswith(f"{top}/") and os.path.exists(place))]
+
+
 def crates_in(path):
     """The lines of a crates.txt: each crate with those that it names."""
     lines = (line.partition("#")[0] for line in read(path).split("\n"))
     return {name.split()[0]: named.split() for name, colon, named in (line.partition(":") for line in lines) if colon}
+
+
+def release():
+    """The release of these files: the first heading of the change log."""
+    return re.search(r"^## (.*)", read(f"{TOP}/CHANGELOG.md"), re.M)[1]
 
 
 def below(names, crates):
@@ -54,10 +69,19 @@ def sources_of(crate):
     return sorted(glob.glob(f"{TOP}/crates/{crate}/src/**/*.rt", recursive=True))
 
 
+@cache
+def definitions():
+    """The files of the crates that define each public struct, trait and name for another type."""
+    found = defaultdict(list)
+    for path in glob.glob(f"{TOP}/crates/*/src/**/*.rt", recursive=True):
+        for name in {*re.findall(r"^pub (?:struct|type|trait) (\w+)", read(path), re.M)}:
+            found[name].append(path)
+    return found
+
+
 def file_of(name):
-    """The one file of the crates that defines this public struct, or this name for another one."""
-    found = [path for path in glob.glob(f"{TOP}/crates/*/src/**/*.rt", recursive=True)
-             if re.search(rf"^pub (struct|type|trait) {name}\b", read(path), re.M)]
+    """The one file of the crates that defines this public struct or trait, or this name for another type."""
+    found = definitions()[name]
     if len(found) != 1:
         raise SystemExit(f"{len(found)} files define a public type {name}")
     return found[0]
