@@ -1,8 +1,8 @@
 -- What calls that empty a map or insert many items leave.
-use Rattle.std.proofs.Common.{◌≡◌, ◌≢◌, ◌∙◌, ◌+◌, ◌-◌, ◌<◌, ◌≤◌, ℕ, Bool, true, List, [], ◌∷◌, length, drop, Option, Some, None, refl, sym, ap, subst, arith}
+use Rattle.std.proofs.Common.{◌≡◌, ◌≢◌, ◌∙◌, ◌+◌, ◌-◌, ◌<◌, ◌≤◌, ℕ, Bool, true, List, [], ◌∷◌, ◌++◌, length, drop, Option, Some, None, refl, sym, ap, subst, arith}
 use Rattle.std.specs.Prelude.{Err}
 use Rattle.std.specs.Fn.{Mut}
-use Rattle.std.specs.Iterator.{Count, IsFinite, IsNearerEnd, MakesProgress, UpTo, size}
+use Rattle.std.specs.Iterator.{Count, IsFinite, IsNearerEnd, MakesProgress, UpTo, YieldsThen, size}
 use Rattle.std.specs.List.{FoldsTo}
 use Rattle.std.proofs.lemmas.List.{at_drop_more, drop_all}
 use Rattle.iddqd.specs.Store.{Store, IsValid, get, live_count, next_index, removed}
@@ -278,3 +278,20 @@ module _
     InsertsUntil-stays it rest old new items (Some refusal) valid (item, before, run, refused) = λ ix x live.
         subst (λ s. get s ix ≡ Some x) (sym (store_of_refused before new item refusal refused))
         (stays-along alike grown items old before valid run.in_turn ix x live)
+
+-- an iterator that has these items left
+module _
+    {I T : Type 0} (gives : I → Option T → I → Type 0) (rest : I → List T)
+    (first : (s t : I) (x : T) → gives s (Some x) t → rest s ≡ x ∷ rest t)
+    (last : (s t : I) → gives s None t → rest s ≡ [])
+  where
+    pub gave_all : (xs : List T) (s u : I) → YieldsThen gives s xs None u → rest s ≡ xs
+    gave_all [] s u (t, same, none) = ap rest same ∙ last t u none
+    gave_all (x ∷ xs) s u (t, (j, step, more), none) =
+        first s j x step ∙ ap (λ l. x ∷ l) (gave_all xs j u (t, more, none))
+
+    pub gave_until :
+        (xs : List T) (x : T) (s u : I) → YieldsThen gives s xs (Some x) u → rest s ≡ xs ++ x ∷ rest u
+    gave_until [] x s u (t, same, step) = ap rest same ∙ first t u x step
+    gave_until (y ∷ ys) x s u (t, (j, step, more), next) =
+        first s j y step ∙ ap (λ l. y ∷ l) (gave_until ys x j u (t, more, next))

@@ -1,12 +1,12 @@
 -- How the calls that give items away, or insert many, call their closures and their iterator, and what they leave.
-use Rattle.std.specs.Prelude.{◌≡◌, ℕ, Bool, not, List, [], ◌∷◌, length, map, filter, Option, Some, None, Result, Ok, Err}
+use Rattle.std.specs.Prelude.{◌≡◌, ◌++◌, ℕ, Bool, not, List, [], ◌∷◌, length, map, filter, Option, Some, None, Result, Ok, Err}
 use Rattle.std.specs.Fn.{Mut}
 use Rattle.std.specs.Iterator.{Count, MakesProgress, YieldsThen}
 use Rattle.std.specs.Iterator.SizeHint.{IsWithinCount}
 use Rattle.std.specs.List.{FoldsTo}
 use Rattle.std.specs.declared.alloc.AllocError.{AllocError}
 use Rattle.iddqd.specs.LiveItems.{live_pairs}
-use Rattle.iddqd.specs.Store.{Store, inserted}
+use Rattle.iddqd.specs.Store.{Store, empty, inserted}
 use Rattle.iddqd_keys.specs.Removals.{removed_all}
 use Rattle.iddqd_map.specs.Calls.{Inserts, InsertsAt}
 use Rattle.iddqd_map.specs.Map.{MapState}
@@ -57,6 +57,21 @@ module _ {F G T : Type 0} (ask : F → T → Bool → F → Type 0) (give : G �
 abbrev pub inserted_all : {T : Type 0} → Store T → List T → Store T
 inserted_all s [] = s
 inserted_all s (item ∷ rest) = inserted_all (inserted s item) rest
+
+-- Why no map is made of these items: this is what an insert answers at the first of them that a map doesn't take with
+-- those before it. `alike`, `grown` and `conflicts` are as below.
+pub record RefusesOneOf
+    {T C : Type 0} (alike : T → T → Bool) (grown : ℕ → ℕ) (conflicts : Store T → T → C → Type 0)
+    (items : List T) (refusal : InsertRefusal T C)
+    : Type 0 where
+  pub before : List T
+  pub item : T
+  pub after : List T
+  pub listed : items ≡ before ++ item ∷ after
+  pub map : MapState T
+  pub holds : map.store ≡ inserted_all empty before
+  pub left : MapState T
+  pub refused : Inserts alike grown conflicts map item (Err refusal) left
 
 -- Of an iterator: `gives` says what a call of `next` gives. Of a map: `alike x y` says that the items share a unique
 -- key, and `grown n` is the most by which the cells grow in an insert that leaves n indexes.

@@ -1,9 +1,9 @@
 -- What inserts and replacements return and leave in a map with one ordered key, given that at most one item has a key.
-use Rattle.std.specs.Prelude.{ℕ, Bool, true, Option, Result}
+use Rattle.std.specs.Prelude.{ℕ, Bool, true, List, Option, Result}
 use Rattle.std.specs.Fn.{Once}
 use Rattle.std.specs.Iterator.{Count}
 use Rattle.std.specs.declared.cmp.Ordering.{Ordering}
-use Rattle.iddqd_map.specs.Bulk.{InsertsFrom}
+use Rattle.iddqd_map.specs.Bulk.{InsertsFrom, RefusesOneOf}
 use Rattle.iddqd_map.specs.Calls.{Inserts, ReplacesIfLive, Replaces, Changes}
 use Rattle.iddqd_map.specs.Map.{MapState}
 use Rattle.iddqd_map.specs.OneKey.{IsReported, IsTaken}
@@ -52,6 +52,12 @@ module _ {T K : Type 0} (key_of : T → K) (compare : K → K → Ordering) wher
   InsertsFromInOrder gives remaining it old result new =
       let alike = alike_in_order key_of compare in
       InsertsFrom gives alike (λ count. 0) (IsReported alike) remaining most_cells it old result new
+
+  -- why no map is made of these items
+  abbrev pub RefusesOneInOrder : List T → InsertRefusal T ℕ → Type 0
+  RefusesOneInOrder items refusal =
+      let alike = alike_in_order key_of compare in
+      RefusesOneOf alike (λ count. 0) (IsReported alike) items refusal
 
   -- and one of an item that the closure made
   abbrev pub InsertsMadeInOrder :

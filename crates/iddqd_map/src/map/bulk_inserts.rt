@@ -1,17 +1,57 @@
 //! Inserts the items of an iterator.
-ghost use Rattle.std.specs.Prelude.{◌≡◌, ◌+◌, ℕ, List, Some, IfErr, IfSome};
+ghost use Rattle.std.specs.Prelude.{◌≡◌, ◌+◌, ℕ, List, Some, IfOk, IfErr, IfSome, length};
 ghost use Rattle.std.specs.Iterator.{IsFinite, IsNearerEnd, UpTo};
-ghost use Rattle.iddqd.specs.{IsValid, get, live_count};
-ghost use Rattle.iddqd_map.specs.Bulk.{InsertsFrom, InsertsNext, InsertsUntil, inserted_count};
+ghost use Rattle.iddqd.specs.{IsValid, empty, get, live_count};
+ghost use Rattle.iddqd_map.specs.Bulk.{InsertsFrom, InsertsNext, InsertsUntil, RefusesOneOf, inserted_all, inserted_count};
 ghost use Rattle.iddqd_map.specs.Calls.{IsDuplicate};
 ghost use Rattle.iddqd_map.specs.Map.{room};
 
 use super::Map;
 use crate::key_index::KeyIndex;
 use crate::refusal::{InsertRefusal, Stopped};
+use iddqd::hash_builder::DefaultHashBuilder;
 use iddqd::item_index::ItemIndex;
+use std::alloc::Global;
+
+impl<T, X: KeyIndex<T, DefaultHashBuilder>> Map<T, X, DefaultHashBuilder> {
+    /// A map of these items, with the default hasher, each inserted as by `insert_unique`, in turn.
+    ///
+    /// The first refusal is returned, and then all other items are dropped. Memory is reserved at once for all items.
+    pub fn from_array<const N: usize>(
+        alloc: Global,
+        items: [T; N],
+    ) -> Result<Map<T, X, DefaultHashBuilder>, InsertRefusal<T, X::Conflict>>
+    where
+        T: Drop,
+        ensures items { IfOk result (λ map. map.store ≡ inserted_all empty items) }
+        ensures count { IfOk result (λ map. live_count map.store ≡ length items) }
+        ensures refused { IfErr result (RefusesOneOf X.alike X.grown X.conflicts items) }
+    {
+        Map::from_array_with_hasher(alloc, DefaultHashBuilder::default(), items)
+    }
+}
 
 impl<T, X: KeyIndex<T, S>, S> Map<T, X, S> {
+    /// `from_array`, with this hasher.
+    pub fn from_array_with_hasher<const N: usize>(
+        alloc: Global,
+        state: S,
+        items: [T; N],
+    ) -> Result<Map<T, X, S>, InsertRefusal<T, X::Conflict>>
+    where
+        T: Drop,
+        S: Drop,
+        ensures items { IfOk result (λ map. map.store ≡ inserted_all empty items) }
+        ensures count { IfOk result (λ map. live_count map.store ≡ length items) }
+        ensures refused { IfErr result (RefusesOneOf X.alike X.grown X.conflicts items) }
+    {
+        let mut map = Map::with_hasher(alloc, state);
+        match map.insert_all(items.into_iter()) {
+            Ok(_count) => Ok(map),
+            Err(stopped) => Err(stopped.refusal),
+        }
+    }
+
     /// Inserts the items of an iterator in turn, up to the first that is refused, and returns how many there were.
     ///
     /// Each is inserted as by `insert_unique`. A refusal comes back with its item, with the number of items that were

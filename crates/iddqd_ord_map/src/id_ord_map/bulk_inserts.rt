@@ -1,18 +1,36 @@
 //! Inserts the items of an iterator.
-ghost use Rattle.std.specs.Prelude.{◌≡◌, ◌+◌, ℕ, Some, IfErr};
+ghost use Rattle.std.specs.Prelude.{◌≡◌, ◌+◌, ℕ, Some, IfOk, IfErr, length};
 ghost use Rattle.std.specs.Iterator.{IsFinite, IsNearerEnd, UpTo};
-ghost use Rattle.iddqd.specs.{get, live_count};
-ghost use Rattle.iddqd_map.specs.Bulk.{inserted_count};
+ghost use Rattle.iddqd.specs.{empty, get, live_count};
+ghost use Rattle.iddqd_map.specs.Bulk.{inserted_all, inserted_count};
 ghost use Rattle.iddqd_map.specs.Calls.{IsDuplicate};
 ghost use Rattle.iddqd_map.specs.Map.{room};
-ghost use Rattle.iddqd_ord_map.specs.OrdMap.{InsertsFromInOrder};
+ghost use Rattle.iddqd_ord_map.specs.OrdMap.{InsertsFromInOrder, RefusesOneInOrder};
 
 use super::OrdMapBy;
 use iddqd::item_index::ItemIndex;
 use iddqd_keys::order_key::OrdKey;
-use iddqd_map::refusal::Stopped;
+use iddqd_map::map::Map;
+use iddqd_map::refusal::{InsertRefusal, Stopped};
+use std::alloc::Global;
 
 impl<T: Drop, E: OrdKey<T>> OrdMapBy<T, E> {
+    /// A map of these items, each inserted as by `insert_unique`, in turn.
+    ///
+    /// The first refusal is returned, and then all other items are dropped. Memory is reserved at once for all items.
+    pub fn from_array<const N: usize>(
+        alloc: Global,
+        items: [T; N],
+    ) -> Result<OrdMapBy<T, E>, InsertRefusal<T, ItemIndex>>
+        ensures items { IfOk result (λ map. map.store ≡ inserted_all empty items) }
+        ensures count { IfOk result (λ map. live_count map.store ≡ length items) }
+        ensures refused { IfErr result (RefusesOneInOrder E.key_of E.cmp items) }
+    {
+        Ok(OrdMapBy {
+            map: Map::from_array_with_hasher(alloc, (), items)?,
+        })
+    }
+
     /// Inserts the items of an iterator in turn, up to the first that is refused, and returns how many there were.
     ///
     /// Each is inserted as by `insert_unique`. A refusal comes back with its item, with the number of items that were
