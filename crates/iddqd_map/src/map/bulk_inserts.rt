@@ -1,5 +1,6 @@
 //! Inserts the items of an iterator.
 ghost use Rattle.std.specs.Prelude.{◌≡◌, ◌+◌, ℕ, List, Some, IfOk, IfErr, IfSome, length};
+ghost use Rattle.std.specs.Array.Iter.{IntoIterFitsInMemory};
 ghost use Rattle.std.specs.Iterator.{IsFinite, IsNearerEnd, UpTo};
 ghost use Rattle.iddqd.specs.{IsValid, empty, get, live_count};
 ghost use Rattle.iddqd_map.specs.Bulk.{InsertsFrom, InsertsNext, InsertsUntil, RefusesOneOf, inserted_all, inserted_count};
@@ -17,12 +18,14 @@ impl<T, X: KeyIndex<T, DefaultHashBuilder>> Map<T, X, DefaultHashBuilder> {
     /// A map of these items, with the default hasher, each inserted as by `insert_unique`, in turn.
     ///
     /// The first refusal is returned, and then all other items are dropped. Memory is reserved at once for all items.
+    /// The condition holds of every array of fewer than 2^60 bytes, and the check finds that by itself.
     pub fn from_array<const N: usize>(
         alloc: Global,
         items: [T; N],
     ) -> Result<Map<T, X, DefaultHashBuilder>, InsertRefusal<T, X::Conflict>>
     where
         T: Drop,
+        requires { IntoIterFitsInMemory T.row N.row }
         ensures items { IfOk result (λ map. map.store ≡ inserted_all empty items) }
         ensures count { IfOk result (λ map. live_count map.store ≡ length items) }
         ensures refused { IfErr result (RefusesOneOf X.alike X.grown X.conflicts items) }
@@ -41,14 +44,17 @@ impl<T, X: KeyIndex<T, S>, S> Map<T, X, S> {
     where
         T: Drop,
         S: Drop,
+        requires { IntoIterFitsInMemory T.row N.row }
         ensures items { IfOk result (λ map. map.store ≡ inserted_all empty items) }
         ensures count { IfOk result (λ map. live_count map.store ≡ length items) }
         ensures refused { IfErr result (RefusesOneOf X.alike X.grown X.conflicts items) }
     {
         let mut map = Map::with_hasher(alloc, state);
-        match map.insert_all(items.into_iter()) {
-            Ok(_count) => Ok(map),
-            Err(stopped) => Err(stopped.refusal),
+        let _reserved = map.reserve(N);
+        let mut iter = items.into_iter();
+        match map.insert_each(&mut iter) {
+            None => Ok(map),
+            Some(refusal) => Err(refusal),
         }
     }
 

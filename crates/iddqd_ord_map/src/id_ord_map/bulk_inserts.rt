@@ -1,5 +1,6 @@
 //! Inserts the items of an iterator.
 ghost use Rattle.std.specs.Prelude.{◌≡◌, ◌+◌, ℕ, Some, IfOk, IfErr, length};
+ghost use Rattle.std.specs.Array.Iter.{IntoIterFitsInMemory};
 ghost use Rattle.std.specs.Iterator.{IsFinite, IsNearerEnd, UpTo};
 ghost use Rattle.iddqd.specs.{empty, get, live_count};
 ghost use Rattle.iddqd_map.specs.Bulk.{inserted_all, inserted_count};
@@ -18,10 +19,12 @@ impl<T: Drop, E: OrdKey<T>> OrdMapBy<T, E> {
     /// A map of these items, each inserted as by `insert_unique`, in turn.
     ///
     /// The first refusal is returned, and then all other items are dropped. Memory is reserved at once for all items.
+    /// The condition holds of every array of fewer than 2^60 bytes, and the check finds that by itself.
     pub fn from_array<const N: usize>(
         alloc: Global,
         items: [T; N],
     ) -> Result<OrdMapBy<T, E>, InsertRefusal<T, ItemIndex>>
+        requires { IntoIterFitsInMemory T.row N.row }
         ensures items { IfOk result (λ map. map.store ≡ inserted_all empty items) }
         ensures count { IfOk result (λ map. live_count map.store ≡ length items) }
         ensures refused { IfErr result (RefusesOneInOrder E.key_of E.cmp items) }
