@@ -5,12 +5,12 @@ use Rattle.std.specs.Fn.{Mut}
 use Rattle.std.specs.Iterator.{Count, IsFinite, IsNearerEnd, MakesProgress, UpTo, YieldsThen, size}
 use Rattle.std.specs.List.{FoldsTo}
 use Rattle.std.proofs.lemmas.List.{at_drop_more, drop_all}
-use Rattle.iddqd.specs.Store.{Store, IsValid, get, live_count, next_index, removed}
+use Rattle.iddqd.specs.Store.{Store, IsValid, empty, get, live_count, next_index, removed, slot_limit}
 use Rattle.iddqd.specs.LiveItems.{items_in, live_items}
 use Rattle.iddqd.proofs.LiveCountLemmas.{live_count-inserted}
 use Rattle.iddqd.proofs.LiveLemmas.{get-inserted_other, get-removed_other, next_vacant}
-use Rattle.iddqd.proofs.StoreLemmas.{IsValid-inserted}
-use Rattle.iddqd_map.specs.Bulk.{InsertsItems, InsertsUntil, inserted_all}
+use Rattle.iddqd.proofs.StoreLemmas.{IsValid-empty, IsValid-inserted}
+use Rattle.iddqd_map.specs.Bulk.{InsertsItems, InsertsUntil, RefusesOneOf, inserted_all}
 use Rattle.iddqd_map.specs.Calls.{Inserts, InsertsAt}
 use Rattle.iddqd_map.specs.Map.{MapState, room}
 use Rattle.iddqd_map.specs.Ranges.{TakesItem, GivesItem}
@@ -279,19 +279,50 @@ module _
         subst (λ s. get s ix ≡ Some x) (sym (store_of_refused before new item refusal refused))
         (stays-along alike grown items old before valid run.in_turn ix x live)
 
--- an iterator that has these items left
+-- a map of the items that an iterator has left
 module _
-    {I T : Type 0} (gives : I → Option T → I → Type 0) (rest : I → List T)
+    {I T C : Type 0} (gives : I → Option T → I → Type 0) (rest : I → List T)
     (first : (s t : I) (x : T) → gives s (Some x) t → rest s ≡ x ∷ rest t)
     (last : (s t : I) → gives s None t → rest s ≡ [])
+    (alike : T → T → Bool) (grown : ℕ → ℕ) (conflicts : Store T → T → C → Type 0)
   where
-    pub gave_all : (xs : List T) (s u : I) → YieldsThen gives s xs None u → rest s ≡ xs
+    gave_all : (xs : List T) (s u : I) → YieldsThen gives s xs None u → rest s ≡ xs
     gave_all [] s u (t, same, none) = ap rest same ∙ last t u none
     gave_all (x ∷ xs) s u (t, (j, step, more), none) =
         first s j x step ∙ ap (λ l. x ∷ l) (gave_all xs j u (t, more, none))
 
-    pub gave_until :
-        (xs : List T) (x : T) (s u : I) → YieldsThen gives s xs (Some x) u → rest s ≡ xs ++ x ∷ rest u
+    gave_until : (xs : List T) (x : T) (s u : I) → YieldsThen gives s xs (Some x) u → rest s ≡ xs ++ x ∷ rest u
     gave_until [] x s u (t, same, step) = ap rest same ∙ first t u x step
     gave_until (y ∷ ys) x s u (t, (j, step, more), next) =
         first s j y step ∙ ap (λ l. y ∷ l) (gave_until ys x j u (t, more, next))
+
+    module _
+        (items : List T) (it u : I) (are : rest it ≡ items) (old new : MapState T) (none : old.store ≡ empty)
+        (taken : List T)
+      where
+        pub made_all :
+            InsertsUntil gives alike grown conflicts it old taken None u new
+            → (new.store ≡ inserted_all empty items) × (live_count new.store ≡ length items)
+        made_all did =
+            let same : taken ≡ items = sym (gave_all taken it u did.given) ∙ are in
+            let valid = subst IsValid (sym none) (IsValid-empty slot_limit (omega arith)) in
+            let count = count-along alike grown taken old new valid did.in_turn in
+            (
+              did.stored ∙ ap (λ s. inserted_all s taken) none ∙ ap (inserted_all empty) same,
+              omega (arith, count, ap live_count none, ap length same),
+            )
+
+        pub made_refused :
+            (refusal : InsertRefusal T C)
+            → InsertsUntil gives alike grown conflicts it old taken (Some refusal) u new
+            → RefusesOneOf alike grown conflicts items refusal
+        made_refused refusal (item, map, did, refused) = record {
+          before = taken;
+          item = item;
+          after = rest u;
+          listed = sym are ∙ gave_until taken item it u did.given;
+          map = map;
+          holds = did.stored ∙ ap (λ s. inserted_all s taken) none;
+          left = new;
+          refused = refused;
+        }
