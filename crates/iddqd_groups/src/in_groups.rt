@@ -76,7 +76,7 @@ impl<'a, T, E: HashKey<T>, Q: ItemHashQuery<T, E>> Iterator for GroupItems<'a, T
         ensures upper { IfSome result.1 (UpTo (at_most (length self.now))) }
 
         // There is a bound, and there are no more indexes than that.
-        ensures few { MatchOption result.1 (λ most. most ≤ sentinel) ⊥ }
+        ensures few { MatchOption result.1 ⊥ (λ most. most ≤ sentinel) }
     {
         self.indexes.size_hint()
     }
