@@ -29,8 +29,8 @@ use std::marker::Model;
 
 /// The items that have a key with their indexes, each once, in no order that a caller can rely on. It is fused.
 ///
-/// A contract sees it as the pairs that are left. Its `size_hint` has an upper bound, which is no count: to count a group
-/// call `count_hashed_group_by`.
+/// A contract sees it as the pairs that are left. Its `size_hint` has an upper bound, which is no count: to count a
+/// group call `count_hashed_group_by`.
 #[derive(Drop)]
 pub struct GroupItems<'a, T, E: HashKey<T>, Q: ItemHashQuery<T, E>> {
     indexes: Group<'a, T, E, Q>,

@@ -211,7 +211,7 @@ fn last_index<P, T, X: SortedAt<P, T, S>, S>(map: &Map<T, X, S>) -> Option<ItemI
 
 // A bound without the reference.
 pub(crate) fn by_value<Q: Copy>(bound: Bound<&Q>) -> Bound<Q>
-    ensures { result ≡ bound_map (λ query. query.now) bound }
+    ensures { result ≡ bound_map (λ query. query.now) bound.entry }
 {
     match bound {
         Bound::Included(query) => Bound::Included(*query),

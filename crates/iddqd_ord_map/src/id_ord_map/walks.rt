@@ -7,7 +7,7 @@ ghost use Rattle.std.specs.Ordering.{on};
 ghost use Rattle.iddqd_map.specs.Map.{capacity, room};
 ghost use Rattle.iddqd_map.specs.Ranges.{itself};
 ghost use Rattle.iddqd_ord_map.specs.ByOrder.{FindsGreatest, FindsLeast};
-ghost use Rattle.iddqd_ord_map.specs.KeyOrder.{AreInKeyOrder, FindsEnd, IsKeyWalk, IsWalkWithin, PopsEnd};
+ghost use Rattle.iddqd_ord_map.specs.KeyOrder.{AreInKeyOrder, FindsEnd, IsKeyWalk, IsWalkBetween, IsWalkWithin, PopsEnd};
 
 use super::{IdOrdItem, IdOrdMap, IntoValues, Iter, OrdMapBy, Range, Values};
 use crate::in_order::by_value;
@@ -67,8 +67,8 @@ impl<T: Drop, E: OrdKey<T>> OrdMapBy<T, E> {
     ///
     /// Of a `RangeInclusive` that was iterated to its end nothing is said.
     pub fn range_in<Q: ItemRangeQuery<T, E>, R: RangeBounds<Q>>(&self, bounds: R) -> Range<'_, T>
-        ensures { let within = is_within Q.compare_item (R.start_bound bounds) (R.end_bound bounds) in
-            R.has_bounds bounds → IsWalkWithin itself (on E.key_of E.cmp) within self.now.store result }
+        ensures { R.has_bounds bounds → IsWalkBetween (on E.key_of E.cmp)
+            Q.compare_item (R.start_bound bounds) (R.end_bound bounds) self.now.store result }
     {
         self.range(by_value(bounds.start_bound()), by_value(bounds.end_bound()))
     }
