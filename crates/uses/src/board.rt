@@ -3,7 +3,7 @@ ghost use Rattle.std.specs.Prelude.{◌≡◌, ◌⊎◌, ◌≤◌, ◌<◌, �
 ghost use Rattle.std.specs.Ordering.{nat_cmp, eq_by_cmp};
 ghost use Rattle.std.specs.declared.cmp.Ordering.TheVariants.{Less, Greater};
 ghost use Rattle.std.specs.Iterator.{UpTo};
-ghost use Rattle.iddqd_maps.specs.Bulk.{inserted_count};
+ghost use Rattle.iddqd_maps.specs.Bulk.{inserted_all, inserted_count};
 ghost use Rattle.iddqd_maps.specs.Calls.{IsDuplicate};
 ghost use Rattle.iddqd_maps.specs.Compaction.{compacted};
 ghost use Rattle.iddqd_maps.specs.Groups.{CountsHits};
@@ -38,6 +38,14 @@ pub fn within(alloc: Global, limit: u32) -> Board
     ensures { result ≡ empty_map limit }
 {
     IdOrdMap::with_limit(alloc, limit)
+}
+
+/// A board of these three scores, unless two of them are of one hour.
+pub fn of_three(alloc: Global, scores: [Score; 3]) -> Result<Board, InsertRefusal<Score, ItemIndex>>
+    ensures scores { IfOk result (λ board. board.store ≡ inserted_all empty scores) }
+    ensures count { IfOk result (λ board. live_count board.store ≡ 3) }
+{
+    IdOrdMap::from_array(alloc, scores)
 }
 
 /// An empty board with room for so many scores, or for as many as there are indexes.

@@ -1,12 +1,13 @@
 //! A depot of parts: further calls of an `IdHashMap`, beside those of `users` and `stock`, and what each promises.
 ghost use Rattle.std.specs.Prelude.{◌≡◌, ◌⊎◌, ◌≤◌, ◌==◌, ◌↔◌, false, true, min, Some, IfOk, IfErr, OnOk, OnErr};
+ghost use Rattle.iddqd_maps.specs.Bulk.{inserted_all};
 ghost use Rattle.iddqd_maps.specs.Compaction.{compacted};
 ghost use Rattle.iddqd_maps.specs.LiveItems.{live_items, live_pairs};
 ghost use Rattle.iddqd_maps.specs.Map.{RemovesAt, empty_map, room};
 ghost use Rattle.iddqd_maps.specs.OneKey.{IsTaken};
 ghost use Rattle.iddqd_maps.specs.Scan.{HasNoHit};
 ghost use Rattle.iddqd_maps.specs.Sizes.{insertable};
-ghost use Rattle.iddqd_maps.specs.Store.{cleared, empty, empty_within, get, rebound, slot_limit};
+ghost use Rattle.iddqd_maps.specs.Store.{cleared, empty, empty_within, get, live_count, rebound, slot_limit};
 ghost use Rattle.uses.specs.Exchanges.{Exchanges, IsWhyNot, IsWhyNotAt, IsWhyNotTakenOver, TakesOverOne};
 ghost use Rattle.uses.specs.Stock.{has_kind, same_kind, with_count};
 ghost use Rattle.uses.specs.Updates.{UpdatesAt};
@@ -16,7 +17,7 @@ use crate::stock::Part;
 use iddqd_maps::id_hash_map::IdHashMap;
 use iddqd_maps::item_index::ItemIndex;
 use iddqd_maps::item_set::{IntoValues, Iter, Values};
-use iddqd_maps::refusal::{OverwriteRefusal, ReplaceRefusal};
+use iddqd_maps::refusal::{InsertRefusal, OverwriteRefusal, ReplaceRefusal};
 use std::alloc::{AllocError, Global};
 
 type Depot = IdHashMap<Part>;
@@ -35,6 +36,14 @@ pub fn within_with_room(alloc: Global, limit: u32, kinds: usize) -> Result<Depot
     ensures room { IfOk result (λ depot. min kinds limit ≤ room depot) }
 {
     IdHashMap::with_limit_and_capacity(alloc, limit, kinds)
+}
+
+/// A depot of two parts, unless they are of one kind.
+pub fn of_two(alloc: Global, parts: [Part; 2]) -> Result<Depot, InsertRefusal<Part, ItemIndex>>
+    ensures parts { IfOk result (λ depot. depot.store ≡ inserted_all empty parts) }
+    ensures count { IfOk result (λ depot. live_count depot.store ≡ 2) }
+{
+    IdHashMap::from_array(alloc, parts)
 }
 
 /// The same under a hasher of one's own.
