@@ -72,7 +72,7 @@ module _ {T : Type 0} (s : Store T) where
   place_of_pair (x ∷ xs) live zero a found =
       let (item, is) = item_at s x (live x (contains_head x xs)) in
       let first : slice_get ((x, item) ∷ pairs_at s xs) 0 ≡ Some a =
-      ap (λ l. slice_get l 0) (sym (pairs_at-first (x ∷ xs) xs x item refl is)) ∙ found in
+      ap (λ l. slice_get l 0) (sym (pairs_at-first s (x ∷ xs) xs x item refl is)) ∙ found in
       let same : (x, item) ≡ a = cc in
       record {
         within = omega arith;
@@ -82,7 +82,7 @@ module _ {T : Type 0} (s : Store T) where
   place_of_pair (x ∷ xs) live (suc i) a found =
       let (item, is) = item_at s x (live x (contains_head x xs)) in
       let next : slice_get (pairs_at s xs) i ≡ Some a =
-      ap (λ l. slice_get l (suc i)) (sym (pairs_at-first (x ∷ xs) xs x item refl is)) ∙ found in
+      ap (λ l. slice_get l (suc i)) (sym (pairs_at-first s (x ∷ xs) xs x item refl is)) ∙ found in
       let later = place_of_pair xs (λ j here. live j (contains_tail x j xs here)) i a next in
       record { within = omega (arith, later.within); index = later.index; item = later.item }
 
