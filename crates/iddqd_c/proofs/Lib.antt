@@ -4,3 +4,4 @@ pub mod EntryLemmas
 pub mod FillLemmas
 pub mod CallLemmas
 pub mod ManyLemmas
+pub mod ReplacingLemmas

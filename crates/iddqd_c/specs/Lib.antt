@@ -2,4 +2,5 @@ pub mod Parked
 pub mod Rows
 pub mod Held
 pub mod Entries
+pub mod Replacing
 pub mod Numbers

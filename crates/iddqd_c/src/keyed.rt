@@ -1,8 +1,8 @@
 //! Items under two keys, for C: bytes that are looked up by their hash, and a number that is looked up by its order.
 //!
-//! No function changes a key of an item, so until a table is freed each of its functions answers as a scan of the items
-//! would: a function that is a command of the keyed machine says so by a `Step`, and the machine's theorem on runs
-//! holds of each sequence of them.
+//! Until a table is freed, each of its functions answers as a scan of the items would. A function that is a command of
+//! the keyed machine says so by a `Step`, and the machine's theorem on runs holds of each sequence of these. The
+//! replacement alone changes keys of an item. It is no command: its clause `keeps` says that a table in sync stays so.
 ghost use Rattle.std.specs.Prelude.{◌≡◌, ◌≢◌, ◌⊎◌, ◌↔◌, ⊤};
 ghost use Rattle.iddqd_driver.specs.{empty_state, live_count};
 ghost use Rattle.iddqd_driver.specs.Memory.{no_memory};
@@ -17,6 +17,7 @@ mod many;
 mod memory;
 mod ranges;
 mod removes;
+mod replaces;
 mod validation;
 mod values;
 

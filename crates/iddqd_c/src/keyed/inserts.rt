@@ -119,7 +119,7 @@ fn report(refusal: &InsertRefusal<Entry>, found: &mut Conflict) -> u32
 }
 
 // What the look-ups of both keys returned, as C reads it.
-fn conflict_of(first: Option<ItemIndex>, second: Option<ItemIndex>) -> Conflict
+pub(super) fn conflict_of(first: Option<ItemIndex>, second: Option<ItemIndex>) -> Conflict
     ensures first { result.first ≡ number_of first }
     ensures second { result.second ≡ number_of second }
 {
