@@ -69,7 +69,8 @@ typedef struct iddqd_row {
     uint32_t index;
 } iddqd_row;
 
-/* The indexes of the items that have a key of a new one: the first and the second. IDDQD_SENTINEL is none. */
+/* The indexes of the items that have a key of a new one: the first and the second. IDDQD_SENTINEL is none, and so is
+ * the index of the item that the new one would replace. */
 typedef struct iddqd_conflict {
     uint32_t first;
     uint32_t second;
@@ -108,6 +109,12 @@ uint32_t iddqd_keyed_key(iddqd_table *table, uint32_t index, uint8_t *key, size_
 
 /* Sets the value of the item at an index. OK. MISSING. */
 uint32_t iddqd_keyed_set_value(iddqd_table *table, uint32_t index, uint64_t value);
+
+/* Replaces the item at an index by one with a copy of the key, this second key and this value. The index stays, and the
+ * item may keep one of its keys or both. OK. MISSING. DUPLICATE: *found has the indexes of the other items that have one
+ * of the keys, and nothing was copied. MEMORY: for the copy, or for the place of a new second key; the item stays. */
+uint32_t iddqd_keyed_replace(iddqd_table *table, uint32_t index, const uint8_t *key, size_t len, uint64_t second,
+                             uint64_t value, iddqd_conflict *found);
 
 /* The items whose second keys are at least `from`, in the order of these keys, as many as the buffer of `len` rows
  * has places for. OK: *count is how many were written, and the places behind them stay as they were. To go on, call it

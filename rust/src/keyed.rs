@@ -1,6 +1,6 @@
 //! Items under two keys.
 
-use crate::raw::{self, Conflict, Handle, Row, DUPLICATE, FULL, OK, SENTINEL, SMALL, UNSOUND};
+use crate::raw::{self, Conflict, Handle, Row, DUPLICATE, FULL, MISSING, OK, SENTINEL, SMALL, UNSOUND};
 use crate::OutOfMemory;
 use std::error::Error;
 use std::fmt;
@@ -36,6 +36,35 @@ impl fmt::Display for InsertError {
 
 impl Error for InsertError {}
 
+/// Why an item was not replaced. Nothing changed.
+#[derive(Clone, Copy, Debug, PartialEq, Eq)]
+pub enum ReplaceError {
+    /// No item is at the index.
+    Missing,
+    /// Another item has one of the keys: the index of another one that has the first, and of another one that has the
+    /// second.
+    Duplicate {
+        /// Another item that has the first key.
+        first: Option<u32>,
+        /// Another item that has the second key.
+        second: Option<u32>,
+    },
+    /// Memory ran out.
+    Memory,
+}
+
+impl fmt::Display for ReplaceError {
+    fn fmt(&self, f: &mut fmt::Formatter<'_>) -> fmt::Result {
+        f.write_str(match self {
+            ReplaceError::Missing => "missing",
+            ReplaceError::Duplicate { .. } => "duplicate",
+            ReplaceError::Memory => "no memory",
+        })
+    }
+}
+
+impl Error for ReplaceError {}
+
 /// Items that have a first key of bytes, which is looked up by its hash, a second key, which is looked up by its order,
 /// and a value. No two share a first key, and no two share a second key. An item keeps its index until it is removed.
 pub struct Keyed(Handle);
@@ -58,7 +87,7 @@ impl Keyed {
         // SAFETY: the pointers are to `len` bytes and to two values that nothing else uses.
         match unsafe { raw::iddqd_keyed_insert(self.0.get(), key, len, second, value, &mut at, &mut found) } {
             OK => Ok(at),
-            DUPLICATE => Err(InsertError::Duplicate { first: index(found.first), second: index(found.second) }),
+            DUPLICATE => Err(InsertError::Duplicate { first: index_of(found.first), second: index_of(found.second) }),
             FULL => Err(InsertError::Full),
             _ => Err(InsertError::Memory),
         }
@@ -152,6 +181,20 @@ impl Keyed {
         unsafe { raw::iddqd_keyed_set_value(self.0.get(), index, value) == OK }
     }
 
+    /// Replaces the item at an index by one with a copy of the key. The index stays, and the item may keep one of its
+    /// keys or both.
+    pub fn replace(&mut self, index: u32, first: &[u8], second: u64, value: u64) -> Result<(), ReplaceError> {
+        let mut found = Conflict::default();
+        let (key, len) = (first.as_ptr(), first.len());
+        // SAFETY: the pointers are to `len` bytes and to a value that nothing else uses.
+        match unsafe { raw::iddqd_keyed_replace(self.0.get(), index, key, len, second, value, &mut found) } {
+            OK => Ok(()),
+            MISSING => Err(ReplaceError::Missing),
+            DUPLICATE => Err(ReplaceError::Duplicate { first: index_of(found.first), second: index_of(found.second) }),
+            _ => Err(ReplaceError::Memory),
+        }
+    }
+
     /// The items whose second keys are at least `from`, in the order of these keys.
     pub fn range(&self, from: u64) -> Range<'_> {
         Range { items: self, from: Some(from), rows: [Row::default(); ROWS], at: 0, count: 0 }
@@ -238,6 +281,6 @@ fn row_of(function: impl FnOnce(*mut Row) -> u32) -> Option<Row> {
     (function(&mut row) == OK).then_some(row)
 }
 
-fn index(number: u32) -> Option<u32> {
+fn index_of(number: u32) -> Option<u32> {
     (number != SENTINEL).then_some(number)
 }

@@ -24,7 +24,7 @@ mod keyed;
 mod raw;
 
 pub use index::Index;
-pub use keyed::{InsertError, Keyed, Range};
+pub use keyed::{InsertError, Keyed, Range, ReplaceError};
 pub use raw::Row;
 
 use std::error::Error;

@@ -5,6 +5,7 @@ use std::ptr::null_mut;
 
 /// What the functions return.
 pub(crate) const OK: u32 = 0;
+pub(crate) const MISSING: u32 = 1;
 pub(crate) const DUPLICATE: u32 = 2;
 pub(crate) const FULL: u32 = 3;
 pub(crate) const SMALL: u32 = 6;
@@ -84,6 +85,15 @@ unsafe extern "C" {
     pub(crate) fn iddqd_keyed_reserve(table: *mut Table, additional: usize) -> u32;
     pub(crate) fn iddqd_keyed_room(table: *mut Table, count: *mut usize) -> u32;
     pub(crate) fn iddqd_keyed_set_value(table: *mut Table, index: u32, value: u64) -> u32;
+    pub(crate) fn iddqd_keyed_replace(
+        table: *mut Table,
+        index: u32,
+        key: *const u8,
+        len: usize,
+        second: u64,
+        value: u64,
+        found: *mut Conflict,
+    ) -> u32;
     pub(crate) fn iddqd_keyed_range(
         table: *mut Table,
         from: u64,

@@ -1,6 +1,6 @@
 //! `Keyed` and `Index` beside std's maps.
 
-use iddqd_proved::{Index, InsertError, Keyed, Row};
+use iddqd_proved::{Index, InsertError, Keyed, ReplaceError, Row};
 use std::collections::{BTreeMap, HashMap};
 
 const ITEMS: u64 = 100_000;
@@ -67,6 +67,22 @@ fn a_key_comes_back_and_room_is_made() {
         assert_eq!(items.key(index).as_deref(), Some(key));
     }
     assert_eq!(items.key(3), None);
+}
+
+#[test]
+fn an_item_gets_other_keys() {
+    let mut items = Keyed::new(1, 2).unwrap();
+    let ada = items.insert(b"ada", 7, 100).unwrap();
+    let bo = items.insert(b"bo", 5, 200).unwrap();
+    let duplicate = ReplaceError::Duplicate { first: None, second: Some(bo) };
+    assert_eq!(items.replace(ada, b"ada", 5, 300), Err(duplicate));
+    assert_eq!(items.replace(ada + 2, b"cy", 9, 300), Err(ReplaceError::Missing));
+    assert_eq!(items.replace(ada, b"cy", 9, 300), Ok(()));
+    assert_eq!((items.find1(b"ada"), items.find2(7)), (None, None));
+    assert_eq!(items.find1(b"cy"), Some(Row { second: 9, value: 300, index: ada }));
+    assert_eq!(items.find2(9), items.find1(b"cy"));
+    assert_eq!(items.iter().map(|row| row.index).collect::<Vec<_>>(), [bo, ada]);
+    assert_eq!(items.validate(), Ok(true));
 }
 
 #[test]

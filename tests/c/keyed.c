@@ -45,6 +45,7 @@ static void check_no_table(iddqd_table *table) {
     CHECK(iddqd_keyed_remove2(table, 1, &row) == IDDQD_HANDLE);
     CHECK(iddqd_keyed_remove(table, 0, &row) == IDDQD_HANDLE);
     CHECK(iddqd_keyed_set_value(table, 0, 1) == IDDQD_HANDLE);
+    CHECK(iddqd_keyed_replace(table, 0, bytes("a"), 1, 1, 1, &conflict) == IDDQD_HANDLE);
     CHECK(iddqd_keyed_range(table, 0, rows, 2, &count) == IDDQD_HANDLE);
     CHECK(iddqd_keyed_len(table, &count) == IDDQD_HANDLE);
     CHECK(iddqd_keyed_key(table, 0, &byte, 1, &count) == IDDQD_HANDLE && byte == 77);
@@ -280,6 +281,27 @@ static void put(iddqd_table *table, size_t i) {
     new->is_there = 1;
 }
 
+/* Gives a record another key and the second key of one that is gone, which gets its own; the first key of a third
+ * record is refused. */
+static void give_keys(iddqd_table *table, record *new, record *gone, const record *third) {
+    const record was = *new;
+    const uint8_t *key = bytes(third->key);
+    iddqd_conflict conflict = NO_CONFLICT;
+    iddqd_row row;
+    new->key[0] = 'R';
+    new->second = gone->second;
+    new->value = was.value + 1;
+    gone->second = was.second;
+    CHECK(iddqd_keyed_replace(table, new->index, key, strlen(third->key), new->second, 1, &conflict)
+          == IDDQD_DUPLICATE);
+    CHECK(conflict.first == third->index && conflict.second == IDDQD_SENTINEL);
+    key = bytes(new->key);
+    CHECK(iddqd_keyed_replace(table, gone->index, key, strlen(new->key), new->second, 1, &conflict) == IDDQD_MISSING);
+    CHECK(iddqd_keyed_replace(table, new->index, key, strlen(new->key), new->second, new->value, &conflict)
+          == IDDQD_OK);
+    CHECK(iddqd_keyed_find1(table, bytes(was.key), strlen(was.key), &row) == IDDQD_MISSING);
+}
+
 static void check_many(void) {
     iddqd_table table = IDDQD_NONE;
     iddqd_row row;
@@ -314,7 +336,12 @@ static void check_many(void) {
     }
     find_all(&table);
     walk_all(&table, 1000);
+    for (size_t i = 2; i + 2 < RECORDS; i += 9) {
+        give_keys(&table, &model[i + 2], &model[i], &model[1]);
+    }
+    find_all(&table);
     walk_all(&table, 1);
+    CHECK(iddqd_keyed_validate(&table) == IDDQD_OK);
     iddqd_free(&table);
 }
 

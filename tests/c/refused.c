@@ -49,6 +49,13 @@ static uint32_t insert(iddqd_table *table, uint64_t i) {
     return iddqd_keyed_insert(table, (const uint8_t *)&i, sizeof i, i, i, &index, &conflict);
 }
 
+/* Gives the item at index i other keys. */
+static uint32_t replace(iddqd_table *table, uint64_t i) {
+    const uint64_t key = ITEMS + i;
+    iddqd_conflict conflict;
+    return iddqd_keyed_replace(table, (uint32_t)i, (const uint8_t *)&key, sizeof key, key, i, &conflict);
+}
+
 /* Whether allocation `at` of the run was refused. */
 static int is_refused_at(long at) {
     iddqd_table table = IDDQD_NONE;
@@ -74,6 +81,14 @@ static int is_refused_at(long at) {
         iddqd_row row;
         CHECK(iddqd_keyed_find1(&table, (const uint8_t *)&i, sizeof i, &row) == IDDQD_OK && row.value == i);
         CHECK(iddqd_keyed_find2(&table, i, &row) == IDDQD_OK && row.value == i);
+        answer = replace(&table, i);
+        if (answer != IDDQD_OK) {
+            CHECK(answer == IDDQD_MEMORY);
+            CHECK(iddqd_keyed_find1(&table, (const uint8_t *)&i, sizeof i, &row) == IDDQD_OK && row.second == i);
+            refused++;
+            CHECK(replace(&table, i) == IDDQD_OK);
+        }
+        CHECK(iddqd_keyed_find2(&table, ITEMS + i, &row) == IDDQD_OK && row.index == i);
     }
     iddqd_free(&table);
     CHECK(held == 0);
