@@ -69,8 +69,8 @@ typedef struct iddqd_row {
     uint32_t index;
 } iddqd_row;
 
-/* The indexes of the items that have a key of a new one: the first and the second. IDDQD_SENTINEL is none, and so is
- * the index of the item that the new one would replace. */
+/* The indexes of the items that have a key of a new one: the first and the second. IDDQD_SENTINEL is none. The item
+ * that a new one would replace isn't reported. */
 typedef struct iddqd_conflict {
     uint32_t first;
     uint32_t second;

@@ -59,7 +59,8 @@ impl Row {
     }
 }
 
-/// The indexes of the items that have a key of a new one: by its first key and by its second, `SENTINEL` for none.
+/// The indexes of the items that have a key of a new one: by its first key and by its second, `SENTINEL` for none. The
+/// item that a new one would replace isn't reported.
 #[repr(C)]
 #[derive(Clone, Copy)]
 pub struct Conflict {
