@@ -97,14 +97,12 @@ fn rebind(
     let Ok(first) = Vec::from_slice(alloc, key) else {
         return MEMORY;
     };
-    match items.replace(
-        ix,
-        Entry {
-            first,
-            second,
-            value,
-        },
-    ) {
+    let new = Entry {
+        first,
+        second,
+        value,
+    };
+    match items.replace(ix, new) {
         Ok(_was) => OK,
         Err(refusal) => report(&refusal, found),
     }
