@@ -266,7 +266,5 @@ pub(super) fn clear_cells<T: Drop, C: Cell<T>>(cells: &mut [C])
 pub(super) fn clear_tags(tags: &mut [u8])
     ensures { tags.new ≡ replicate (length tags.old) 0 }
 {
-    for at in 0..tags.len() {
-        tags[at] = 0;
-    }
+    tags.fill(0);
 }
