@@ -1,6 +1,9 @@
 -- The items of a walk in key order are those of the store, put in order.
-use Rattle.std.proofs.Common.{◌≡◌, ◌≢◌, ◌∙◌, ◌↔◌, ◌<◌, inl, inr, ℕ, suc, Bool, true, false, cond, List, [], ◌∷◌, map, slice_get, Some, refl, sym, ap, subst, Ordering, arith}
-use Rattle.std.specs.List.{Contains}
+use Rattle.std.proofs.Common.{◌≡◌, ◌≢◌, ◌∙◌, ◌↔◌, ◌<◌, inl, inr, ℕ, suc, Bool, true, false, cond, ◌&&◌, List, [], ◌∷◌, map, slice_get, Option, Some, None, Bor, MatchOption, refl, sym, ap, subst, Ordering, arith}
+use Rattle.std.specs.Prelude.{IfSome}
+use Rattle.std.specs.Cmp.Lexicographic.{pointwise}
+use Rattle.std.specs.Iterator.{YieldsFirstRef, YieldsThen}
+use Rattle.std.specs.List.{AllZip, Contains}
 use Rattle.std.specs.Ordering.{is_lt, ordering_reverse}
 use Rattle.std.specs.Cmp.{IsTotalOrder}
 use Rattle.std.specs.declared.cmp.Ordering.TheVariants.{Less, Equal, Greater}
@@ -253,3 +256,40 @@ module _ {T K : Type 0} (key_of : T → K) (compare : K → K → Ordering) (tot
         is ∙ ap (map (λ (p : ℕ × T). p.1)) (pairs_in_order pairs walk)
         ∙ map-order (λ (p : ℕ × T). p.1) (λ x y. is_lt (compare (key_of x) (key_of y))) (live_pairs s)
         ∙ ap (sorted (λ x y. is_lt (compare (key_of x) (key_of y)))) (items_of_pairs 0 s.items)
+
+-- Two walks are compared by what they give, place by place, until one ends or two items differ. So they are equal if and
+-- only if what they have left is.
+module _ {A : Type 0} (equal : A → A → Bool) where
+  abbrev gives : List A → Option (Bor A) → List A → Type 0
+  gives = YieldsFirstRef (λ rest. rest)
+
+  abbrev are_alike : Bor A → Bor A → Bool
+  are_alike x y = equal x.now y.now
+
+  -- what an answer says of the next items of both
+  abbrev Decides : Bool → Option (Bor A) → Option (Bor A) → Type 0
+  Decides r o p =
+      MatchOption o (MatchOption p (r ≡ true) (λ _. r ≡ false)) (λ x. (r ≡ false) × IfSome p (λ y. are_alike x y ≡ false))
+
+  at_the_end :
+      (r : Bool) (s t u v : List A) (o p : Option (Bor A))
+      → gives s o u → gives t p v → Decides r o p → r ≡ pointwise equal s t
+  at_the_end r s t u v None None left right is = is ∙ sym (rw (left.0, right.0) refl)
+  at_the_end r s t u v None (Some y) left right is = is ∙ sym (rw (left.0, right) refl)
+  at_the_end r s t u v (Some x) None left right is = is.0 ∙ sym (rw (left, right.0) refl)
+  at_the_end r s t u v (Some x) (Some y) left right is = is.0 ∙ sym (rw (left, right) (ap (λ b. b && pointwise equal u v) is.1))
+
+  pub compares :
+      (r : Bool) (xs ys : List (Bor A)) (s t u v : List A) (o p : Option (Bor A))
+      → YieldsThen gives s xs o u
+      → YieldsThen gives t ys p v
+      → AllZip (λ x y. are_alike x y ≡ true) xs ys
+      → Decides r o p
+      → r ≡ pointwise equal s t
+  compares r [] [] s t u v o p (s', same, left) (t', also, right) alike is =
+      rw (same, also) (at_the_end r s' t' u v o p left right is)
+  compares r [] (y ∷ ys) s t u v o p left right alike is = absurd alike
+  compares r (x ∷ xs) [] s t u v o p left right alike is = absurd alike
+  compares r (x ∷ xs) (y ∷ ys) s t u v o p (s', (j, step, more), left) (t', (k, also, further), right) alike is =
+      let rest = compares r xs ys j k u v o p (s', more, left) (t', further, right) alike.1 is in
+      rest ∙ sym (rw (step, also) (ap (λ b. b && pointwise equal j k) alike.0))
