@@ -2,7 +2,7 @@
 use Rattle.std.specs.Prelude.{◌==◌, ◌/◌, ℕ, Bool}
 use Rattle.std.specs.Ordering.{nat_cmp, eq_by_cmp}
 use Rattle.std.specs.declared.cmp.Ordering.{Ordering}
-use Rattle.std.specs.declared.ops.Bound.TheVariants.{Included, Unbounded}
+use Rattle.std.specs.declared.ops.Bound.TheVariants.{Excluded, Included, Unbounded}
 use Rattle.iddqd_maps.specs.OrderedQuery.{is_within}
 use Rattle.uses.specs.declared.ledger.Order.{Order}
 
@@ -26,10 +26,10 @@ is_due_on day order = eq_by_cmp nat_cmp day order.day
 abbrev pub is_due_from : ℕ → Order → Bool
 is_due_from day order = is_within (λ (from : ℕ) (order : Order). nat_cmp from order.day) (Included day) Unbounded order
 
--- the order is due on one of the days from one to another one
+-- the order is due on this day or later, and before that one
 abbrev pub is_due_between : ℕ → ℕ → Order → Bool
-is_due_between from to order =
-    is_within (λ (day : ℕ) (order : Order). nat_cmp day order.day) (Included from) (Included to) order
+is_due_between from before order =
+    is_within (λ (day : ℕ) (order : Order). nat_cmp day order.day) (Included from) (Excluded before) order
 
 -- the order with half its amount
 abbrev pub halved : Order → Order

@@ -171,11 +171,11 @@ pub fn orders_from(ledger: &Ledger, day: u32) -> Range<'_, Order>
     ledger.range_by::<ByDay, _>(Bound::Included(&day), Bound::Unbounded)
 }
 
-/// The orders from one day to another one with their indexes, by day and then by index.
-pub fn orders_between(ledger: &Ledger, from: u32, to: u32) -> Range<'_, Order>
-    ensures { IteratesInOrder by_day (is_due_between from to) ledger.now.store result }
+/// The orders from one day on that are due before another one with their indexes, by day and then by index.
+pub fn orders_between(ledger: &Ledger, from: u32, before: u32) -> Range<'_, Order>
+    ensures { IteratesInOrder by_day (is_due_between from before) ledger.now.store result }
 {
-    ledger.range_in::<ByDay, &u32, _>(&from..=&to)
+    ledger.range_in::<ByDay, &u32, _>(&from..&before)
 }
 
 /// All orders with their indexes, by day and then by index.
