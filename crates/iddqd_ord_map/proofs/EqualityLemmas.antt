@@ -268,8 +268,9 @@ module _ {A : Type 0} (equal : A → A → Bool) where
 
   -- what an answer says of the next items of both
   abbrev Decides : Bool → Option (Bor A) → Option (Bor A) → Type 0
-  Decides r o p =
-      MatchOption o (MatchOption p (r ≡ true) (λ _. r ≡ false)) (λ x. (r ≡ false) × IfSome p (λ y. are_alike x y ≡ false))
+  Decides r o p = MatchOption o
+      (MatchOption p (r ≡ true) (λ _. r ≡ false))
+      (λ x. (r ≡ false) × IfSome p (λ y. are_alike x y ≡ false))
 
   at_the_end :
       (r : Bool) (s t u v : List A) (o p : Option (Bor A))
