@@ -1,10 +1,14 @@
 //! The maps with one key beside std's, whose keys are stored twice, also by a key of two fields, which is beside
-//! Boost.MultiIndex too, and a map with several keys beside that, over the same items: the least nanoseconds an item over some rounds, and the ratio of the two.
+//! Boost.MultiIndex too; and a map with several keys beside Boost.MultiIndex. Both have the same items: the least
+//! nanoseconds an item over some rounds, and the ratio of the two.
+use rounds::Least;
 use shared::{Random, Record, bench_now};
 use std::collections::{BTreeMap, HashMap};
 use std::hash::{BuildHasherDefault, Hasher};
 use std::hint::black_box;
+use std::ops::Range;
 
+mod rounds;
 mod several;
 #[path = "../shared.rs"]
 mod shared;
@@ -12,12 +16,7 @@ mod shared;
 const PARTS: usize = 5;
 const NAMES: [&str; PARTS] = ["insert", "get, hit", "get, miss", "walk", "remove"];
 
-#[repr(C)]
-#[derive(Clone, Copy, Default)]
-struct Round {
-    nanos: [u64; PARTS],
-    sum: u64,
-}
+type Round = rounds::Round<PARTS>;
 
 // Each slice is a pointer and a length: records, keys that are there, keys that aren't.
 type Call = unsafe extern "C" fn(*const Record, usize, *const u32, usize, *const u32, usize) -> Round;
@@ -172,7 +171,7 @@ fn take_all<M: Map>(map: &mut M, keys: &[u32]) -> u64 {
 
 fn round_of<M: Map>(records: &[Record], hits: &[u32], misses: &[u32]) -> Round {
     let mut map = M::default();
-    let mut round = Round::default();
+    let mut round = Round::new();
     for part in 0..PARTS {
         let start = bench_now();
         let told = match part {
@@ -182,8 +181,7 @@ fn round_of<M: Map>(records: &[Record], hits: &[u32], misses: &[u32]) -> Round {
             3 => black_box(&map).walk(),
             _ => take_all(&mut map, hits),
         };
-        round.nanos[part] = bench_now() - start;
-        round.sum = round.sum.wrapping_add(told);
+        round.add(part, bench_now() - start, told);
     }
     round
 }
@@ -206,47 +204,43 @@ fn call(call: Call, records: &[Record], hits: &[u32], misses: &[u32]) -> Round {
     unsafe { call(records_at, records.len(), hits_at, hits.len(), misses_at, misses.len()) }
 }
 
-/// The least nanoseconds of each part, of ours and of theirs.
-fn least(pair: &Pair, count: usize, rounds: usize) -> [[f64; PARTS]; 2] {
+/// The keys with these numbers: by hash scattered, in order every second number.
+fn keys(is_hashed: bool, numbers: Range<usize>) -> Vec<u32> {
+    let key_of = |number: usize| if is_hashed { number.wrapping_mul(2654435769) as u32 } else { 2 * number as u32 };
+    numbers.map(key_of).collect()
+}
+
+/// Records with these keys, and values at random.
+fn records_of(keys: &[u32], random: &mut Random) -> Vec<Record> {
+    keys.iter().map(|&key| Record { key, second: 0, value: (random.next() >> 40) as u32 }).collect()
+}
+
+fn least(pair: &Pair, count: usize, rounds: usize) -> Least<PARTS> {
     let is_hashed = pair.is_hashed;
     let mut random = Random(7);
-    let key_of = |number: usize| if is_hashed { number.wrapping_mul(2654435769) as u32 } else { 2 * number as u32 };
-    let mut hits: Vec<u32> = (0..count).map(key_of).collect();
-    let mut misses: Vec<u32> =
-        if is_hashed { (count..2 * count).map(key_of).collect() } else { hits.iter().map(|key| key + 1).collect() };
-    let mut least = [[f64::MAX; PARTS]; 2];
-    for _ in 0..rounds {
+    let mut hits = keys(is_hashed, 0..count);
+    let mut misses = if is_hashed { keys(true, count..2 * count) } else { hits.iter().map(|key| key + 1).collect() };
+    rounds::least(count, rounds, || {
         random.shuffle(&mut hits);
-        let records: Vec<Record> =
-            hits.iter().map(|&key| Record { key, second: 0, value: (random.next() >> 40) as u32 }).collect();
+        let records = records_of(&hits, &mut random);
         random.shuffle(&mut hits);
         random.shuffle(&mut misses);
-        let round = call(pair.ours, &records, &hits, &misses);
-        let other = match pair.theirs {
+        let ours = call(pair.ours, &records, &hits, &misses);
+        let theirs = match pair.theirs {
             Theirs::Std(round_of) => round_of(&records, &hits, &misses),
             Theirs::Boost(theirs) => call(theirs, &records, &hits, &misses),
         };
-        assert_eq!(round.sum, other.sum, "the answers differ");
-        for (least, round) in least.iter_mut().zip([round, other]) {
-            for (least, nanos) in least.iter_mut().zip(round.nanos) {
-                *least = least.min(nanos as f64 / count as f64);
-            }
-        }
-    }
-    least
+        [ours, theirs]
+    })
 }
 
 fn print(pairs: &[Pair], theirs: &str, sizes: &[(usize, usize)]) {
-    println!("| ns an item, ours / {theirs}: ratio | 1,000 | 100,000 | 1,000,000 |");
-    println!("|---|---|---|---|");
+    rounds::print_head(&format!("ours / {theirs}"));
     for pair in pairs {
         let all: Vec<_> = sizes.iter().map(|&(count, rounds)| least(pair, count, rounds)).collect();
         for (part, name) in NAMES.iter().enumerate() {
-            print!("| {}: {name} |", pair.name);
-            for [ours, theirs] in &all {
-                print!(" {:.1} / {:.1}: {:.2} |", ours[part], theirs[part], ours[part] / theirs[part]);
-            }
-            println!();
+            let figures = all.iter().map(|[ours, theirs]| [ours[part], theirs[part]]);
+            rounds::print_row(&format!("{}: {name}", pair.name), figures);
         }
     }
     println!();
