@@ -1,6 +1,6 @@
 //! The maps with one key beside std's, whose keys are stored twice, also by a key of two fields, which is beside
-//! Boost.MultiIndex too; and a map with several keys beside Boost.MultiIndex. Both have the same items: the least
-//! nanoseconds an item over some rounds, and the ratio of the two.
+//! Boost.MultiIndex too, and filled in several ways; and a map with several keys beside Boost.MultiIndex. Both have the
+//! same items: the least nanoseconds an item over some rounds, and the ratio of the two.
 use rounds::Least;
 use shared::{Random, Record, bench_now};
 use std::collections::{BTreeMap, HashMap};
@@ -8,6 +8,7 @@ use std::hash::{BuildHasherDefault, Hasher};
 use std::hint::black_box;
 use std::ops::Range;
 
+mod fills;
 mod rounds;
 mod several;
 #[path = "../shared.rs"]
@@ -264,5 +265,6 @@ fn main() {
         pair("in the order of two fields", false, bench_two_ordered, Theirs::Boost(boost_two_ordered)),
     ];
     print(&by_boost, "Boost's", &sizes);
+    fills::print(&sizes);
     several::print(&sizes.map(|(count, rounds)| (count, rounds.div_ceil(4))));
 }
