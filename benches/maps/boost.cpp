@@ -10,12 +10,36 @@
 
 namespace mi = boost::multi_index;
 
-struct Order {
-    uint32_t number, day, kind, value;
+template <class T> struct Slice {
+    const T *at;
+    size_t count;
+    const T *begin() const { return at; }
+    const T *end() const { return at + count; }
 };
 
+// The value is no key, so a walk may change it in place.
+struct Order {
+    uint32_t number, day, kind;
+    mutable uint32_t value;
+};
+
+// The days from one on, up to another.
+struct Days {
+    uint32_t from, to;
+};
+
+// What a round is given. Days and kinds are the same numbers.
+struct Load {
+    Slice<Order> records;
+    Slice<uint32_t> numbers, days;
+    Slice<Days> hundredths, tens;
+    Slice<uint32_t> indexes;
+};
+
+constexpr int PARTS = 13;
+
 struct Round {
-    uint64_t insert, find, groups, ranges, remove, insert_again, remove_groups, remove_kinds, sum;
+    uint64_t nanos[PARTS], sum;
 };
 
 extern "C" uint64_t bench_now();
@@ -24,13 +48,7 @@ using Orders = mi::multi_index_container<
     Order, mi::indexed_by<mi::hashed_unique<mi::member<Order, uint32_t, &Order::number>>,
                           mi::ordered_non_unique<mi::member<Order, uint32_t, &Order::day>>,
                           mi::hashed_non_unique<mi::member<Order, uint32_t, &Order::kind>>>>;
-
-template <class T> struct Slice {
-    const T *at;
-    size_t count;
-    const T *begin() const { return at; }
-    const T *end() const { return at + count; }
-};
+using Places = std::vector<Orders::iterator>;
 
 [[gnu::noinline]] static uint64_t insert_all(Orders &orders, Slice<Order> records) {
     uint64_t sum = 0;
@@ -58,21 +76,48 @@ template <class Index> [[gnu::noinline]] static uint64_t sum_of_groups(const Ind
     return sum;
 }
 
-[[gnu::noinline]] static uint64_t sum_of_ranges(const Orders &orders, Slice<uint32_t> firsts, uint32_t width) {
+// Walks each range. A visit gets the sum over its range so far and an iterator, and returns the sum from then on.
+template <class Visit> static uint64_t walk_ranges(Orders &orders, Slice<Days> ranges, Visit visit) {
     auto &by_day = orders.get<1>();
     uint64_t all = 0;
-    for (uint32_t first : firsts) {
-        auto from = by_day.lower_bound(first), to = by_day.lower_bound(first + width);
+    for (Days days : ranges) {
+        auto from = by_day.lower_bound(days.from), to = by_day.lower_bound(days.to);
         uint64_t sum = 0;
         for (auto it = from; it != to; ++it)
-            sum = sum * 3 + it->value;
+            sum = visit(sum, it);
         all += sum;
     }
     return all;
 }
 
-[[gnu::noinline]] static uint64_t remove_all(Orders &orders, const std::vector<Orders::iterator> &places,
-                                             Slice<uint32_t> indexes) {
+[[gnu::noinline]] static uint64_t sum_of_ranges(Orders &orders, Slice<Days> ranges) {
+    return walk_ranges(orders, ranges, [](uint64_t sum, auto it) { return sum * 3 + it->value; });
+}
+
+// Each index looks whether the item may stay where it is, and here it may.
+[[gnu::noinline]] static uint64_t modify_by_call(Orders &orders, Slice<Days> ranges) {
+    auto &by_day = orders.get<1>();
+    return walk_ranges(orders, ranges, [&by_day](uint64_t count, auto it) {
+        return count + by_day.modify(it, [](Order &order) { order.value += 1; });
+    });
+}
+
+// No index is told.
+[[gnu::noinline]] static uint64_t modify_in_place(Orders &orders, Slice<Days> ranges) {
+    return walk_ranges(orders, ranges, [](uint64_t count, auto it) {
+        it->value += 1;
+        return count + 1;
+    });
+}
+
+// What stands for an index here is an iterator, which the caller keeps.
+static uint64_t keep_places(Orders &orders, Places &places, Slice<Order> records) {
+    for (const Order &record : records)
+        places.push_back(orders.find(record.number));
+    return 0;
+}
+
+[[gnu::noinline]] static uint64_t remove_all(Orders &orders, const Places &places, Slice<uint32_t> indexes) {
     uint64_t sum = 0;
     for (uint32_t ix : indexes) {
         sum += places[ix]->value;
@@ -92,41 +137,35 @@ template <class Index> [[gnu::noinline]] static uint64_t remove_groups(Index &in
     return sum;
 }
 
+// The answers of a part. The parts are those of `NAMES` in several.rs.
+static uint64_t part(Orders &orders, Places &places, const Load &load, int at) {
+    switch (at) {
+    case 0: case 9: case 11: return insert_all(orders, load.records);
+    case 1: return find_all(orders, load.numbers);
+    case 2: return sum_of_groups(orders.get<1>(), load.days);
+    case 3: return sum_of_ranges(orders, load.hundredths);
+    case 4: return sum_of_ranges(orders, load.tens);
+    case 5: return modify_by_call(orders, load.tens);
+    case 6: return modify_in_place(orders, load.tens);
+    case 7: return keep_places(orders, places, load.records);
+    case 8: return remove_all(orders, places, load.indexes);
+    case 10: return remove_groups(orders.get<1>(), load.days);
+    case 12: return remove_groups(orders.get<2>(), load.days);
+    default: return 0;
+    }
+}
+
 // One round over a new container.
-extern "C" Round boost_several(const Order *records_at, size_t record_count, const uint32_t *numbers_at,
-                               size_t number_count, const uint32_t *days_at, size_t day_count,
-                               const uint32_t *firsts_at, size_t first_count, uint32_t width,
-                               const uint32_t *indexes_at, size_t index_count) {
-    Slice<Order> records{records_at, record_count};
-    Slice<uint32_t> numbers{numbers_at, number_count}, days{days_at, day_count}, firsts{firsts_at, first_count},
-        indexes{indexes_at, index_count};
+extern "C" Round boost_several(const Load &load) {
     Orders orders;
-    uint64_t start = bench_now();
-    uint64_t sum = insert_all(orders, records);
-    uint64_t inserted = bench_now();
-    sum += find_all(orders, numbers);
-    uint64_t found = bench_now();
-    sum += sum_of_groups(orders.get<1>(), days);
-    uint64_t grouped = bench_now();
-    sum += sum_of_ranges(orders, firsts, width);
-    uint64_t ranged = bench_now();
-    // What stands for an index here is an iterator, which the caller keeps.
-    std::vector<Orders::iterator> places;
-    for (const Order &record : records)
-        places.push_back(orders.find(record.number));
-    uint64_t placed = bench_now();
-    sum += remove_all(orders, places, indexes);
-    uint64_t removed = bench_now();
-    sum += insert_all(orders, records);
-    uint64_t again = bench_now();
-    sum += remove_groups(orders.get<1>(), days);
-    uint64_t removed_groups = bench_now();
-    sum += insert_all(orders, records);
-    uint64_t filled = bench_now();
-    sum += remove_groups(orders.get<2>(), days);
-    uint64_t removed_kinds = bench_now();
-    return {inserted - start, found - inserted,          grouped - found,        ranged - grouped, removed - placed,
-            again - removed,  removed_groups - again, removed_kinds - filled, sum};
+    Places places;
+    Round round{};
+    for (int at = 0; at < PARTS; ++at) {
+        uint64_t start = bench_now();
+        round.sum += part(orders, places, load, at);
+        round.nanos[at] = bench_now() - start;
+    }
+    return round;
 }
 
 // ---- a key of two fields

@@ -1,18 +1,27 @@
 //! A map with a unique hashed key, and a hashed one and one in order with equal keys, beside Boost.MultiIndex.
+use crate::rounds::{self, Least};
 use crate::shared::Random;
 
-const PARTS: usize = 8;
-const SIZES_OF_GROUPS: [usize; 3] = [1, 10, 1_000];
-/// What is told of groups of ten alone, and of each size of groups.
-const NAMES: [(&str, bool); PARTS] = [
-    ("insert, growing", true),
-    ("find by the unique key", false),
-    ("group in order", true),
-    ("range of a hundredth", false),
-    ("remove by index", true),
-    ("insert, room made", false),
-    ("remove a group in order", true),
-    ("remove a group by hash", true),
+const PARTS: usize = 13;
+const EACH: &[usize] = &[1, 10, 1_000];
+const SMALL: &[usize] = &[1, 10];
+const TEN: &[usize] = &[10];
+/// The parts of a round, as both sides number them, each with the sizes of groups for which its row is printed. A part
+/// without rows prepares the next one.
+const NAMES: [(&str, &[usize]); PARTS] = [
+    ("insert, growing", EACH),
+    ("find by the unique key", TEN),
+    ("group in order", EACH),
+    ("range of a hundredth", TEN),
+    ("range of 10 items", SMALL),
+    ("modify a range of 10 items, Boost's by its modify", SMALL),
+    ("modify a range of 10 items, Boost's in a mutable field", SMALL),
+    ("the iterators that a caller of Boost keeps", &[]),
+    ("remove by index", EACH),
+    ("insert, room made", TEN),
+    ("remove a group in order", EACH),
+    ("insert once more", &[]),
+    ("remove a group by hash", EACH),
 ];
 
 #[repr(C)]
@@ -24,62 +33,72 @@ struct Order {
     value: u32,
 }
 
+/// The days from one on, up to another.
 #[repr(C)]
-#[derive(Clone, Copy, Default)]
-struct Round {
-    nanos: [u64; PARTS],
-    sum: u64,
+#[derive(Clone, Copy)]
+struct Days {
+    from: u32,
+    to: u32,
 }
 
-// Each slice is a pointer and a length: records, numbers, days, first days of ranges of a width, indexes.
-type Call = unsafe extern "C" fn(
-    *const Order,
-    usize,
-    *const u32,
-    usize,
-    *const u32,
-    usize,
-    *const u32,
-    usize,
-    u32,
-    *const u32,
-    usize,
-) -> Round;
+type Round = rounds::Round<PARTS>;
 
-macro_rules! calls {
-    ($($name:ident)*) => {
-        unsafe extern "C" {
-            $(fn $name(
-                records: *const Order,
-                record_count: usize,
-                numbers: *const u32,
-                number_count: usize,
-                days: *const u32,
-                day_count: usize,
-                firsts: *const u32,
-                first_count: usize,
-                width: u32,
-                indexes: *const u32,
-                index_count: usize,
-            ) -> Round;)*
-        }
-    };
+/// A slice as C++ and Rattle get it.
+#[repr(C)]
+struct Slice<T> {
+    at: *const T,
+    count: usize,
 }
-calls!(bench_several boost_several);
 
-/// What a round is given.
+impl<T> From<&Vec<T>> for Slice<T> {
+    fn from(items: &Vec<T>) -> Self {
+        Slice { at: items.as_ptr(), count: items.len() }
+    }
+}
+
+/// A load as C++ and Rattle get it.
+#[repr(C)]
+struct LoadSlices {
+    records: Slice<Order>,
+    numbers: Slice<u32>,
+    days: Slice<u32>,
+    hundredths: Slice<Days>,
+    tens: Slice<Days>,
+    indexes: Slice<u32>,
+}
+
+type Call = unsafe extern "C" fn(&LoadSlices) -> Round;
+
+unsafe extern "C" {
+    fn bench_several(load: &LoadSlices) -> Round;
+    fn boost_several(load: &LoadSlices) -> Round;
+}
+
+/// What a round is given. Days and kinds are the same numbers.
 struct Load {
     records: Vec<Order>,
     numbers: Vec<u32>,
     days: Vec<u32>,
-    firsts: Vec<u32>,
-    width: u32,
+    hundredths: Vec<Days>,
+    tens: Vec<Days>,
     indexes: Vec<u32>,
+}
+
+/// The numbers below `count` in a random order.
+fn shuffled(count: usize, random: &mut Random) -> Vec<u32> {
+    let mut numbers: Vec<u32> = (0..count as u32).collect();
+    random.shuffle(&mut numbers);
+    numbers
+}
+
+/// Ranges of `width` days, which together have all days, in a random order.
+fn ranges(days: usize, width: usize, random: &mut Random) -> Vec<Days> {
+    let width_of = width as u32;
+    shuffled(days / width, random).iter().map(|at| Days { from: at * width_of, to: (at + 1) * width_of }).collect()
 }
 
 impl Load {
     fn new(count: usize, group: usize, random: &mut Random) -> Load {
-        let groups = (count / group) as u32;
         let in_groups = |random: &mut Random| {
             let mut keys: Vec<u32> = (0..count).map(|at| (at / group) as u32).collect();
             random.shuffle(&mut keys);
@@ -95,71 +114,46 @@ impl Load {
             })
             .collect();
         random.shuffle(&mut numbers);
-        let mut days: Vec<u32> = (0..groups).collect();
-        random.shuffle(&mut days);
-        let width = (groups / 100).max(1);
-        let mut firsts: Vec<u32> = (0..groups / width).map(|at| at * width).collect();
-        random.shuffle(&mut firsts);
-        let mut indexes: Vec<u32> = (0..count as u32).collect();
-        random.shuffle(&mut indexes);
-        Load { records, numbers, days, firsts, width, indexes }
+        let groups = count / group;
+        let days = shuffled(groups, random);
+        let hundredths = ranges(groups, (groups / 100).max(1), random);
+        let tens = ranges(groups, (10 / group).max(1), random);
+        let indexes = shuffled(count, random);
+        Load { records, numbers, days, hundredths, tens, indexes }
     }
 
     fn run(&self, call: Call) -> Round {
-        let (records, numbers, days) = (&self.records, &self.numbers, &self.days);
-        let (firsts, indexes) = (&self.firsts, &self.indexes);
-        unsafe {
-            call(
-                records.as_ptr(),
-                records.len(),
-                numbers.as_ptr(),
-                numbers.len(),
-                days.as_ptr(),
-                days.len(),
-                firsts.as_ptr(),
-                firsts.len(),
-                self.width,
-                indexes.as_ptr(),
-                indexes.len(),
-            )
-        }
+        let slices = LoadSlices {
+            records: (&self.records).into(),
+            numbers: (&self.numbers).into(),
+            days: (&self.days).into(),
+            hundredths: (&self.hundredths).into(),
+            tens: (&self.tens).into(),
+            indexes: (&self.indexes).into(),
+        };
+        unsafe { call(&slices) }
     }
 }
 
-/// The least nanoseconds of each part, of ours and of Boost's.
-fn least(count: usize, group: usize, rounds: usize) -> [[f64; PARTS]; 2] {
+fn least(count: usize, group: usize, rounds: usize) -> Least<PARTS> {
     let mut random = Random(7);
-    let mut least = [[f64::MAX; PARTS]; 2];
-    for _ in 0..rounds {
+    rounds::least(count, rounds, || {
         let load = Load::new(count, group, &mut random);
-        let rounds = [load.run(bench_several), load.run(boost_several)];
-        assert_eq!(rounds[0].sum, rounds[1].sum, "the answers differ");
-        for (least, round) in least.iter_mut().zip(rounds) {
-            for (least, nanos) in least.iter_mut().zip(round.nanos) {
-                *least = least.min(nanos as f64 / count as f64);
-            }
-        }
-    }
-    least
+        [load.run(bench_several), load.run(boost_several)]
+    })
 }
 
 /// Prints the table. Each size is a count of records with a number of rounds.
 pub fn print(sizes: &[(usize, usize)]) {
-    println!("| ns an item, ours / Boost's: ratio | 1,000 | 100,000 | 1,000,000 |");
-    println!("|---|---|---|---|");
-    let all = SIZES_OF_GROUPS.map(|group| -> Vec<_> {
-        sizes.iter().map(|&(count, rounds)| least(count, group, rounds)).collect()
-    });
-    for (part, (name, is_of_each)) in NAMES.into_iter().enumerate() {
-        for (group, all) in SIZES_OF_GROUPS.into_iter().zip(&all) {
-            if !is_of_each && group != 10 {
-                continue;
-            }
-            print!("| {name}, groups of {group} |");
-            for [ours, boosts] in all {
-                print!(" {:.1} / {:.1}: {:.2} |", ours[part], boosts[part], ours[part] / boosts[part]);
-            }
-            println!();
+    let all: Vec<(usize, Vec<_>)> = EACH
+        .iter()
+        .map(|&group| (group, sizes.iter().map(|&(count, rounds)| least(count, group, rounds)).collect()))
+        .collect();
+    rounds::print_head("ours / Boost's");
+    for (part, (name, groups)) in NAMES.into_iter().enumerate() {
+        for (group, all) in all.iter().filter(|(group, _)| groups.contains(group)) {
+            let figures = all.iter().map(|[ours, boosts]| [ours[part], boosts[part]]);
+            rounds::print_row(&format!("{name}, groups of {group}"), figures);
         }
     }
 }
