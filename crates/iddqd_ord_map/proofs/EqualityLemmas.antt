@@ -257,8 +257,8 @@ module _ {T K : Type 0} (key_of : T → K) (compare : K → K → Ordering) (tot
         ∙ map-order (λ (p : ℕ × T). p.1) (λ x y. is_lt (compare (key_of x) (key_of y))) (live_pairs s)
         ∙ ap (sorted (λ x y. is_lt (compare (key_of x) (key_of y)))) (items_of_pairs 0 s.items)
 
--- Two walks are compared by what they give, place by place, until one ends or two items differ. So they are equal if and
--- only if what they have left is.
+-- Two walks are compared by what they give, place by place, until one ends or two items differ. So they are equal if
+-- and only if what they have left is.
 module _ {A : Type 0} (equal : A → A → Bool) where
   abbrev gives : List A → Option (Bor A) → List A → Type 0
   gives = YieldsFirstRef (λ rest. rest)
@@ -278,7 +278,8 @@ module _ {A : Type 0} (equal : A → A → Bool) where
   at_the_end r s t u v None None left right is = is ∙ sym (rw (left.0, right.0) refl)
   at_the_end r s t u v None (Some y) left right is = is ∙ sym (rw (left.0, right) refl)
   at_the_end r s t u v (Some x) None left right is = is.0 ∙ sym (rw (left, right.0) refl)
-  at_the_end r s t u v (Some x) (Some y) left right is = is.0 ∙ sym (rw (left, right) (ap (λ b. b && pointwise equal u v) is.1))
+  at_the_end r s t u v (Some x) (Some y) left right is =
+      is.0 ∙ sym (rw (left, right) (ap (λ b. b && pointwise equal u v) is.1))
 
   pub compares :
       (r : Bool) (xs ys : List (Bor A)) (s t u v : List A) (o p : Option (Bor A))
