@@ -306,8 +306,7 @@ module _
         made_all did =
             let same : taken ≡ items = sym (gave_all taken it u did.given) ∙ are in
             let valid = subst IsValid (sym none) (IsValid-empty slot_limit (omega arith)) in
-            let count = count-along alike grown taken old new valid did.in_turn in
-            (
+            let count = count-along alike grown taken old new valid did.in_turn in (
               did.stored ∙ ap (λ s. inserted_all s taken) none ∙ ap (inserted_all empty) same,
               omega (arith, count, ap live_count none, ap length same),
             )

@@ -63,7 +63,7 @@ impl<T: Drop, E: OrdKey<T>> OrdMapBy<T, E> {
         Range::new(range_by::<T, E, Q>(table, items, lower, upper), items)
     }
 
-    /// `range`, with both bounds as one range of queries: `map.range_in(&from..=&to)`.
+    /// `range`, with both bounds as one range of queries: `map.range_in::<&u32, _>(&from..=&to)`.
     ///
     /// Of a `RangeInclusive` that was iterated to its end nothing is said.
     pub fn range_in<Q: ItemRangeQuery<T, E>, R: RangeBounds<Q>>(&self, bounds: R) -> Range<'_, T>

@@ -6,5 +6,5 @@ pub returns : goal.returns
 returns g c = (
   c.self.inside.indexes,
   subst (g.X.KeyIndex.indexes c.self.inside.indexes c.self.inside.state)
-  (ap (λ (m : MapState _). m.store) c.self.view_is) c.self.invariant.indexed,
+      (ap (λ (m : MapState _). m.store) c.self.view_is) c.self.invariant.indexed,
 )
