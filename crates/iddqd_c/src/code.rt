@@ -19,7 +19,7 @@ pub const MEMORY: u32 = 4;
 /// changed.
 pub const HANDLE: u32 = 5;
 
-/// The buffer is too short. Nothing was done.
+/// The buffer is too short. Nothing was written to it, and nothing changed.
 pub const SMALL: u32 = 6;
 
 /// A check failed: an item isn't found by one of its keys, or two items share one.

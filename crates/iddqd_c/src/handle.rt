@@ -1,7 +1,7 @@
 //! A table behind a pointer that C keeps.
 //!
 //! `seal`, `unseal`, `empty` and `close` are the only functions that touch the pointer; the first three have proofs by
-//! hand. A handle isn't `Drop`, so no function can forget a table: only `close` lets a handle go, and requires that it
+//! hand. A handle isn't `Drop`, so no function can forget a table: only `close` drops a handle, and requires that it
 //! is empty.
 //!
 //! What always holds:
@@ -74,7 +74,7 @@ fn empty(alloc: Global) -> Handle
     }
 }
 
-// Lets go of a handle that owns nothing.
+// Drops a handle that owns nothing.
 fn close(handle: Handle)
     requires { handle.value ≡ None }
 {

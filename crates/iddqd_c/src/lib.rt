@@ -1,10 +1,10 @@
 //! Proved tables for programs in C, C++, Rust and other languages.
 //!
 //! A static library: `include/iddqd.h` declares its functions, and `docs/FROM_C.md` says what of them is proved. A
-//! caller holds a table by a handle of two words ([`handle::CTable`]), which begins as zeros. Every function takes the
-//! table out of its handle, makes one call, and puts it back, so that what the handle holds after one function is what
-//! the next one finds. None of them has a condition: a handle that is closed, or holds a table of another kind, is an
-//! error code ([`code`]).
+//! caller holds a table by a handle of two words ([`handle::CTable`]), which begins as zeros. Every function that uses
+//! a table takes it out of its handle, makes its calls, and puts it back, so that what the handle holds after one
+//! function is what the next one finds. None of them has a condition: a handle that is closed, or holds a table of
+//! another kind, is an error code ([`code`]).
 //!
 //! Each function is in two parts. The one that C calls takes and puts the table; the one behind it finds out the kind
 //! of the table and makes the call. They are two since what is known of the table is lost where branches join before

@@ -1,4 +1,5 @@
-//! Why a map refuses an item. Each refusal returns the item, and the items of the map stay.
+//! Why a map refuses an item. Each refusal returns the item. The items of the map stay, but for the old one of
+//! `remake_at` and `remake_by`, which their closure has got.
 ghost use Rattle.std.specs.Prelude.{◌≡◌};
 ghost use Rattle.iddqd_map.specs.Refusal.{insert_refusal_item, overwrite_refusal_item, replace_refusal_item};
 

@@ -1,9 +1,9 @@
 //! A map of items that have one key each, found by its order.
 //!
 //! It holds a `Map` with one key index in order, and forwards to it. It is no type name for that `Map`, since its
-//! iterators, its `retain` and its equality go in the order of the keys. Every call searches the table at most once,
-//! except `range`, which searches once for each bound, and `replace`, `replace_at` and `change` where the key changes.
-//! Look-ups, removals and iteration take no memory.
+//! iterators, its `retain` and its equality go in the order of the keys. A look-up, an insert or a removal of one item
+//! searches the table once; the comments of the other calls say how often they do. Look-ups, removals and iteration
+//! take no memory.
 ghost use Rattle.std.specs.Prelude.{◌≡◌, ◌≤◌, ◌↔◌, ◌+◌, false, [], min, max, length, None, IsTrue, IsOk, IfOk, IfErr, OnOk, OnErr, OnSome, IfNone, option_copied};
 ghost use Rattle.std.specs.Ordering.{eq_by_cmp};
 ghost use Rattle.iddqd.specs.{get, live_count, next_index, slot_limit, empty, empty_within, inserted, cleared, IsRemapOf};

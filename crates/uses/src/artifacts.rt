@@ -85,7 +85,8 @@ pub fn remove(artifacts: &mut Artifacts, name: &str, version: &str) -> Option<Ar
 }
 
 /// Gives an artifact another version, which it keeps under its index; `Ok(None)` if and only if there is no such
-/// artifact. It takes no memory. If another artifact has its name and the new version, it comes back and is gone.
+/// artifact. If another artifact has its name and the new version, the released one is returned, and the map has it no
+/// longer.
 pub fn release(
     artifacts: &mut Artifacts,
     name: &str,

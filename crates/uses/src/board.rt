@@ -347,7 +347,7 @@ pub fn hour_or_new(
 }
 
 /// Moves the score of an hour to another one, as `move_to` does, and returns its index. If another one is of that hour,
-/// or memory ran out, it comes back and is on the board no longer.
+/// or memory ran out, it is returned, and is on the board no longer.
 pub fn shift(
     board: &mut Board,
     hour: u32,

@@ -1,7 +1,7 @@
 //! Copies of a map.
 //!
-//! Only the items' type says whether a clone has the same keys. So each map with a name of its own has its own `Clone`,
-//! which calls this; another `Map` is copied by `copied`.
+//! Only the items' type says whether a clone has the same keys. So each map with a name of its own, and a mix, has its
+//! own `Clone`, which calls this; another `Map` is copied by `copied`.
 ghost use Rattle.std.specs.Prelude.{true, ◌≡◌, IfOk};
 ghost use Rattle.iddqd_map.specs.Clones.{IsMapClone};
 

@@ -17,8 +17,8 @@ impl<T, X: KeyIndex<T, S>, S> Map<T, X, S> {
     /// inserted.
     ///
     /// Where an item shares that key, it doesn't matter whether others share further keys, since the new item isn't
-    /// stored; the caller proves that the closure leaves the stored one its keys. Otherwise it is refused as
-    /// `insert_unique` is. Each key of the new item is hashed once and looked up once.
+    /// stored; the caller proves that the closure leaves the stored one its keys. If no item shares it, the new one is
+    /// refused as by `insert_unique`. Each key of the new item is hashed once and looked up once.
     pub fn modify_or_insert_by<P, F: FnOnce(&mut T, T)>(
         &mut self,
         item: T,

@@ -18,8 +18,8 @@ use std::alloc::Global;
 impl<T: Drop, E: OrdKey<T>> OrdMapBy<T, E> {
     /// A map of these items, each inserted as by `insert_unique`, in turn.
     ///
-    /// The first refusal is returned, and then all other items are dropped. Memory is reserved at once for all items.
-    /// The condition is that the array's iterator fits in memory, which the check finds at a given type and length.
+    /// The first refusal is returned, and then all other items are dropped. The condition is that the array's iterator
+    /// fits in memory, which the check finds at a given type and length.
     pub fn from_array<const N: usize>(
         alloc: Global,
         items: [T; N],

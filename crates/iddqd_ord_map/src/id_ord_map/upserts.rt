@@ -19,8 +19,8 @@ impl<T: Drop, E: OrdKey<T>> OrdMapBy<T, E> {
     /// Calls the closure with a `&mut` to the item that has the key of the new item, and with the new item. If no item
     /// has its key, it inserts the new item. It returns the index of the item that was modified or inserted.
     ///
-    /// The caller proves that the closure leaves the stored item its key. Otherwise it is refused as `insert_unique`
-    /// is. The table is searched once.
+    /// The caller proves that the closure leaves the stored item its key. If no item has the key, the new one is
+    /// refused as by `insert_unique`. The table is searched once.
     pub fn modify_or_insert<F: FnOnce(&mut T, T)>(
         &mut self,
         item: T,
