@@ -1,8 +1,8 @@
 /* Proved tables for C and C++. docs/FROM_C.md says what is proved of these functions, and what a caller owes.
  *
- * A table lives behind a handle of two words, `iddqd_table`. A handle begins as IDDQD_NONE; `iddqd_keyed_new` opens it,
- * and `iddqd_free` closes it. Every other function on a handle that is closed, or that has a table of another kind,
- * returns IDDQD_HANDLE and does nothing.
+ * A table lives behind a handle of two words, `iddqd_table`. A handle begins as IDDQD_NONE; `iddqd_keyed_new` and
+ * `iddqd_index_new` open it, and `iddqd_free` closes it. Every other function on a handle that is closed, or that has a
+ * table of another kind, returns IDDQD_HANDLE and does nothing.
  *
  * A function writes through a pointer that it got for an answer only where its comment says so; with any other code the
  * memory there stays as it was.
@@ -38,12 +38,12 @@ typedef struct iddqd_table {
 /* What the functions return. */
 enum {
     IDDQD_OK = 0,        /* it is done */
-    IDDQD_MISSING = 1,   /* no item has the key, or the index isn't live; nothing changed */
+    IDDQD_MISSING = 1,   /* no item has the key, the index isn't live, or the number isn't under the hash; nothing changed */
     IDDQD_DUPLICATE = 2, /* an item has a key of the new one; nothing changed */
     IDDQD_FULL = 3,      /* there are as many items as there can be; nothing changed */
     IDDQD_MEMORY = 4,    /* memory ran out; no item changed */
     IDDQD_HANDLE = 5,    /* no table, or one of another kind; of a function that makes one: the handle isn't zero */
-    IDDQD_SMALL = 6,     /* the buffer is too short; nothing was done */
+    IDDQD_SMALL = 6,     /* the buffer is too short; nothing was written to it, and nothing changed */
     IDDQD_UNSOUND = 7    /* a check failed: an item isn't found by one of its keys, or two items share one */
 };
 
@@ -161,7 +161,7 @@ uint32_t iddqd_index_under(iddqd_table *table, uint64_t hash, uint32_t *numbers,
 /* How many pairs are filed. OK: *count is their number. */
 uint32_t iddqd_index_len(iddqd_table *table, size_t *count);
 
-/* Forgets all pairs, and keeps the memory. OK. */
+/* Forgets all pairs. OK. */
 uint32_t iddqd_index_clear(iddqd_table *table);
 
 #ifdef __cplusplus

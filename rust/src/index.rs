@@ -118,7 +118,7 @@ impl<T, K, F, S> Index<T, K, F, S> {
         self.len() == 0
     }
 
-    /// Forgets all records, and keeps the memory.
+    /// Forgets all records.
     pub fn clear(&mut self) {
         // SAFETY: the handle is open.
         unsafe { raw::iddqd_index_clear(self.handle.get()) };
