@@ -147,13 +147,6 @@ impl<T, X: KeyIndex<T, S>, S> Map<T, X, S> {
         self.items.get(ix)
     }
 
-    /// The state of the hasher, by which the items' keys are hashed.
-    pub fn hasher(&self) -> &S
-        ensures { (indexes : X) × X.indexes indexes result.now self.now.store }
-    {
-        &self.state
-    }
-
     /// Borrows the parts, for look-ups that only this key index has.
     pub fn parts(&self) -> Parts<'_, T, X, S>
         ensures items { result.items.now.store ≡ self.now.store }

@@ -65,13 +65,6 @@ pub fn hashed_within(alloc: Global, limit: u32, hasher: Base31) -> IdHashMap<Par
     IdHashMap::with_limit_and_hasher(alloc, hasher, limit)
 }
 
-/// An empty depot under the hasher of another one.
-pub fn hashed_alike(alloc: Global, depot: &IdHashMap<Part, Base31>) -> IdHashMap<Part, Base31>
-    ensures { result ≡ empty_map u32.MAX }
-{
-    IdHashMap::with_hasher(alloc, *depot.hasher())
-}
-
 /// Makes room for so many more kinds, and tells how many can come without memory.
 pub fn make_room(depot: &mut Depot, more: usize) -> Result<usize, AllocError>
     ensures room { IfOk result (λ count. min more (insertable depot.old.store) ≤ count) }
