@@ -141,15 +141,15 @@ def tuple_of(terms):
 def settable(mix):
     """The fields that a function sets: those of no key, if items own no memory.
 
-    Of such items the check sees what a closure makes of one.
+    Of such items the check sees what a closure makes of one, but for a float and a signed number.
     """
-    return [field for field in mix.plain_fields if mix.is_copy and field.type not in FLOATS]
+    return [field for field in mix.plain_fields if mix.is_copy and field.type not in [*FLOATS, *SIGNED]]
 
 
 def changeable(mix):
     """The fields of other keys than the first unique one, in such items: a function changes each by that key."""
     keyed = [field for key in mix.keys for field in key.fields if mix.is_copy and field not in mix.keys[0].fields]
-    return list(dict.fromkeys(keyed))
+    return [field for field in dict.fromkeys(keyed) if field.type not in SIGNED]
 
 
 class Definitions:

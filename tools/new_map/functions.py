@@ -4,7 +4,7 @@ import re
 
 from new_map import layout, proofs
 from new_map.definitions import bounds, changeable, settable, these, tuple_of
-from new_map.mix import Refused
+from new_map.mix import SIGNED, Refused
 from new_map.names import article
 from new_map.types import markers_of
 
@@ -75,6 +75,13 @@ class Functions:
 
     def add_read(self, comment, name, given, result, clause, call):
         self.add(comment, name, given, result, [("", clause)], call)
+        self.prove_signed(name, given, call[0])
+
+    def prove_signed(self, name, given, call, clause=""):
+        """Keeps the answer of a call that borrows signed parameters, if there are any."""
+        signed = [it.partition(":")[0] for it in given if it.partition(": ")[2] in SIGNED]
+        if signed:
+            self.proofs[name] = proofs.of_signed(self.names, name, call, clause, signed)
 
     def add_write(self, comment, name, given, result, clauses, call):
         self.add(f"{comment} It takes no memory.", name, given, result, clauses, call, True)
@@ -211,6 +218,7 @@ class Functions:
                            ("count", f"result + live_count {m}.new.store ≡ live_count {m}.old.store"),
                            ("memory", f"{m}.new.memory ≡ {m}.old.memory"),
                        ], self.call(key, call, [*arguments, f"|_{self.item}| ()"], 2))
+        self.prove_signed(f"remove_{name}", given, call, "left")
 
     # Calls in the order of a key.
 

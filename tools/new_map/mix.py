@@ -169,6 +169,14 @@ def read_parts(argument, fields):
     return tuple(parts), words
 
 
+def check_signed(key, argument):
+    """Refuses keys of signed numbers whose calls the check doesn't prove."""
+    signed = next((field for field in key.fields if field.type in SIGNED), None)
+    if signed and (key.is_unique or key.by == "hash" or key.fields[1:]):
+        raise Refused(f"'{argument}' is no key that new-map writes: the signed field '{signed.name}' can only be "
+                      "'many order', and alone")
+
+
 def read_keys(arguments):
     """All fields, and the keys in the order of the arguments."""
     fields = [read_field(argument) for argument in arguments if ":" in argument]
@@ -189,6 +197,7 @@ def read_keys(arguments):
         if parts in [key.fields for key in keys]:
             raise Refused(f"the key '{argument}' is given twice")
         keys.append(Key(parts, *key_words(words, argument)))
+        check_signed(keys[-1], argument)
     return tuple(all_fields), keys
 
 

@@ -17,6 +17,15 @@ def file(names, function, imports, answers):
     return "".join(f"use Rattle.{it}\n" for it in uses) + "\n" + "\n".join(goals)
 
 
+def of_signed(names, function, call, clause, parameters):
+    """The answer of a call that borrows signed parameters: what is read back of each is what it was."""
+    goal = f"returns-clause-{clause}" if clause else "returns"
+    fit = "".join(f"    let {name}_fits = c.ranges.{name} in\n" for name in parameters)
+    answer = f"    simp to_z-of_z at c.{call}.ensures{'.' + clause if clause else ''}\n"
+    uses = f"use Rattle.std.proofs.lemmas.Int.{{to_z-of_z}}\nuse Rattle.{names.proofs}.{function}.Goals as goal\n\n"
+    return f"{uses}pub {goal} : goal.{goal}\n{goal} c =\n{fit}{answer}"
+
+
 def by_cases(result, motive, cases):
     """An answer by the cases of a result; each is a pattern and a term."""
     arms = "".join(f"      | {pattern} ↦ λ is.{'' if term[0] == chr(10) else ' '}{term}\n" for pattern, term in cases)
