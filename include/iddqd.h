@@ -38,7 +38,7 @@ typedef struct iddqd_table {
 /* What the functions return. */
 enum {
     IDDQD_OK = 0,        /* it is done */
-    IDDQD_MISSING = 1,   /* no item has the key, the index isn't live, or the number isn't under the hash; nothing changed */
+    IDDQD_MISSING = 1,   /* no item has the key or the index, or the number isn't under the hash; nothing changed */
     IDDQD_DUPLICATE = 2, /* an item has a key of the new one; nothing changed */
     IDDQD_FULL = 3,      /* there are as many items as there can be; nothing changed */
     IDDQD_MEMORY = 4,    /* memory ran out; no item changed */
