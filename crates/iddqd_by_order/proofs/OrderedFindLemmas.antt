@@ -34,18 +34,8 @@ module _ {K : Type 0} (compare : K → K → Ordering) where
       → ((k a : K) → IsTrue (equivalent k) → comparing a ≡ compare k a)
       → IsQuery compare comparing
   IsQuery-lawful equivalent less_after greater_before equal_keys equal as_key = record {
-    less_after = less_after;
-    greater_before = greater_before;
-    equal_keys = equal_keys;
+    fits = record { less_after = less_after; greater_before = greater_before; equal_keys = equal_keys };
     one_key = λ a b one other. sym (as_key a b ((equal a).1 one)) ∙ other;
-  }
-
-  -- such a query fits the order
-  pub FitsOrder-lawful : (comparing : K → Ordering) → IsQuery compare comparing → FitsOrder compare comparing
-  FitsOrder-lawful comparing query = record {
-    less_after = query.less_after;
-    greater_before = query.greater_before;
-    equal_keys = query.equal_keys;
   }
 
   -- the laws of a query that fits the order, along optional keys, none first
@@ -141,14 +131,14 @@ module _
           (steady : IsSteady g order None read answer old)
         where
           rises_by : IsInPlace key_of compare s order → IsSteadyRising g order None read answer old
-          rises_by = rises g read old new total (FitsOrder-lawful compare comparing query) steady
+          rises_by = rises g read old new total query.fits steady
 
           pub LooksUp-from_finds :
               (r : Option ℕ)
               → search.Finds g read order old r new
               → LooksUp key_of compare s order comparing r
           LooksUp-from_finds r finds =
-              LooksUp-found query r (Finds-from_finds g read old new total (FitsOrder-lawful compare comparing query) steady r finds)
+              LooksUp-found query r (Finds-from_finds g read old new total query.fits steady r finds)
 
           pub IsEntryOf-from_table :
               (e : Entry)

@@ -25,11 +25,11 @@ impl<'b, K: Ord, Q: OrdQuery<K>> Comparable<&'b K> for BorrowedKeyQuery<Q> {
 
     ghost equal_where_equivalent = { λ q k. Equal-is (Q.compare q.0 k.now) };
 
-    ghost less_after = { λ q a b. (Q.lawful q.0).less_after a.now b.now };
+    ghost less_after = { λ q a b. (Q.lawful q.0).fits.less_after a.now b.now };
 
-    ghost greater_before = { λ q a b. (Q.lawful q.0).greater_before a.now b.now };
+    ghost greater_before = { λ q a b. (Q.lawful q.0).fits.greater_before a.now b.now };
 
-    ghost equal_keys = { λ q a b. (Q.lawful q.0).equal_keys a.now b.now };
+    ghost equal_keys = { λ q a b. (Q.lawful q.0).fits.equal_keys a.now b.now };
 
     ghost as_equivalent = { λ q k a same. compares_as_key K.cmp K.total (Q.compare q.0) (Q.lawful q.0) k.now a.now
         ((Equal-is (Q.compare q.0 k.now)).0 same) };

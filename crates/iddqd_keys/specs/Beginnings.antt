@@ -33,7 +33,8 @@ less_after (x ∷ q) (y ∷ a) [] before less = cc
 less_after (x ∷ q) (y ∷ a) (z ∷ b) before less =
     let one = IsQuery-key nat_cmp nat_cmp_total x in
     pair_less (nat_cmp y z) (slice_cmp nat_cmp a b) (nat_cmp x y) (begin_cmp q a) (nat_cmp x z) (begin_cmp q b)
-    (one.less_after y z) (one.greater_before y z) (one.equal_keys y z) (one.one_key y z) (less_after q a b) before less
+    (one.fits.less_after y z) (one.fits.greater_before y z) (one.fits.equal_keys y z) (one.one_key y z)
+    (less_after q a b) before less
 
 greater_before :
     (q a b : List ℕ) → slice_cmp nat_cmp a b ≡ Less → begin_cmp q b ≡ Greater → begin_cmp q a ≡ Greater
@@ -43,8 +44,8 @@ greater_before (x ∷ q) (y ∷ a) [] before greater = cc
 greater_before (x ∷ q) (y ∷ a) (z ∷ b) before greater =
     let one = IsQuery-key nat_cmp nat_cmp_total x in
     pair_greater (nat_cmp y z) (slice_cmp nat_cmp a b) (nat_cmp x y) (begin_cmp q a) (nat_cmp x z) (begin_cmp q b)
-    (one.less_after y z) (one.greater_before y z) (one.equal_keys y z) (one.one_key y z) (greater_before q a b) before
-    greater
+    (one.fits.less_after y z) (one.fits.greater_before y z) (one.fits.equal_keys y z) (one.one_key y z)
+    (greater_before q a b) before greater
 
 equal_keys : (q a b : List ℕ) → slice_cmp nat_cmp a b ≡ Equal → begin_cmp q a ≡ begin_cmp q b
 equal_keys [] a b same = refl
@@ -54,7 +55,7 @@ equal_keys (x ∷ q) (y ∷ a) [] same = cc
 equal_keys (x ∷ q) (y ∷ a) (z ∷ b) same =
     let one = IsQuery-key nat_cmp nat_cmp_total x in
     pair_equal (nat_cmp y z) (slice_cmp nat_cmp a b) (nat_cmp x y) (begin_cmp q a) (nat_cmp x z) (begin_cmp q b)
-    (one.equal_keys y z) (equal_keys q a b) same
+    (one.fits.equal_keys y z) (equal_keys q a b) same
 
 pub FitsOrder-begin :
     {T : Type 0} (text_of : T → List ℕ) (q : List ℕ)

@@ -5,5 +5,5 @@ pub mod OrderedQuery
 pub mod KeyWalk
 pub mod Removals
 pub mod Tuples
-pub mod Turned
+pub mod Reversed
 pub mod Beginnings

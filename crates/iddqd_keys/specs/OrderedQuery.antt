@@ -27,20 +27,19 @@ module _ {K : Type 0} (compare : K → K → Ordering) where
   abbrev pub IsOneKey : (K → Ordering) → Type 0
   IsOneKey answer = (a b : K) → answer a ≡ Equal → answer b ≡ Equal → compare a b ≡ Equal
 
-  -- The query fits the order of the keys and stands for one key: along keys in order its answers are first Greater,
-  -- then Equal, then Less; equal keys get the same answer; and all keys at which it is Equal are equal to each other.
+  -- the query fits the order of the keys and stands for one key
   pub record IsQuery (answer : K → Ordering) : Type 0 where
-    pub less_after : (a b : K) → compare a b ≡ Less → answer a ≡ Less → answer b ≡ Less
-    pub greater_before : (a b : K) → compare a b ≡ Less → answer b ≡ Greater → answer a ≡ Greater
-    pub equal_keys : (a b : K) → compare a b ≡ Equal → answer a ≡ answer b
-    pub one_key : (a b : K) → answer a ≡ Equal → answer b ≡ Equal → compare a b ≡ Equal
+    pub fits : FitsOrder answer
+    pub one_key : IsOneKey answer
 
   -- a key is a lawful query
   pub IsQuery-key : IsTotalOrder compare → (key : K) → IsQuery (compare key)
   IsQuery-key o key = record {
-    less_after = λ a b before less. o.trans key a b less before;
-    greater_before = greater_before_in o key;
-    equal_keys = λ a b same. alike_right o a b key same;
+    fits = record {
+      less_after = λ a b before less. o.trans key a b less before;
+      greater_before = greater_before_in o key;
+      equal_keys = λ a b same. alike_right o a b key same;
+    };
     one_key = λ a b one other. sym (o.congr key a b one) ∙ other;
   }
 
@@ -50,17 +49,17 @@ module _ {K : Type 0} (compare : K → K → Ordering) where
     key_before : compare k a ≡ Less → (r : Ordering) → answer a ≡ r → answer a ≡ Less
     key_before less Less is = is
     key_before less Equal is = let same = query.one_key k a here is in cc
-    key_before less Greater is = let greater = query.greater_before k a less is in cc
+    key_before less Greater is = let greater = query.fits.greater_before k a less is in cc
 
     -- if the query is Equal at the key k, and k is behind a, then it is Greater at a
     key_behind : compare a k ≡ Less → (r : Ordering) → answer a ≡ r → answer a ≡ Greater
-    key_behind less Less is = let later = query.less_after a k less is in cc
+    key_behind less Less is = let later = query.fits.less_after a k less is in cc
     key_behind less Equal is = let same = query.one_key a k is here in cc
     key_behind less Greater is = is
 
     by_order : (r : Ordering) → compare k a ≡ r → answer a ≡ compare k a
     by_order Less is = key_before is (answer a) refl ∙ sym is
-    by_order Equal is = sym (query.equal_keys k a is) ∙ here ∙ sym is
+    by_order Equal is = sym (query.fits.equal_keys k a is) ∙ here ∙ sym is
     by_order Greater is = key_behind (total.antisymm a k ∙ ap ordering_reverse is) (answer a) refl ∙ sym is
 
     -- a query that is Equal at a key compares as that key does
@@ -72,35 +71,21 @@ module _ {T K : Type 0} (key_of : T → K) (compare : K → K → Ordering) (ans
     (query : IsQuery compare answer) where
   pub FitsOrder-query : FitsOrder (on key_of compare) (λ x. answer (key_of x))
   FitsOrder-query = record {
-    less_after = λ a b. query.less_after (key_of a) (key_of b);
-    greater_before = λ a b. query.greater_before (key_of a) (key_of b);
-    equal_keys = λ a b. query.equal_keys (key_of a) (key_of b);
+    less_after = λ a b. query.fits.less_after (key_of a) (key_of b);
+    greater_before = λ a b. query.fits.greater_before (key_of a) (key_of b);
+    equal_keys = λ a b. query.fits.equal_keys (key_of a) (key_of b);
   }
 
   pub IsOneKey-query : IsOneKey (on key_of compare) (λ x. answer (key_of x))
   IsOneKey-query a b = query.one_key (key_of a) (key_of b)
-
--- a query that fits an order and stands for one key is lawful
-pub IsQuery-fits :
-    {K : Type 0} (compare : K → K → Ordering) (answer : K → Ordering) → FitsOrder compare answer
-    → IsOneKey compare answer
-    → IsQuery compare answer
-IsQuery-fits compare answer fits one = record {
-  less_after = fits.less_after;
-  greater_before = fits.greater_before;
-  equal_keys = fits.equal_keys;
-  one_key = one;
-}
 
 -- if keys are ordered by a part of theirs, a lawful query on parts is a lawful query on keys
 pub IsQuery-on :
     {K P : Type 0} (part : K → P) (compare : P → P → Ordering) (answer : P → Ordering) → IsQuery compare answer
     → IsQuery (λ a b. compare (part a) (part b)) (λ a. answer (part a))
 IsQuery-on part compare answer query = record {
-  less_after = λ a b. query.less_after (part a) (part b);
-  greater_before = λ a b. query.greater_before (part a) (part b);
-  equal_keys = λ a b. query.equal_keys (part a) (part b);
-  one_key = λ a b. query.one_key (part a) (part b);
+  fits = FitsOrder-query part compare answer query;
+  one_key = IsOneKey-query part compare answer query;
 }
 
 module _ {K : Type 0} where

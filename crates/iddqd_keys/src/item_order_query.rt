@@ -67,11 +67,11 @@ impl<T, E: ComputedKey<T, Key = K>, K: Ord + Drop, Q: OrdQuery<K>> ItemOrdQuery<
 }
 
 impl<T, E: OrdKey<T>, Q: ItemRangeQuery<T, E>> ItemRangeQuery<T, Reversed<E>> for Q {
-    ghost use Rattle.iddqd_keys.specs.Turned.{turned_answer, FitsOrder-turned};
+    ghost use Rattle.iddqd_keys.specs.Reversed.{reversed_answer, FitsOrder-reversed};
 
-    ghost compare_item = { λ q. turned_answer (Q.compare_item q) };
+    ghost compare_item = { λ q. reversed_answer (Q.compare_item q) };
 
-    ghost fits = { λ q. FitsOrder-turned (Q.compare_item q) (Q.fits q) };
+    ghost fits = { λ q. FitsOrder-reversed (Q.compare_item q) (Q.fits q) };
 
     fn compare_item(&self, item: &T) -> Ordering {
         <Q as ItemRangeQuery<T, E>>::compare_item(self, item).reverse()
@@ -79,9 +79,9 @@ impl<T, E: OrdKey<T>, Q: ItemRangeQuery<T, E>> ItemRangeQuery<T, Reversed<E>> fo
 }
 
 impl<T, E: OrdKey<T>, Q: ItemOrdQuery<T, E>> ItemOrdQuery<T, Reversed<E>> for Q {
-    ghost use Rattle.iddqd_keys.specs.Turned.{IsOneKey-turned};
+    ghost use Rattle.iddqd_keys.specs.Reversed.{IsOneKey-reversed};
 
-    ghost one_key = { λ q. IsOneKey-turned (Q.compare_item q) (Q.one_key q) };
+    ghost one_key = { λ q. IsOneKey-reversed (Q.compare_item q) (Q.one_key q) };
 }
 
 impl<T, A, B, P, Q> ItemRangeQuery<T, (A, B)> for (P, Q)

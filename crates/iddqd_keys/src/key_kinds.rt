@@ -1,5 +1,5 @@
-//! Types without values that name a key of an item: a field, a value that is computed from it, or another key's order
-//! turned round.
+//! Types without values that name a key of an item: a field, a value that is computed from it, or another key in the
+//! reversed order.
 //!
 //! A key of several fields is named by a tuple of such types, as `(Field<Name, String>, Field<Version, String>)`.
 ghost use Rattle.std.specs.Prelude.{◌≡◌};

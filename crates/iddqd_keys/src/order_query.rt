@@ -79,11 +79,11 @@ impl<K: Ord, Q: OrdQuery<K>> Comparable<K> for AsComparable<Q> {
 
     ghost equal_where_equivalent = { λ q k. Equal-is (Q.compare q.0 k) };
 
-    ghost less_after = { λ q a b. (Q.lawful q.0).less_after a b };
+    ghost less_after = { λ q a b. (Q.lawful q.0).fits.less_after a b };
 
-    ghost greater_before = { λ q a b. (Q.lawful q.0).greater_before a b };
+    ghost greater_before = { λ q a b. (Q.lawful q.0).fits.greater_before a b };
 
-    ghost equal_keys = { λ q a b. (Q.lawful q.0).equal_keys a b };
+    ghost equal_keys = { λ q a b. (Q.lawful q.0).fits.equal_keys a b };
 
     ghost as_equivalent = { λ q k a same.
         compares_as_key K.cmp K.total (Q.compare q.0) (Q.lawful q.0) k a ((Equal-is (Q.compare q.0 k)).0 same) };

@@ -3,7 +3,7 @@ use Rattle.iddqd_order.specs.Asking.{closure_of}
 use Rattle.iddqd_order.specs.MapBTreeTable.{order_of}
 use Rattle.iddqd_order.proofs.AskLemmas.{CanAsk-by, Steady-by}
 use Rattle.iddqd_keys.specs.Scan.{IsLive, IsKeyAt}
-use Rattle.iddqd_by_order.proofs.OrderedFindLemmas.{FitsOrder-lawful, answer_at}
+use Rattle.iddqd_by_order.proofs.OrderedFindLemmas.{answer_at}
 use Rattle.iddqd_by_order.proofs.OrderedRangeLemmas.{WalksWithin-walked, reads_borrowed}
 use Rattle.iddqd_by_order.proofs.ordered.range.Goals as goal
 
@@ -23,7 +23,7 @@ returns g c =
     let s = c.args.items.now.store in
     let order = order_of c.args.table.now in
     WalksWithin-walked key_of compare cmp s order c.args.lower c.args.upper c.requires _ c.new-asking.result c.range.new.asking g.met.E.Key.Ord.total
-    (λ q. FitsOrder-lawful compare (cmp q) (g.met.Q.OrdQuery.lawful q))
+    (λ q. (g.met.Q.OrdQuery.lawful q).fits)
     (λ q. Steady-by _ _ (λ f. f ≡ closure_of c.new-asking.result) (λ f f' ix r i h e. search rules) _ _
     (λ f f' ix r i h e.
     let read : IsKeyAt key_of s ix r.now = search (rules, i, e) in

@@ -4,7 +4,6 @@ use Rattle.std.specs.Ordering.{on}
 use Rattle.iddqd_order.specs.Asking.{closure_of}
 use Rattle.iddqd_order.specs.MapBTreeTable.{order_of}
 use Rattle.iddqd_order.proofs.AskLemmas.{CanAsk-by, Steady-by}
-use Rattle.iddqd_keys.specs.OrderedQuery.{IsQuery-fits}
 use Rattle.iddqd_keys.specs.Scan.{IsLive, IsKeyAt}
 use Rattle.iddqd_by_order.specs.Ordered.{itself}
 use Rattle.iddqd_by_order.proofs.OrderedFindLemmas.{answer_at, IsEntryOf-from_table}
@@ -27,7 +26,7 @@ returns-clause-made g c =
     let order = order_of c.args.table.now in
     IsEntryOf-from_table itself compare s order comparing c.requires _ _ c.new-asking.result c.entry_by.new.asking
     (on_total g.E.OrdKey.key_of g.met.E.OrdKey.total)
-    (IsQuery-fits compare comparing (g.met.Q.ItemRangeQuery.fits query) (g.met.Q.ItemOrdQuery.one_key query))
+    (record { fits = g.met.Q.ItemRangeQuery.fits query; one_key = g.met.Q.ItemOrdQuery.one_key query })
     (Steady-by _ _ (λ f. f ≡ closure_of c.new-asking.result) (λ f f' ix r i h e. search rules) _ _
     (λ f f' ix r i h e.
     let read : IsKeyAt comparing s ix r = search (rules, i, e) in
