@@ -15,14 +15,11 @@
 //!
 //! One index of each hash stands in a hash table, and the others under that hash are linked behind it. So an insert and
 //! a removal cost the same however many items have the key, and the links take 16 bytes for each slot.
-ghost use Rattle.std.specs.Prelude.{◌≡◌, ◌↔◌, false};
-ghost use Rattle.iddqd.specs.{live_count};
+ghost use Rattle.std.specs.Prelude.{◌≡◌, false};
 ghost use Rattle.iddqd_by_hash.specs.Hashed.{hashing_of};
-ghost use Rattle.iddqd_map.specs.Groups.{AreHits, CountsHits};
-ghost use Rattle.iddqd_keys.specs.Scan.{HasNoHit};
 
 use crate::group_modify::modify_group;
-use crate::group_query::{count_by, find_any, find_other, group_by};
+use crate::group_query::{find_any, find_other};
 pub use crate::hashed_group::Group;
 use crate::linked_steps;
 use crate::linked_table::LinkedTable;
@@ -52,62 +49,12 @@ use std::marker::PhantomData;
 #[derive(Drop)]
 pub struct ByHashMultiOf<E> {
     // Each live index, under the hash of its item's key. The slots that have a link are those of the store.
-    table: LinkedTable,
+    pub(crate) table: LinkedTable,
     of: PhantomData<E>,
 }
 
 /// A table of hashes by the field, a `K`, that `E` borrows from the item. Several items may have it.
 pub type ByHashMulti<E, K> = ByHashMultiOf<Field<E, K>>;
-
-impl<E> ByHashMultiOf<E> {
-    /// The indexes whose items have the key for which the query stands, each once, in no order that a caller can rely
-    /// on.
-    ///
-    /// It hashes the query once, and compares it with keys of the same hash alone, with none twice. It takes no memory.
-    pub fn group<'a, T, S, Q>(
-        &'a self,
-        items: &'a ItemSet<T>,
-        state: &S,
-        query: Q,
-    ) -> Group<'a, T, E, Q>
-    where
-        E: HashKey<T>,
-        S: BuildHasher,
-        Q: ItemHashQuery<T, E>,
-        requires { ⟦<ByHashMultiOf<E> as KeyIndex<T, S>>⟧.indexes self.now state.now items.now.store }
-        ensures hits { AreHits items.now.store (Q.stands_for_item query) result.rest }
-        ensures bound { result.bound ≡ live_count items.now.store }
-    {
-        group_by::<T, E, S, Q>(&self.table, items, state, query)
-    }
-
-    /// How many items have the key for which the query stands.
-    ///
-    /// It costs a step for each item of the group: no count is stored.
-    pub fn count_of<T, S, Q>(&self, items: &ItemSet<T>, state: &S, query: Q) -> usize
-    where
-        E: HashKey<T>,
-        S: BuildHasher,
-        Q: ItemHashQuery<T, E>,
-        requires { ⟦<ByHashMultiOf<E> as KeyIndex<T, S>>⟧.indexes self.now state.now items.now.store }
-        ensures { CountsHits items.now.store (Q.stands_for_item query) result }
-    {
-        count_by::<T, E, S, Q>(&self.table, items, state, query)
-    }
-
-    /// Whether an item has the key for which the query stands, by one look-up.
-    pub fn contains_key<T, S, Q>(&self, items: &ItemSet<T>, state: &S, query: Q) -> bool
-    where
-        E: HashKey<T>,
-        S: BuildHasher,
-        Q: ItemHashQuery<T, E>,
-        requires { ⟦<ByHashMultiOf<E> as KeyIndex<T, S>>⟧.indexes self.now state.now items.now.store }
-        ensures { (result ≡ false) ↔ HasNoHit items.now.store (Q.stands_for_item query) }
-    {
-        let found = find_any::<T, E, S, Q>(&self.table, items, state, query);
-        found.is_some()
-    }
-}
 
 impl<T, S, E> KeyIndex<T, S> for ByHashMultiOf<E>
 where

@@ -4,7 +4,7 @@ ghost use Rattle.iddqd.specs.{live_count};
 ghost use Rattle.iddqd_keys.specs.Scan.{IsHit};
 ghost use Rattle.iddqd_by_hash.specs.Hashed.{hashing_of};
 ghost use Rattle.iddqd_map.specs.Files.{Files};
-ghost use Rattle.iddqd_map.specs.Groups.{AreHits, CountsHits, FindsOther, FindsSome};
+ghost use Rattle.iddqd_map.specs.Groups.{AreHits, FindsOther, FindsSome};
 
 use crate::hashed_group::{Group, group_of};
 use crate::linked_table::LinkedTable;
@@ -92,19 +92,6 @@ where
 {
     let hash = query_hash(state, query);
     group_of::<T, E, Q>(table, items, hash, query)
-}
-
-/// How many items have the key for which the query stands. It goes over all of them.
-pub fn count_by<T, E, S, Q>(table: &LinkedTable, items: &ItemSet<T>, state: &S, query: Q) -> usize
-where
-    E: HashKey<T>,
-    S: BuildHasher,
-    Q: ItemHashQuery<T, E>,
-    requires { Files E.key_of (hashing_of E.eq E.hash_input S.BuildHasher S.Hasher.Hasher state.now)
-        items.now.store table.now.filed }
-    ensures { CountsHits items.now.store (Q.stands_for_item query) result }
-{
-    count_left(group_by::<T, E, S, Q>(table, items, state, query))
 }
 
 /// How many indexes are left. It goes over all of them.

@@ -27,6 +27,7 @@ mod modifies;
 mod modify_each;
 mod numbered_keys;
 mod overwrites;
+mod parts;
 mod range_modify;
 mod range_retain;
 mod ranges;
@@ -44,6 +45,7 @@ use crate::key_index::KeyIndex;
 use iddqd::hash_builder::DefaultHashBuilder;
 use iddqd::item_index::ItemIndex;
 use iddqd::item_set::ItemSet;
+pub use parts::Parts;
 use std::alloc::Global;
 use std::marker::Model;
 
@@ -68,17 +70,6 @@ impl<T, X: KeyIndex<T, S>, S> Model for Map<T, X, S> {
     ghost view = { λ m. map_with m.items (X.capacity m.indexes) (X.cells m.indexes) };
 
     ghost invariant = { λ m. IsIndexed (X.indexes m.indexes) m.state m.items.store };
-}
-
-/// The parts of a map, borrowed.
-#[derive(Drop)]
-pub struct Parts<'a, T, X, S> {
-    /// The items.
-    pub items: &'a ItemSet<T>,
-    /// What they are found by.
-    pub indexes: &'a X,
-    /// The state of the hasher.
-    pub state: &'a S,
 }
 
 impl<T, X: KeyIndex<T, DefaultHashBuilder>> Map<T, X, DefaultHashBuilder> {
@@ -149,8 +140,7 @@ impl<T, X: KeyIndex<T, S>, S> Map<T, X, S> {
 
     /// Borrows the parts, for look-ups that only this key index has.
     pub fn parts(&self) -> Parts<'_, T, X, S>
-        ensures items { result.items.now.store ≡ self.now.store }
-        ensures indexed { X.indexes result.indexes.now result.state.now result.items.now.store }
+        ensures { result ≡ self.now.store }
     {
         Parts {
             items: &self.items,

@@ -26,7 +26,7 @@ pub use iddqd::{
 };
 pub use iddqd_by_order::ordered_walk as ordered_walk;
 pub use iddqd_groups::by_hash_multi::{ByHashMulti, ByHashMultiOf};
-pub use iddqd_groups::in_groups::{GroupItems, InGroups};
+pub use iddqd_groups::in_groups::{GroupItems, GroupParts, InGroups};
 pub use iddqd_groups::{
     by_hash_multi as by_hash_multi, hashed_group as hashed_group, in_groups as in_groups,
 };
@@ -65,8 +65,9 @@ pub use iddqd_ord_map::by_order::{ByOrder, ByOrderOf};
 pub use iddqd_ord_map::by_order_multi::{ByOrderMulti, ByOrderMultiOf};
 pub use iddqd_ord_map::id_ord_map::{IdOrdItem, IdOrdMap, OrdMapBy};
 pub use iddqd_ord_map::in_order::InOrder;
+pub use iddqd_ord_map::ordered_parts::OrderedParts;
 pub use iddqd_ord_map::{
     by_order as by_order, by_order_multi as by_order_multi, id_ord_map as id_ord_map,
-    in_order as in_order, ranges_at as ranges_at,
+    in_order as in_order, ordered_parts as ordered_parts, ranges_at as ranges_at,
 };
 pub use iddqd_order::btree_table as btree_table;

@@ -1,5 +1,4 @@
 pub mod ByOrderLemmas
-pub mod GroupLemmas
 mod InOrderLemmas
 pub mod SizeLemmas
 pub mod SortedScanLemmas

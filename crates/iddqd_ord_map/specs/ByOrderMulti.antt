@@ -1,26 +1,16 @@
--- An index by the order of a key that several items may have: where it puts an index, and what it finds.
-use Rattle.std.specs.Prelude.{◌≤◌, ℕ, Bool, not, Option, Some, None, length}
+-- An index by the order of a key that several items may have: where it puts an index.
+use Rattle.std.specs.Prelude.{◌≤◌, ℕ, not, Some, length}
 use Rattle.std.specs.declared.cmp.Ordering.{Ordering}
 use Rattle.iddqd.specs.Store.{Store, next_index}
 use Rattle.iddqd_order.specs.MapBTreeTable.{Order, order_of}
 use Rattle.iddqd_order.specs.Gap.{Fits, gap_place}
 use Rattle.iddqd_order.specs.Search.{IsPlace, with_ties}
 use Rattle.iddqd_order.specs.declared.btree_table.gap.Gap.{Gap}
-use Rattle.iddqd_keys.specs.Scan.{IsHit, HasNoHit}
+use Rattle.iddqd_keys.specs.Scan.{IsHit}
 use Rattle.iddqd_by_order.specs.Ordered.{compared, key_at}
 use Rattle.iddqd_ord_map.specs.OrderedIndexing.{has_key}
 use Rattle.iddqd_ord_map.specs.declared.ordered_move.Move.{Move}
 use Rattle.iddqd_ord_map.specs.declared.ordered_move.Move.TheVariants.{Stays, Moves}
-
-module _ {T : Type 0} where
-  -- the least of the live indexes whose items pass, or the greatest; `None` if no item passes
-  abbrev pub IsLeastHit : Store T → (T → Bool) → Option ℕ → Type 0
-  IsLeastHit s test (Some ix) = IsHit s test ix × ((j : ℕ) → IsHit s test j → ix ≤ j)
-  IsLeastHit s test None = HasNoHit s test
-
-  abbrev pub IsGreatestHit : Store T → (T → Bool) → Option ℕ → Type 0
-  IsGreatestHit s test (Some ix) = IsHit s test ix × ((j : ℕ) → IsHit s test j → j ≤ ix)
-  IsGreatestHit s test None = HasNoHit s test
 
 module _ {T K : Type 0} (key_of : T → K) (compare : K → K → Ordering) where
   -- how the key of an item compares with the key of a live index

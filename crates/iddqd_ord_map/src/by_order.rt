@@ -8,14 +8,12 @@
 //! 2. It is sorted by the keys of their items, and no two items have equal keys.
 ghost use Rattle.std.specs.Prelude.{◌≡◌, ℕ, IfSome};
 ghost use Rattle.iddqd.specs.{removed};
-ghost use Rattle.iddqd_order.specs.{indexes_ahead, indexes_left};
 ghost use Rattle.iddqd_order.specs.Spot.{StandsAt};
 ghost use Rattle.iddqd_order.specs.declared.btree_table.spot.Spot.{Spot as SpotInTable};
 ghost use Rattle.iddqd_order.specs.MapBTreeTable.{order_of};
-ghost use Rattle.iddqd_ord_map.specs.ByOrder.{FindsGreatest, FindsLeast, LooksPlaceUp};
+ghost use Rattle.iddqd_ord_map.specs.ByOrder.{LooksPlaceUp};
 ghost use Rattle.iddqd_ord_map.specs.OrderedIndexing.{Sorts};
-ghost use Rattle.iddqd_by_order.specs.Ordered.{is_equal, IsSortedScan};
-ghost use Rattle.iddqd_by_order.specs.OrderedWalk.{SortsWithin};
+ghost use Rattle.iddqd_by_order.specs.Ordered.{is_equal};
 ghost use Rattle.iddqd_keys.specs.Scan.{AnswersScan, IsLive, IsKeyAt};
 ghost use Rattle.iddqd_keys.specs.KeyWalk.{IsFirstHit, IsNextHit};
 ghost use Rattle.iddqd_keys.specs.OrderedQuery.{is_up_to, is_within};
@@ -26,7 +24,7 @@ ghost use Rattle.std.specs.Ordering.{on};
 ghost use Rattle.std.specs.Range.Bound.{bound_map};
 
 use crate::ordered_move::{Move, plan_move};
-use crate::ordered_query::{find_by, first_by, iter_by, last_by, range_by, take_by};
+use crate::ordered_query::{find_by, take_by};
 use crate::ordered_steps;
 use iddqd::index_remap::IndexRemap;
 use iddqd::internal::{ValidateCompact, ValidateRefusal, ValidationError};
@@ -39,7 +37,7 @@ use iddqd_keys::key_kinds::Field;
 use iddqd_keys::key_of::{Itself, key_at};
 use iddqd_keys::order_key::OrdKey;
 use iddqd_map::key_index::{FindsSame, Here, KeyIndex, OrderedAt, ReportsAt, UniqueAt};
-use iddqd_order::btree_table::{Asking, Blocks, Gap, Iter, MapBTreeTable, Range, Spot};
+use iddqd_order::btree_table::{Asking, Blocks, Gap, MapBTreeTable, Spot};
 use std::alloc::{AllocError, Global};
 use std::cmp::Ordering;
 use std::marker::PhantomData;
@@ -53,73 +51,6 @@ pub type ByOrder<E, K> = ByOrderOf<Field<E, K>>;
 pub struct ByOrderOf<E> {
     pub(crate) table: MapBTreeTable,
     of: PhantomData<E>,
-}
-
-impl<E> ByOrderOf<E> {
-    /// The index of the item that has the key for which the query stands.
-    ///
-    /// It is one search of the ordered table, whose contract allows at most 4 + 2d comparisons, where the number of
-    /// items has d binary digits. The contract here doesn't count them.
-    pub fn find<T, S, Q>(&self, items: &ItemSet<T>, state: &S, query: Q) -> Option<ItemIndex>
-    where
-        E: OrdKey<T>,
-        Q: ItemOrdQuery<T, E>,
-        requires { ⟦<ByOrderOf<E> as KeyIndex<T, S>>⟧.indexes self.now state.now items.now.store }
-        ensures { AnswersScan items.now.store (is_equal (Q.compare_item query)) result }
-    {
-        find_by::<T, E, Q>(&self.table, items, query)
-    }
-
-    /// The index of the item with the least key.
-    pub fn first<T, S>(&self, items: &ItemSet<T>, state: &S) -> Option<ItemIndex>
-    where
-        E: OrdKey<T>,
-        requires { ⟦<ByOrderOf<E> as KeyIndex<T, S>>⟧.indexes self.now state.now items.now.store }
-        ensures { FindsLeast E.key_of E.cmp items.now.store result }
-    {
-        first_by::<T, E>(&self.table, items)
-    }
-
-    /// The index of the item with the greatest key.
-    pub fn last<T, S>(&self, items: &ItemSet<T>, state: &S) -> Option<ItemIndex>
-    where
-        E: OrdKey<T>,
-        requires { ⟦<ByOrderOf<E> as KeyIndex<T, S>>⟧.indexes self.now state.now items.now.store }
-        ensures { FindsGreatest E.key_of E.cmp items.now.store result }
-    {
-        last_by::<T, E>(&self.table, items)
-    }
-
-    /// The live indexes, in the order of the keys, from both ends. It takes no memory.
-    pub fn iter<T, S>(&self, items: &ItemSet<T>, state: &S) -> Iter<'_>
-    where
-        E: OrdKey<T>,
-        requires { ⟦<ByOrderOf<E> as KeyIndex<T, S>>⟧.indexes self.now state.now items.now.store }
-        ensures { IsSortedScan E.key_of E.cmp items.now.store (indexes_left result) }
-    {
-        iter_by::<T, E>(&self.table, items)
-    }
-
-    /// The indexes whose items have keys between two bounds, in the order of the keys, from both ends: none if the
-    /// lower bound is above the upper one.
-    ///
-    /// It is one search for each bound that there is, as `find`, and takes no memory.
-    pub fn range<T, S, Q>(
-        &self,
-        items: &ItemSet<T>,
-        state: &S,
-        lower: Bound<Q>,
-        upper: Bound<Q>,
-    ) -> Range<'_>
-    where
-        E: OrdKey<T>,
-        Q: ItemRangeQuery<T, E>,
-        requires { ⟦<ByOrderOf<E> as KeyIndex<T, S>>⟧.indexes self.now state.now items.now.store }
-        ensures { let within = is_within Q.compare_item lower upper in
-            SortsWithin itself (on E.key_of E.cmp) within items.now.store (indexes_ahead result) }
-    {
-        range_by::<T, E, Q>(&self.table, items, lower, upper)
-    }
 }
 
 // The place of an item's key, or the index of the item that has it.

@@ -7,18 +7,14 @@
 //! Invariants, given the store's items:
 //! 1. The list has exactly the live indexes, each once.
 //! 2. It is sorted by the keys of their items, and by index if these are equal.
-ghost use Rattle.std.specs.Prelude.{◌≡◌, ◌↔◌, ℕ, false, IfSome};
+ghost use Rattle.std.specs.Prelude.{◌≡◌, ℕ, IfSome};
 ghost use Rattle.iddqd.specs.{next_index, removed, IsValid};
-ghost use Rattle.iddqd_order.specs.{indexes_ahead, indexes_left};
 ghost use Rattle.iddqd_order.specs.Spot.{StandsAt};
 ghost use Rattle.iddqd_order.specs.declared.btree_table.spot.Spot.{Spot as SpotInTable};
 ghost use Rattle.iddqd_order.specs.MapBTreeTable.{order_of};
-ghost use Rattle.iddqd_ord_map.specs.ByOrder.{FindsGreatest, FindsLeast};
-ghost use Rattle.iddqd_map.specs.Groups.{CountsHits};
-ghost use Rattle.iddqd_ord_map.specs.ByOrderMulti.{IsGreatestHit, IsLeastHit, IsOwnGapFor};
-ghost use Rattle.iddqd_by_order.specs.Ordered.{is_equal, IsSortedScan};
-ghost use Rattle.iddqd_by_order.specs.OrderedWalk.{SortsWithin};
-ghost use Rattle.iddqd_keys.specs.Scan.{HasNoHit, IsLive, IsKeyAt};
+ghost use Rattle.iddqd_ord_map.specs.ByOrderMulti.{IsOwnGapFor};
+ghost use Rattle.iddqd_by_order.specs.Ordered.{IsSortedScan};
+ghost use Rattle.iddqd_keys.specs.Scan.{IsLive, IsKeyAt};
 ghost use Rattle.iddqd_keys.specs.KeyWalk.{IsFirstHit, IsNextHit};
 ghost use Rattle.iddqd_keys.specs.OrderedQuery.{is_up_to, is_within};
 ghost use Rattle.iddqd_map.specs.Ranges.{itself};
@@ -28,21 +24,19 @@ ghost use Rattle.std.specs.Ordering.{on};
 ghost use Rattle.std.specs.Range.Bound.{bound_map};
 
 use crate::ordered_move::Move;
-use crate::ordered_query::{count_by, first_by, group_by, iter_by, last_by, range_by};
 use crate::ordered_steps;
 use iddqd::index_remap::IndexRemap;
 use iddqd::internal::{ValidateCompact, ValidateRefusal, ValidationError};
 use iddqd::item_index::ItemIndex;
 use iddqd::item_set::ItemSet;
-use iddqd_by_order::ordered_item::find;
 use iddqd_by_order::ordered_next::{first_between, next_between, take_between};
-use iddqd_keys::item_order_query::{ItemOrdQuery, ItemRangeQuery};
+use iddqd_keys::item_order_query::ItemRangeQuery;
 use iddqd_keys::key_kinds::Field;
 use iddqd_keys::key_of::{Itself, key_at};
 use iddqd_keys::order_key::OrdKey;
 use iddqd_map::key_index::{Here, KeyIndex, OrderedAt};
 pub use iddqd_map::no_conflict::NoConflict;
-use iddqd_order::btree_table::{Asking, Blocks, Gap, Iter, MapBTreeTable, Range, Spot};
+use iddqd_order::btree_table::{Asking, Blocks, Gap, MapBTreeTable, Spot};
 use std::alloc::{AllocError, Global};
 use std::cmp::Ordering;
 use std::marker::PhantomData;
@@ -56,123 +50,6 @@ pub type ByOrderMulti<E, K> = ByOrderMultiOf<Field<E, K>>;
 pub struct ByOrderMultiOf<E> {
     pub(crate) table: MapBTreeTable,
     of: PhantomData<E>,
-}
-
-impl<E> ByOrderMultiOf<E> {
-    /// The indexes whose items have the key for which the query stands, by index, from both ends. A query for the first
-    /// of several keys, as a `Prefix`, gives all items with that first key, by key and then by index.
-    ///
-    /// It is two searches of the ordered table, and takes no memory. The contract of the table allows each of them 4 +
-    /// 2d comparisons, where the number of items has d binary digits; the contract here doesn't count them.
-    pub fn group<T, S, Q>(&self, items: &ItemSet<T>, state: &S, query: Q) -> Range<'_>
-    where
-        E: OrdKey<T>,
-        Q: ItemRangeQuery<T, E>,
-        requires { ⟦<ByOrderMultiOf<E> as KeyIndex<T, S>>⟧.indexes self.now state.now items.now.store }
-        ensures { SortsWithin itself (on E.key_of E.cmp) (is_equal (Q.compare_item query)) items.now.store
-            (indexes_ahead result) }
-    {
-        group_by::<T, E, Q>(&self.table, items, query)
-    }
-
-    /// The indexes whose items have keys between two bounds, by key and then by index, from both ends: none if the
-    /// lower bound is above the upper one.
-    ///
-    /// It is one search for each bound that there is, each as one of `group`, and takes no memory.
-    pub fn range<T, S, Q>(
-        &self,
-        items: &ItemSet<T>,
-        state: &S,
-        lower: Bound<Q>,
-        upper: Bound<Q>,
-    ) -> Range<'_>
-    where
-        E: OrdKey<T>,
-        Q: ItemRangeQuery<T, E>,
-        requires { ⟦<ByOrderMultiOf<E> as KeyIndex<T, S>>⟧.indexes self.now state.now items.now.store }
-        ensures { let within = is_within Q.compare_item lower upper in
-            SortsWithin itself (on E.key_of E.cmp) within items.now.store (indexes_ahead result) }
-    {
-        range_by::<T, E, Q>(&self.table, items, lower, upper)
-    }
-
-    /// The live indexes, by key and then by index, from both ends. It takes no memory.
-    pub fn iter<T, S>(&self, items: &ItemSet<T>, state: &S) -> Iter<'_>
-    where
-        E: OrdKey<T>,
-        requires { ⟦<ByOrderMultiOf<E> as KeyIndex<T, S>>⟧.indexes self.now state.now items.now.store }
-        ensures { IsSortedScan E.key_of E.cmp items.now.store (indexes_left result) }
-    {
-        iter_by::<T, E>(&self.table, items)
-    }
-
-    /// The index of an item with the least key.
-    pub fn first<T, S>(&self, items: &ItemSet<T>, state: &S) -> Option<ItemIndex>
-    where
-        E: OrdKey<T>,
-        requires { ⟦<ByOrderMultiOf<E> as KeyIndex<T, S>>⟧.indexes self.now state.now items.now.store }
-        ensures { FindsLeast E.key_of E.cmp items.now.store result }
-    {
-        first_by::<T, E>(&self.table, items)
-    }
-
-    /// The index of an item with the greatest key.
-    pub fn last<T, S>(&self, items: &ItemSet<T>, state: &S) -> Option<ItemIndex>
-    where
-        E: OrdKey<T>,
-        requires { ⟦<ByOrderMultiOf<E> as KeyIndex<T, S>>⟧.indexes self.now state.now items.now.store }
-        ensures { FindsGreatest E.key_of E.cmp items.now.store result }
-    {
-        last_by::<T, E>(&self.table, items)
-    }
-
-    /// The least index whose item has the key for which the query stands. It costs as much as `group`.
-    pub fn first_of<T, S, Q>(&self, items: &ItemSet<T>, state: &S, query: Q) -> Option<ItemIndex>
-    where
-        E: OrdKey<T>,
-        Q: ItemOrdQuery<T, E>,
-        requires { ⟦<ByOrderMultiOf<E> as KeyIndex<T, S>>⟧.indexes self.now state.now items.now.store }
-        ensures { IsLeastHit items.now.store (is_equal (Q.compare_item query)) result }
-    {
-        self.group(items, state, query).next()
-    }
-
-    /// The greatest index whose item has the key for which the query stands. It costs as much as `group`.
-    pub fn last_of<T, S, Q>(&self, items: &ItemSet<T>, state: &S, query: Q) -> Option<ItemIndex>
-    where
-        E: OrdKey<T>,
-        Q: ItemOrdQuery<T, E>,
-        requires { ⟦<ByOrderMultiOf<E> as KeyIndex<T, S>>⟧.indexes self.now state.now items.now.store }
-        ensures { IsGreatestHit items.now.store (is_equal (Q.compare_item query)) result }
-    {
-        self.group(items, state, query).next_back()
-    }
-
-    /// Whether an item has the key for which the query stands.
-    ///
-    /// It is one search, as one of the two of `group`.
-    pub fn contains_key<T, S, Q>(&self, items: &ItemSet<T>, state: &S, query: Q) -> bool
-    where
-        E: OrdKey<T>,
-        Q: ItemRangeQuery<T, E>,
-        requires { ⟦<ByOrderMultiOf<E> as KeyIndex<T, S>>⟧.indexes self.now state.now items.now.store }
-        ensures { (result ≡ false) ↔ HasNoHit items.now.store (is_equal (Q.compare_item query)) }
-    {
-        find::<T, E, Q>(&self.table, items, query).is_some()
-    }
-
-    /// How many items have the key for which the query stands.
-    ///
-    /// It costs as much as `group`, and a step for each of them: no table counts a group.
-    pub fn count_of<T, S, Q>(&self, items: &ItemSet<T>, state: &S, query: Q) -> usize
-    where
-        E: OrdKey<T>,
-        Q: ItemRangeQuery<T, E>,
-        requires { ⟦<ByOrderMultiOf<E> as KeyIndex<T, S>>⟧.indexes self.now state.now items.now.store }
-        ensures { CountsHits items.now.store (is_equal (Q.compare_item query)) result }
-    {
-        count_by::<T, E, Q>(&self.table, items, query)
-    }
 }
 
 // The place of the next index under an item's key.

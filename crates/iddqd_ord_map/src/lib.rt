@@ -6,6 +6,7 @@ pub mod by_order_multi;
 pub mod id_ord_map;
 pub mod in_order;
 pub mod ordered_move;
+pub mod ordered_parts;
 pub mod ordered_query;
 pub mod ordered_steps;
 pub mod ranges_at;

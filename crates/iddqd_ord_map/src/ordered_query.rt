@@ -4,12 +4,11 @@
 //! would. A range allows equal keys: items with equal keys are in it by index.
 ghost use Rattle.std.specs.Prelude.{◌≡◌};
 ghost use Rattle.std.specs.Ordering.{on};
-ghost use Rattle.iddqd_order.specs.{capacity, indexes_ahead, indexes_left, order_of};
+ghost use Rattle.iddqd_order.specs.{capacity, indexes_ahead, order_of};
 ghost use Rattle.iddqd_keys.specs.Scan.{AnswersScan};
 ghost use Rattle.iddqd_keys.specs.OrderedQuery.{is_within};
 ghost use Rattle.iddqd_by_order.specs.Ordered.{Takes, IsSortedScan, is_equal};
 ghost use Rattle.iddqd_by_order.specs.OrderedWalk.{SortsWithin};
-ghost use Rattle.iddqd_ord_map.specs.ByOrder.{FindsGreatest, FindsLeast};
 ghost use Rattle.iddqd_map.specs.Groups.{CountsHits};
 ghost use Rattle.iddqd_map.specs.Ranges.{itself};
 ghost use Rattle.iddqd_ord_map.specs.OrderedIndexing.{Sorts};
@@ -19,7 +18,7 @@ use iddqd::item_set::ItemSet;
 use iddqd_by_order::ordered_item;
 use iddqd_keys::item_order_query::{ItemOrdQuery, ItemRangeQuery};
 use iddqd_keys::order_key::OrdKey;
-use iddqd_order::btree_table::{Iter, MapBTreeTable, Range};
+use iddqd_order::btree_table::{MapBTreeTable, Range};
 use std::ops::Bound;
 
 /// The index of the item that has the key for which the query stands.
@@ -71,50 +70,6 @@ where
         SortsWithin itself (on E.key_of E.cmp) within items.now.store (indexes_ahead result) }
 {
     ordered_item::range::<T, E, Q>(table, items, lower, upper)
-}
-
-/// The index of an item with the least key.
-pub fn first_by<T, E>(table: &MapBTreeTable, items: &ItemSet<T>) -> Option<ItemIndex>
-where
-    E: OrdKey<T>,
-    requires { IsSortedScan E.key_of E.cmp items.now.store (order_of table.now) }
-    ensures { FindsLeast E.key_of E.cmp items.now.store result }
-{
-    table.first()
-}
-
-/// The index of an item with the greatest key.
-pub fn last_by<T, E>(table: &MapBTreeTable, items: &ItemSet<T>) -> Option<ItemIndex>
-where
-    E: OrdKey<T>,
-    requires { IsSortedScan E.key_of E.cmp items.now.store (order_of table.now) }
-    ensures { FindsGreatest E.key_of E.cmp items.now.store result }
-{
-    table.last()
-}
-
-/// The live indexes, in the order of the keys, and those with equal keys by index, from both ends. It takes no memory.
-pub fn iter_by<'t, T, E>(table: &'t MapBTreeTable, items: &ItemSet<T>) -> Iter<'t>
-where
-    E: OrdKey<T>,
-    requires { IsSortedScan E.key_of E.cmp items.now.store (order_of table.now) }
-    ensures { IsSortedScan E.key_of E.cmp items.now.store (indexes_left result) }
-{
-    table.iter()
-}
-
-/// The indexes whose items have the key for which the query stands, by index, from both ends.
-///
-/// It is two searches of the table, each as `find_by`, and takes no memory.
-pub fn group_by<'t, T, E, Q>(table: &'t MapBTreeTable, items: &ItemSet<T>, query: Q) -> Range<'t>
-where
-    E: OrdKey<T>,
-    Q: ItemRangeQuery<T, E>,
-    requires { IsSortedScan E.key_of E.cmp items.now.store (order_of table.now) }
-    ensures { SortsWithin itself (on E.key_of E.cmp) (is_equal (Q.compare_item query)) items.now.store
-        (indexes_ahead result) }
-{
-    range_by::<T, E, Q>(table, items, Bound::Included(query), Bound::Included(query))
 }
 
 /// How many items have the key for which the query stands. It costs one step for each of them more than `group_by`.

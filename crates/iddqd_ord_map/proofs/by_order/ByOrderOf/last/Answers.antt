@@ -1,6 +1,0 @@
-use Rattle.iddqd_order.specs.MapBTreeTable.{order_of}
-use Rattle.iddqd_ord_map.specs.ByOrderLaws.{Sorts-scan}
-use Rattle.iddqd_ord_map.proofs.by_order.ByOrderOf.last.Goals as goal
-
-pub last_by-requires : goal.last_by-requires
-last_by-requires g c = Sorts-scan _ _ c.args.items.now.store (order_of c.args.self.now.table) c.requires
