@@ -1,16 +1,25 @@
--- For callers of a map in order: what is left after `retain`, and what an iteration says of keys.
-use Rattle.std.proofs.Common.{◌≡◌, ◌∙◌, ◌≤◌, ◌↔◌, inl, inr, ℕ, Bool, true, List, [], ◌∷◌, map, Contains, filter, Some, refl, sym, ap, subst, arith, Ordering}
+-- For callers of a map in order: what is left after `retain`, and what an iteration says of keys and of its first item.
+use Rattle.std.proofs.Common.{◌≡◌, ◌≢◌, ◌∙◌, ◌≤◌, ◌↔◌, inl, inr, ℕ, Bool, true, List, [], ◌∷◌, map, Contains, filter, Some, refl, sym, ap, subst, arith, Ordering}
+use Rattle.std.specs.Cmp.{IsTotalOrder}
+use Rattle.std.specs.List.{slice_get}
+use Rattle.std.specs.declared.cmp.Ordering.TheVariants.{Less}
 use Rattle.std.proofs.lemmas.Bool.{cond_both}
 use Rattle.std.proofs.lemmas.List.Elements.{All-contains, All-contains_itself, All-filter, Contains-append_cases, Contains-append_left, Contains-append_right, Contains-push, Contains-push_cases, filter_passes}
 use Rattle.std.specs.Ordering.{on}
 use Rattle.iddqd.specs.Store.{Store, get, live_count}
+use Rattle.iddqd.proofs.LiveLemmas.{item_at, live_at}
+use Rattle.iddqd.proofs.StoreLemmas.{contains_head}
+use Rattle.iddqd_by_order.specs.Ordered.{AreLive, IsSortedScan}
+use Rattle.iddqd_keys.specs.KeyWalk.{pairs_at}
 use Rattle.iddqd_keys.specs.Scan.{itself}
 use Rattle.iddqd_map.specs.Map.{MapState}
 use Rattle.iddqd_map.specs.Retain.{removed_of}
 use Rattle.iddqd_map.proofs.CallerLemmas.{fewer_all}
 use Rattle.iddqd_map.proofs.RetainedLemmas.{kept_tested}
+use Rattle.iddqd_ord_map.specs.InOrder.{FindsFirst, ListsInOrder}
 use Rattle.iddqd_ord_map.specs.KeyOrder.{IsKeyWalk, IsWalkWithin}
 use Rattle.iddqd_ord_map.specs.Retain.{RetainsAlong}
+use Rattle.iddqd_ord_map.proofs.OrderedEndLemmas.{HasLeastKey-first}
 
 -- no more items than there were
 pub retains_along_fewer :
@@ -92,3 +101,44 @@ pub IsWalkWithin-keys :
     → IsWalkWithin itself (on key_of compare) (λ item. within (key_of item)) s pairs
     → IsWalkWithin key_of compare within s pairs
 IsWalkWithin-keys key_of compare within s pairs walk = record { live = walk.live; rising = walk.rising }
+
+-- the pair of the first of these indexes
+first_pair :
+    {T : Type 0} (s : Store T) (indexes : List ℕ) (ix : ℕ) (item : T) (others : List (ℕ × T))
+    → AreLive s indexes
+    → (ix, item) ∷ others ≡ pairs_at s indexes
+    → (slice_get indexes 0 ≡ Some ix) × (get s ix ≡ Some item)
+first_pair s [] ix item others live is = absurd (cc)
+first_pair s (j ∷ indexes) ix item others live is =
+    let (x, there) = item_at s j (live j (contains_head j indexes)) in
+    let pairs : (ix, item) ∷ others ≡ (j, x) ∷ pairs_at s indexes = rw there at is in
+    let same : ix ≡ j = cc in
+    let value : item ≡ x = cc in
+    (ap Some (sym same), subst (λ i. get s i ≡ Some item) (sym same) (there ∙ ap Some (sym value)))
+
+-- no item is less than the first of an iteration over all
+module _ {T : Type 0} (order : T → T → Ordering) (s : Store T) where
+  all_listed : (indexes : List ℕ) → ListsInOrder order (λ _. true) s indexes → IsSortedScan itself order s indexes
+  all_listed indexes listed = record {
+    holds = record {
+      each = λ ix. (
+        λ here. let (item, is, passes) = (listed.hits.each ix).0 here in live_at s ix item is,
+        λ live. let (item, is) = item_at s ix live in (listed.hits.each ix).1 (item, is, refl),
+      );
+      once = listed.hits.once;
+    };
+    placed = listed.placed;
+  }
+
+  pub FindsFirst-least :
+      IsTotalOrder order
+      → (ix : ℕ) (item : T)
+      → FindsFirst order s (Some (ix, item))
+      → (get s ix ≡ Some item) × ((j : ℕ) (other : T) → get s j ≡ Some other → order other item ≢ Less)
+  FindsFirst-least total ix item (others, first) =
+      let scan = all_listed first.indexes first.listed in
+      let live = λ i here. let (x, is, passes) = (first.listed.hits.each i).0 here in live_at s i x is in
+      let (at, is) = first_pair s first.indexes ix item others live first.with_items in
+      let (x, there, least) = HasLeastKey-first s first.indexes scan.holds itself order total scan.placed ix at in
+      let same : x ≡ item = cc in
+      (is, λ j other stands. subst (λ y. order other y ≢ Less) same (least j other stands))
