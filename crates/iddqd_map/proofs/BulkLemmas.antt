@@ -255,7 +255,7 @@ module _
     store_of_refused before new item (Memory back) refused = refused.store_stays
 
     -- as many items more are there
-    pub InsertsUntil-count :
+    InsertsUntil-count :
         (it rest : I) (old new : MapState T) (items : List T) (refusal : Option (InsertRefusal T C))
         → IsValid old.store
         → InsertsUntil gives alike grown conflicts it old items refusal rest new
@@ -267,7 +267,7 @@ module _
         omega (arith, count, same)
 
     -- all items that there were stay
-    pub InsertsUntil-stays :
+    InsertsUntil-stays :
         (it rest : I) (old new : MapState T) (items : List T) (refusal : Option (InsertRefusal T C))
         → IsValid old.store
         → InsertsUntil gives alike grown conflicts it old items refusal rest new
@@ -278,6 +278,23 @@ module _
     InsertsUntil-stays it rest old new items (Some refusal) valid (item, before, run, refused) = λ ix x live.
         subst (λ s. get s ix ≡ Some x) (sym (store_of_refused before new item refusal refused))
         (stays-along alike grown items old before valid run.in_turn ix x live)
+
+    -- the same beside a map with the same store as the one before
+    pub InsertsUntil-from :
+        (first : MapState T) (it rest : I) (old new : MapState T) (items : List T) (refusal : Option (InsertRefusal T C))
+        → old.store ≡ first.store
+        → IsValid first.store
+        → InsertsUntil gives alike grown conflicts it old items refusal rest new
+        → (live_count new.store ≡ live_count first.store + length items)
+        × ((ix : ℕ) (x : T) → get first.store ix ≡ Some x → get new.store ix ≡ Some x)
+    InsertsUntil-from first it rest old new items refusal same first_valid run =
+        let valid = subst IsValid (sym same) first_valid in
+        let count = InsertsUntil-count it rest old new items refusal valid run in (
+          omega (arith, count, ap live_count same),
+          λ ix x live.
+              InsertsUntil-stays it rest old new items refusal valid run ix x
+              (subst (λ s. get s ix ≡ Some x) (sym same) live),
+        )
 
 -- a map of the items that an iterator has left
 module _
