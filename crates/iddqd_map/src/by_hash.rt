@@ -240,7 +240,7 @@ where
     }
 
     fn remove(&mut self, items: &ItemSet<T>, state: &S, ix: ItemIndex) {
-        hashed_steps::take_out::<T, E, S>(&mut self.table, items, state, ix);
+        hashed_steps::remove_live::<T, E, S>(&mut self.table, items, state, ix);
     }
 
     fn clear(&mut self) {

@@ -93,7 +93,7 @@ pub fn make_room<T>(table: &mut MapHashTable, items: &ItemSet<T>) -> Result<(), 
 }
 
 /// Removes a live index, which is under the hash of its item's key. It takes no memory.
-pub fn take_out<T, E, S>(table: &mut MapHashTable, items: &ItemSet<T>, state: &S, ix: ItemIndex)
+pub fn remove_live<T, E, S>(table: &mut MapHashTable, items: &ItemSet<T>, state: &S, ix: ItemIndex)
 where
     E: HashKey<T>,
     S: BuildHasher,

@@ -12,6 +12,7 @@ pub use Rattle.iddqd_keys.specs.Removals
 pub use Rattle.iddqd_keys.specs.Tuples
 pub use Rattle.iddqd_keys.specs.Beginnings
 pub use Rattle.iddqd_by_order.specs.OrderedWalk
+pub use Rattle.iddqd_order.specs.Iter
 pub use Rattle.iddqd_order.specs.Range
 pub use Rattle.iddqd_map.specs.Map
 pub use Rattle.iddqd_map.specs.Memory

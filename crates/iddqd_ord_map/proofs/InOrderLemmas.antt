@@ -1,5 +1,6 @@
 -- For reads in order at a place: what an iteration over listed indexes gives.
-use Rattle.std.proofs.Common.{◌≡◌, ◌∙◌, ◌∷◌, ⊎_elim, ℕ, Bool, true, List, [], Option, Some, None, length, refl, sym, ap, subst, Contains, Ordering}
+use Rattle.std.proofs.Common.{◌≡◌, ◌∙◌, ◌↔◌, ◌∷◌, ⊎_elim, ℕ, Bool, false, is_some, true, List, [], Option, Some, None, length, refl, sym, ap, subst, Contains, Ordering}
+use Rattle.std.specs.Option.{option_map}
 use Rattle.std.proofs.lemmas.List.Elements.{Contains-append_right}
 use Rattle.std.specs.declared.ops.Bound.TheVariants.{Included}
 use Rattle.iddqd.specs.Store.{Store, get, live_count}
@@ -7,8 +8,9 @@ use Rattle.iddqd.proofs.StoreLemmas.{contains_cases, contains_head, contains_non
 use Rattle.iddqd.proofs.LiveLemmas.{item_at, live_at}
 use Rattle.iddqd_by_order.specs.Ordered.{AreLive, IsSortedScan}
 use Rattle.iddqd_by_order.proofs.OrderedCountLemmas.{length-held}
-use Rattle.iddqd_keys.specs.KeyWalk.{pairs_at}
+use Rattle.iddqd_keys.specs.KeyWalk.{IsFirstHit, pairs_at}
 use Rattle.iddqd_keys.specs.OrderedQuery.{is_between, is_equal}
+use Rattle.iddqd_keys.specs.Scan.{HasNoHit}
 use Rattle.iddqd_keys.proofs.KeyWalkLemmas.{between_equal, length-pairs_at}
 use Rattle.iddqd_map.specs.Map.{MapState, RemovesAt}
 use Rattle.iddqd_map.specs.Ranges.{itself}
@@ -47,12 +49,28 @@ module _ {T : Type 0} (order : T → T → Ordering) (s : Store T) where
       ∙ length-held s indexes sorted.holds
 
   -- between a query and itself are the items at which it is Equal
+  pub ListsInOrder-group :
+      (comparing : T → Ordering) (indexes : List ℕ)
+      → ListsInOrder order (is_between (Included comparing) (Included comparing)) s indexes
+      → ListsInOrder order (is_equal comparing) s indexes
+  ListsInOrder-group comparing indexes =
+      subst (λ within. ListsInOrder order within s indexes) (between_equal comparing)
+
+  -- and so of the pairs
   pub IteratesInOrder-group :
       (comparing : T → Ordering) (pairs : List (ℕ × T))
       → IteratesInOrder order (is_between (Included comparing) (Included comparing)) s pairs
       → IteratesInOrder order (is_equal comparing) s pairs
   IteratesInOrder-group comparing pairs =
       subst (λ within. IteratesInOrder order within s pairs) (between_equal comparing)
+
+  -- a look-up for the first of the items that pass misses exactly where none passes
+  pub first_misses :
+      {A : Type 0} (test : T → Bool) (r : Option (ℕ × A))
+      → IsFirstHit itself order s test (option_map (λ p. p.0) r)
+      → (is_some r ≡ false) ↔ HasNoHit s test
+  first_misses test None none = (λ _. none, λ _. refl)
+  first_misses test (Some found) (hit, first) = (λ is. absurd (cc), λ none. absurd (none found.0 hit))
 
 -- what an index is paired with is its item
 paired_item :

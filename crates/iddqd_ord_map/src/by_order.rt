@@ -261,7 +261,7 @@ where
     }
 
     fn remove(&mut self, items: &ItemSet<T>, state: &S, ix: ItemIndex) {
-        ordered_steps::take_out::<T, E>(&mut self.table, items, ix);
+        ordered_steps::remove_live::<T, E>(&mut self.table, items, ix);
     }
 
     fn clear(&mut self) {

@@ -132,7 +132,7 @@ pub fn blocks_for<T>(
 }
 
 /// Removes a live index. An insert after it needs at most as many blocks as a move before it. It takes no memory.
-pub fn take_out<T, E>(table: &mut MapBTreeTable, items: &ItemSet<T>, ix: ItemIndex)
+pub fn remove_live<T, E>(table: &mut MapBTreeTable, items: &ItemSet<T>, ix: ItemIndex)
 where
     E: OrdKey<T>,
     requires live { IsLive items.now.store ix }

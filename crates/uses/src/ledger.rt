@@ -3,10 +3,11 @@
 ghost use Rattle.std.specs.Prelude.{◌≡◌, ◌==◌, ◌≤◌, ◌<◌, ◌+◌, ◌↔◌, ℕ, Ok, true, false, length, IfOk, IfErr, OnOk, OnErr, OnSome};
 ghost use Rattle.std.specs.Option.{option_map};
 ghost use Rattle.std.proofs.Common.{rules};
-ghost use Rattle.iddqd_maps.specs.Groups.{CountsHits, FindsSome};
+ghost use Rattle.iddqd_maps.specs.Groups.{AreHits, CountsHits, FindsSome};
 ghost use Rattle.iddqd_maps.specs.Map.{FindsItem};
 ghost use Rattle.iddqd_maps.specs.InGroups.{ListsHits};
-ghost use Rattle.iddqd_maps.specs.InOrder.{shown, FindsFirst, FindsLast, IteratesInOrder, PopsFirst, PopsLast};
+ghost use Rattle.iddqd_maps.specs.InOrder.{shown, FindsFirst, FindsLast, IteratesInOrder, ListsInOrder, PopsFirst, PopsLast};
+ghost use Rattle.iddqd_maps.specs.Range.{indexes_ahead};
 ghost use Rattle.iddqd_maps.specs.Scan.{HasNoHit, IsHit};
 ghost use Rattle.iddqd_maps.specs.Store.{inserted, live_count, next_index};
 ghost use Rattle.iddqd_maps.specs.Drops.{Drops};
@@ -15,12 +16,13 @@ ghost use Rattle.uses.specs.Ledger.{by_day, halved, has_number, is_due_between, 
 ghost use Rattle.uses.specs.Updates.{UpdatesAll};
 ghost use Rattle.uses.specs.declared.ledger.Order.{Order};
 
+use iddqd_maps::hashed_group::Group;
 use iddqd_maps::id_ord_map::Iter;
 use iddqd_maps::ordered_walk::Range;
 use iddqd_maps::{
-    ByHash, ByHashMulti, ByOrderMulti, CloneFor, DefaultHashBuilder, Field, GroupItems, Here,
-    InGroups, InOrder, InsertRefusal, ItemIndex, KeyOf, Left, Map, NoConflict, Pair, PairConflict,
-    Right,
+    ByHash, ByHashMulti, ByOrderMulti, CloneFor, DefaultHashBuilder, Field, GroupItems, GroupParts,
+    Here, InGroups, InOrder, InsertRefusal, ItemIndex, KeyOf, Left, Map, NoConflict, OrderedParts,
+    Pair, PairConflict, Right, btree_table,
 };
 use std::alloc::{AllocError, Global};
 use std::ops::Bound;
@@ -118,6 +120,16 @@ pub fn with_number(ledger: &Ledger, number: u64) -> Option<Order>
     ledger.get_by::<ByNumber, _>(&number).copied()
 }
 
+/// The indexes of a customer's orders, each once, in no particular order.
+pub fn indexes_of<'a>(
+    ledger: &'a Ledger,
+    customer: &'a u32,
+) -> Group<'a, Order, Field<Customer, u32>, &'a u32>
+    ensures { AreHits ledger.now.store (λ order. customer.now == order.customer) result.rest }
+{
+    ledger.parts().right().left().hashed_group(customer)
+}
+
 /// The orders of a customer with their indexes, each once, in no particular order.
 pub fn orders_of<'a>(
     ledger: &'a Ledger,
@@ -170,6 +182,13 @@ pub fn orders_from(ledger: &Ledger, day: u32) -> Range<'_, Order>
     ensures { IteratesInOrder by_day (is_due_from day) ledger.now.store result }
 {
     ledger.range_by::<ByDay, _>(Bound::Included(&day), Bound::Unbounded)
+}
+
+/// The indexes of the orders of a day, by index.
+pub fn indexes_of_day<'a>(ledger: &'a Ledger, day: &u32) -> btree_table::Range<'a>
+    ensures { ListsInOrder by_day (is_due_on day.now) ledger.now.store (indexes_ahead result) }
+{
+    ledger.parts().right().right().group(day)
 }
 
 /// The orders from one day on that are due before another one with their indexes, by day and then by index.

@@ -1,23 +1,30 @@
 //! A mix of hashes and an order: sessions by their ids and tokens, and in the order in which they end.
-ghost use Rattle.std.specs.Prelude.{◌≡◌, ◌==◌, ◌+◌, ℕ, true, IfNone, IfSome, IfOk, IfErr, OnOk, OnErr, filter, nat_lt};
+ghost use Rattle.std.specs.Prelude.{◌≡◌, ◌↔◌, ◌==◌, ◌+◌, ℕ, false, true, IfNone, IfSome, IfOk, IfErr, OnOk, OnErr, filter, nat_lt};
+ghost use Rattle.iddqd_maps.specs.InOrder.{ListsInOrder};
+ghost use Rattle.iddqd_maps.specs.Iter.{indexes_left};
 ghost use Rattle.iddqd_maps.specs.LiveItems.{live_pairs};
 ghost use Rattle.iddqd_maps.specs.Map.{FindsItem, Removes};
+ghost use Rattle.iddqd_maps.specs.Range.{indexes_ahead};
 ghost use Rattle.iddqd_maps.specs.Scan.{HasNoHit};
 ghost use Rattle.iddqd_maps.specs.Store.{inserted, live_count, next_index};
 ghost use Rattle.uses.specs.Exchanges.{ExchangesIfFound, IsKeyTaken, IsWhyNotAdded, IsWhyNotChanged};
-ghost use Rattle.uses.specs.Sessions.{ending, ends_at, has_id, share_key, EndsFirst};
+ghost use Rattle.uses.specs.Sessions.{by_end, ending, ends_at, ends_before, has_id, share_key, EndsFirst};
 ghost use Rattle.uses.specs.declared.sessions.Session.{Session};
 
+use iddqd_maps::btree_table::{Iter, Range};
 use iddqd_maps::by_hash::ByHash;
 use iddqd_maps::by_order::ByOrder;
+use iddqd_maps::in_order::InOrder;
 use iddqd_maps::item_index::ItemIndex;
 use iddqd_maps::key_index::{Here, Left, Right};
 use iddqd_maps::key_of::KeyOf;
-use iddqd_maps::map::{Map, Parts};
+use iddqd_maps::map::Map;
+use iddqd_maps::ordered_parts::OrderedParts;
 use iddqd_maps::pair::Pair;
 use iddqd_maps::pair_conflict::PairConflict;
 use iddqd_maps::refusal::{InsertRefusal, ReplaceRefusal};
 use std::alloc::{AllocError, Global};
+use std::ops::Bound;
 
 /// A session. No two have the same id or token, or end at the same tick of the clock.
 #[derive(Clone, Copy, Debug)]
@@ -132,25 +139,35 @@ pub fn extend(
     sessions.change_by::<ById, _, _>(&id, |session| Session { ends, ..*session })
 }
 
-// The index of the session that ends next.
-fn first_to_end(sessions: &Sessions) -> Option<ItemIndex>
-    ensures next { IfSome result (λ ix. (session : Session) × EndsFirst sessions.now.store ix session) }
-    ensures none { IfNone result (live_count sessions.now.store ≡ 0) }
-{
-    let Parts {
-        items,
-        indexes,
-        state,
-    } = sessions.parts();
-    indexes.second.first(items, state)
-}
-
 /// The session that ends next; none exactly where there is no session.
 pub fn next_to_end(sessions: &Sessions) -> Option<Session>
     ensures next { IfSome result (λ session. (ix : ℕ) × EndsFirst sessions.now.store ix session) }
     ensures none { IfNone result (live_count sessions.now.store ≡ 0) }
 {
-    sessions.get_at(first_to_end(sessions)?).copied()
+    let (_ix, session) = sessions.first_by::<ByEnd>()?;
+    Some(*session)
+}
+
+/// The indexes of all sessions, the first to end first.
+pub fn in_turn(sessions: &Sessions) -> Iter<'_>
+    ensures { ListsInOrder by_end (λ session. true) sessions.now.store (indexes_left result) }
+{
+    sessions.parts().right().iter()
+}
+
+/// The indexes of the sessions that end before a tick, the first to end first.
+pub fn ending_before<'a>(sessions: &'a Sessions, tick: &u64) -> Range<'a>
+    ensures { ListsInOrder by_end (ends_before tick.now) sessions.now.store (indexes_ahead result) }
+{
+    let upper = Bound::Excluded(tick);
+    sessions.parts().right().range(Bound::Unbounded, upper)
+}
+
+/// Whether a session ends at this tick, by one search.
+pub fn is_ending_at(sessions: &Sessions, tick: u64) -> bool
+    ensures { (result ≡ false) ↔ HasNoHit sessions.now.store (ends_at tick) }
+{
+    sessions.parts().right().contains_key(&tick)
 }
 
 /// Closes the session with this id, and returns it. All others stay. It takes no memory.

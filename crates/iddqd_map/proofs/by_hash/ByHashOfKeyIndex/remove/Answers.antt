@@ -8,7 +8,7 @@ pub returns-clause-indexed : goal.returns-clause-indexed
 returns-clause-indexed g c =
     let s = c.args.items.now.store in
     let (item, live) = item_at s c.args.ix c.requires.live in
-    rw c.take_out.ensures.taken (Indexes-removed _ _ s (filed c.args.self.now.table) c.requires.indexed c.args.ix item live)
+    rw c.remove_live.ensures.taken (Indexes-removed _ _ s (filed c.args.self.now.table) c.requires.indexed c.args.ix item live)
 
 pub returns-clause-roomy : goal.returns-clause-roomy
-returns-clause-roomy g c = λ plan blocks enough. omega (arith, c.take_out.ensures.room)
+returns-clause-roomy g c = λ plan blocks enough. omega (arith, c.remove_live.ensures.room)

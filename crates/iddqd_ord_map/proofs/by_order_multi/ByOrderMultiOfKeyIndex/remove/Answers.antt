@@ -7,4 +7,4 @@ pub returns-clause-indexed : goal.returns-clause-indexed
 returns-clause-indexed g c =
     let s = c.args.items.now.store in
     let (item, live) = item_at s c.args.ix c.requires.live in
-    rw c.take_out.ensures.taken (IsSortedScan-removed _ _ s (order_of c.args.self.now.table) c.requires.indexed g.met.E.OrdKey.total c.args.ix item live)
+    rw c.remove_live.ensures.taken (IsSortedScan-removed _ _ s (order_of c.args.self.now.table) c.requires.indexed g.met.E.OrdKey.total c.args.ix item live)

@@ -1,7 +1,7 @@
 use Rattle.std.proofs.Common.{◌<◌, length}
 use Rattle.iddqd_order.specs.MapBTreeTable.{order_of}
 use Rattle.iddqd_order.proofs.MoveLemmas.{without-fewer}
-use Rattle.iddqd_ord_map.proofs.ordered_steps.take_out.Goals as goal
+use Rattle.iddqd_ord_map.proofs.ordered_steps.remove_live.Goals as goal
 
 pub returns-clause-no_more : goal.returns-clause-no_more
 returns-clause-no_more g c = c.remove_index.ensures.no_more_blocks.for_move
