@@ -16,10 +16,12 @@
 //! One index of each hash stands in a hash table, and the others under that hash are linked behind it. So an insert and
 //! a removal cost the same however many items have the key, and the links take 16 bytes for each slot.
 ghost use Rattle.std.specs.Prelude.{◌≡◌, false};
+ghost use Rattle.iddqd.specs.{live_count};
 ghost use Rattle.iddqd_by_hash.specs.Hashed.{hashing_of};
+ghost use Rattle.iddqd_map.specs.Groups.{AreHits};
 
 use crate::group_modify::modify_group;
-use crate::group_query::{find_any, find_other};
+use crate::group_query::{find_any, find_other, group_by};
 pub use crate::hashed_group::Group;
 use crate::linked_steps;
 use crate::linked_table::LinkedTable;
@@ -36,6 +38,7 @@ use iddqd_keys::key_kinds::Field;
 use iddqd_map::grouped_at::GroupedAt;
 use iddqd_map::hashed_plan::move_of;
 use iddqd_map::key_index::{Here, KeyIndex};
+use iddqd_map::map::Parts;
 pub use iddqd_map::no_conflict::NoConflict;
 use std::alloc::{AllocError, Global};
 use std::hash::BuildHasher;
@@ -55,6 +58,31 @@ pub struct ByHashMultiOf<E> {
 
 /// A table of hashes by the field, a `K`, that `E` borrows from the item. Several items may have it.
 pub type ByHashMulti<E, K> = ByHashMultiOf<Field<E, K>>;
+
+impl<E> ByHashMultiOf<E> {
+    /// The indexes whose items have the key for which the query stands, each once, in no order that a caller can rely
+    /// on, in the parts of a map that has this key: `ByHashMulti::group(ledger.parts().left(), &customer)`.
+    ///
+    /// It hashes the query once, and compares it with keys of the same hash alone, with none twice. It takes no memory.
+    pub fn group<'a, T, S, Q>(
+        parts: Parts<'a, T, ByHashMultiOf<E>, S>,
+        query: Q,
+    ) -> Group<'a, T, E, Q>
+    where
+        E: HashKey<T>,
+        S: BuildHasher,
+        Q: ItemHashQuery<T, E>,
+        ensures hits { AreHits parts.entry (Q.stands_for_item query) result.rest }
+        ensures bound { result.bound ≡ live_count parts.entry }
+    {
+        let Parts {
+            items,
+            indexes,
+            state,
+        } = parts;
+        group_by::<T, E, S, Q>(&indexes.table, items, state, query)
+    }
+}
 
 impl<T, S, E> KeyIndex<T, S> for ByHashMultiOf<E>
 where

@@ -210,36 +210,3 @@ impl<T, X: KeyIndex<T, S>, S> InGroups<T, X, S> for Map<T, X, S> {
         count_left(indexes.group_at(items, state, query))
     }
 }
-
-/// Look-ups in the parts of a map whose key index has one key, by its hash, that several items may have:
-/// `ledger.parts().left().hashed_group(&customer)`.
-pub trait GroupParts<'a, T, X: KeyIndex<T, S>, S>: Sized {
-    ghost use Rattle.iddqd.specs.Store.{Store};
-
-    ghost store: { Self → Store T };
-
-    /// The indexes whose items have the key for which the query stands, each once, in no order that a caller can rely
-    /// on. It hashes the query once, and takes no memory.
-    fn hashed_group<Q>(self, query: Q) -> Group<'a, T, X::Marker, Q>
-    where
-        X: GroupsAt<Here, T, S>,
-        Q: ItemHashQuery<T, X::Marker>,
-        ensures { AreHits (store self) (Q.stands_for_item query) result.rest };
-}
-
-impl<'a, T, X: KeyIndex<T, S>, S> GroupParts<'a, T, X, S> for Parts<'a, T, X, S> {
-    ghost store = { λ parts. parts };
-
-    fn hashed_group<Q>(self, query: Q) -> Group<'a, T, X::Marker, Q>
-    where
-        X: GroupsAt<Here, T, S>,
-        Q: ItemHashQuery<T, X::Marker>,
-    {
-        let Parts {
-            items,
-            indexes,
-            state,
-        } = self;
-        indexes.group_at(items, state, query)
-    }
-}

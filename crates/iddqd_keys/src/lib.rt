@@ -14,4 +14,5 @@ pub mod key_of;
 pub mod order_key;
 pub mod order_query;
 pub mod starts_with;
+pub mod text_queries;
 pub mod tri_hash_item;

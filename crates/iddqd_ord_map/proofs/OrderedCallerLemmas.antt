@@ -1,5 +1,5 @@
 -- For callers of a map in order: what is left after `retain`, and what an iteration says of keys and of its first item.
-use Rattle.std.proofs.Common.{◌≡◌, ◌≢◌, ◌∙◌, ◌≤◌, ◌↔◌, inl, inr, ℕ, Bool, true, List, [], ◌∷◌, map, Contains, filter, Some, refl, sym, ap, subst, arith, Ordering}
+use Rattle.std.proofs.Common.{◌≡◌, ◌≢◌, ◌∙◌, ◌≤◌, ◌↔◌, inl, inr, ℕ, Bool, true, List, [], ◌∷◌, map, Contains, filter, get_or, Some, refl, sym, ap, subst, arith, Ordering}
 use Rattle.std.specs.Cmp.{IsTotalOrder}
 use Rattle.std.specs.List.{slice_get}
 use Rattle.std.specs.declared.cmp.Ordering.TheVariants.{Less}
@@ -109,12 +109,13 @@ first_pair :
     → (ix, item) ∷ others ≡ pairs_at s indexes
     → (slice_get indexes 0 ≡ Some ix) × (get s ix ≡ Some item)
 first_pair s [] ix item others live is = absurd (cc)
-first_pair s (j ∷ indexes) ix item others live is =
+first_pair {T} s (j ∷ indexes) ix item others live is =
     let (x, there) = item_at s j (live j (contains_head j indexes)) in
     let pairs : (ix, item) ∷ others ≡ (j, x) ∷ pairs_at s indexes = rw there at is in
-    let same : ix ≡ j = cc in
-    let value : item ≡ x = cc in
-    (ap Some (sym same), subst (λ i. get s i ≡ Some item) (sym same) (there ∙ ap Some (sym value)))
+    let same : (ix, item) ≡ (j, x) = ap (λ (l : List (ℕ × T)). get_or l 0 (ix, item)) pairs in
+    let index : ix ≡ j = ap (λ (p : ℕ × T). p.0) same in
+    let value : item ≡ x = ap (λ (p : ℕ × T). p.1) same in
+    (ap Some (sym index), subst (λ i. get s i ≡ Some item) (sym index) (there ∙ ap Some (sym value)))
 
 -- no item is less than the first of an iteration over all
 module _ {T : Type 0} (order : T → T → Ordering) (s : Store T) where
@@ -136,8 +137,10 @@ module _ {T : Type 0} (order : T → T → Ordering) (s : Store T) where
       → FindsFirst order s (Some (ix, item))
       → (get s ix ≡ Some item) × ((j : ℕ) (other : T) → get s j ≡ Some other → order other item ≢ Less)
   FindsFirst-least total ix item (others, first) =
-      let scan = all_listed first.indexes first.listed in
-      let live = λ i here. let (x, is, passes) = (first.listed.hits.each i).0 here in live_at s i x is in
+      let scan : IsSortedScan itself order s first.indexes = all_listed first.indexes first.listed in
+      let live : AreLive s first.indexes = λ i here.
+          let (x, is, passes) = (first.listed.hits.each i).0 here in
+          live_at s i x is in
       let (at, is) = first_pair s first.indexes ix item others live first.with_items in
       let (x, there, least) = HasLeastKey-first s first.indexes scan.holds itself order total scan.placed ix at in
       let same : x ≡ item = cc in
