@@ -13,7 +13,7 @@ LICENCES = ["LICENSE-APACHE", "LICENSE-MIT"]
 # The types that callers hold; `Map` is what the three names after it stand for, each with its own mix of keys.
 MAPS = ["Map", "IdHashMap", "BiHashMap", "TriHashMap", "IdOrdMap", "KeyedItems", "TriItems"]
 # The traits of crates above that add calls to such a type.
-ADDED = {"Map": ["InOrder", "InGroups"], "Parts": ["OrderedParts", "GroupParts"]}
+ADDED = {"Map": ["InOrder", "InGroups"], "Parts": ["OrderedParts"]}
 
 
 def read(path):

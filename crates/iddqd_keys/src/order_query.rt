@@ -16,7 +16,7 @@ use std::alloc::Allocator;
 use std::cmp::Ordering;
 
 /// What a key is looked up by in an ordered table: a `&K` for keys `K`, also a `&str` for `String`, and a `&[T]` for
-/// `Vec<T>`.
+/// `Vec<T>`; for other texts and slices of std see [`crate::text_queries`].
 ///
 /// Implement it for a small `Copy` type of your own to look up by borrowed parts that together determine a key.
 pub trait OrdQuery<K: Ord>: Copy {

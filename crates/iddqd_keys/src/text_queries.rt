@@ -1,5 +1,5 @@
-//! Queries for the other owned texts and slices of std: a `&str` for a `BoxedStr`, an `RcStr`, an `ArcStr` and a `CowStr`,
-//! and a `&[T]` for a `BoxedSlice`. Each is looked up as a `String` or a `Vec` is, by its hash or by its order.
+//! Queries for the other owned texts and slices of std: a `&str` for a `BoxedStr`, an `RcStr`, an `ArcStr` and a
+//! `CowStr`, and a `&[T]` for a `BoxedSlice`. They look up as they do for a `String` and a `Vec`, by hash or in order.
 ghost use Rattle.std.specs.Prelude.{◌≡◌};
 ghost use Rattle.std.proofs.Common.{ap};
 ghost use Rattle.std.specs.Arc.{arc_str_bytes};

@@ -281,7 +281,8 @@ module _
 
     -- the same beside a map with the same store as the one before
     pub InsertsUntil-from :
-        (first : MapState T) (it rest : I) (old new : MapState T) (items : List T) (refusal : Option (InsertRefusal T C))
+        (first : MapState T) (it rest : I) (old new : MapState T) (items : List T)
+        (refusal : Option (InsertRefusal T C))
         → old.store ≡ first.store
         → IsValid first.store
         → InsertsUntil gives alike grown conflicts it old items refusal rest new

@@ -20,9 +20,9 @@ use iddqd_maps::hashed_group::Group;
 use iddqd_maps::id_ord_map::Iter;
 use iddqd_maps::ordered_walk::Range;
 use iddqd_maps::{
-    ByHash, ByHashMulti, ByOrderMulti, CloneFor, DefaultHashBuilder, Field, GroupItems, GroupParts,
-    Here, InGroups, InOrder, InsertRefusal, ItemIndex, KeyOf, Left, Map, NoConflict, OrderedParts,
-    Pair, PairConflict, Right, btree_table,
+    ByHash, ByHashMulti, ByHashMultiOf, ByOrderMulti, CloneFor, DefaultHashBuilder, Field,
+    GroupItems, Here, InGroups, InOrder, InsertRefusal, ItemIndex, KeyOf, Left, Map, NoConflict,
+    OrderedParts, Pair, PairConflict, Right, btree_table,
 };
 use std::alloc::{AllocError, Global};
 use std::ops::Bound;
@@ -127,7 +127,7 @@ pub fn indexes_of<'a>(
 ) -> Group<'a, Order, Field<Customer, u32>, &'a u32>
     ensures { AreHits ledger.now.store (λ order. customer.now == order.customer) result.rest }
 {
-    ledger.parts().right().left().hashed_group(customer)
+    ByHashMultiOf::group(ledger.parts().right().left(), customer)
 }
 
 /// The orders of a customer with their indexes, each once, in no particular order.
@@ -184,13 +184,6 @@ pub fn orders_from(ledger: &Ledger, day: u32) -> Range<'_, Order>
     ledger.range_by::<ByDay, _>(Bound::Included(&day), Bound::Unbounded)
 }
 
-/// The indexes of the orders of a day, by index.
-pub fn indexes_of_day<'a>(ledger: &'a Ledger, day: &u32) -> btree_table::Range<'a>
-    ensures { ListsInOrder by_day (is_due_on day.now) ledger.now.store (indexes_ahead result) }
-{
-    ledger.parts().right().right().group(day)
-}
-
 /// The orders from one day on that are due before another one with their indexes, by day and then by index.
 pub fn orders_between(ledger: &Ledger, from: u32, before: u32) -> Range<'_, Order>
     ensures { IteratesInOrder by_day (is_due_between from before) ledger.now.store result }
@@ -236,6 +229,13 @@ pub fn take_last_due(ledger: &mut Ledger) -> Option<Order>
     ensures count { OnSome result (live_count ledger.old.store ≡ live_count ledger.new.store + 1) }
 {
     ledger.pop_last_by::<ByDay>()
+}
+
+/// The indexes of the orders of a day, by index.
+pub fn indexes_of_day<'a>(ledger: &'a Ledger, day: &u32) -> btree_table::Range<'a>
+    ensures { ListsInOrder by_day (is_due_on day.now) ledger.now.store (indexes_ahead result) }
+{
+    ledger.parts().right().right().group(day)
 }
 
 /// How many orders are due on a day.
