@@ -12,7 +12,7 @@
 //! `run` are proved from the calls' clauses alone.
 ghost use Rattle.std.specs.Prelude.{◌≡◌, ◌↔◌, ◌≤◌, ◌+◌, ◌*◌, min, max, [], None, IsTrue, IsSome, OnSome, IsOk, IfOk, OnOk, IfErr, OnErr, option_copied};
 ghost use Rattle.std.specs.FinMap as finite;
-ghost use Rattle.iddqd.specs.{get, live_count, next_index, inserted, removed, IsFull, IsValid, IsRemapOf};
+ghost use Rattle.iddqd.specs.{get, live_count, slot_count, next_index, inserted, removed, IsFull, IsValid, IsRemapOf};
 ghost use Rattle.iddqd_hash.specs.{filed};
 ghost use Rattle.iddqd_hash.specs.HashTable.{memory as cells};
 ghost use Rattle.iddqd_hash.specs.Sizes.{most_cells};
@@ -183,6 +183,14 @@ impl<T: KeyedItem, S: BuildHasher> KeyedItems<T, S> {
         ensures { IsTrue result ↔ (live_count self.now.state.store ≡ 0) }
     {
         self.items.is_empty()
+    }
+
+    /// The number of slots, live and vacant. Every live index is below it. If a slot is vacant, `compact` lists a new
+    /// index for each of them.
+    pub fn slot_count(&self) -> usize
+        ensures { result ≡ slot_count self.now.state.store }
+    {
+        self.items.slot_count()
     }
 
     /// The item at an index, if it is live.
