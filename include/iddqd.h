@@ -58,8 +58,9 @@ void iddqd_free(iddqd_table *table);
  * Each item has a first key of bytes, which is looked up by its hash, a second key, which is looked up by its order,
  * and a value. No two items share a first key, and no two share a second key. The table has copies of the first keys.
  *
- * An item keeps its index until it is removed or the table is cleared. Indexes are below IDDQD_SENTINEL, and one that
- * is free is used again.
+ * An item keeps its index until it is removed, or the table is compacted or cleared. Indexes are below IDDQD_SENTINEL,
+ * and one that is free is used again. Since it was made, compacted or cleared, a table has a slot for each index that it
+ * has used: the slots are 0, 1 and so on, and one whose item was removed is vacant.
  */
 
 /* What the functions report of an item. */
@@ -135,6 +136,13 @@ uint32_t iddqd_keyed_validate(iddqd_table *table);
 /* How many items there are. OK: *count is their number. */
 uint32_t iddqd_keyed_len(iddqd_table *table, size_t *count);
 
+/* Moves the items down in the order of their indexes, so that these are 0, 1 and so on, and no slot is vacant. OK:
+ * indexes[i] is the new index of the item that had the index i, or IDDQD_SENTINEL if that slot was vacant; *count is the
+ * number of the slots that there were, and the places behind them stay. If no slot was vacant, each index is as it was.
+ * SMALL: the buffer of `len` numbers has fewer places than there are slots, of which *count is the number. MEMORY: for a
+ * list of the new indexes, which no table without a vacant slot needs; nothing changed. */
+uint32_t iddqd_keyed_compact(iddqd_table *table, uint32_t *indexes, size_t len, size_t *count);
+
 /* Forgets all items, and keeps the memory of the table. The next index is 0. OK. */
 uint32_t iddqd_keyed_clear(iddqd_table *table);
 
@@ -161,7 +169,7 @@ uint32_t iddqd_index_under(iddqd_table *table, uint64_t hash, uint32_t *numbers,
 /* How many pairs are filed. OK: *count is their number. */
 uint32_t iddqd_index_len(iddqd_table *table, size_t *count);
 
-/* Forgets all pairs. OK. */
+/* Forgets all pairs, and keeps the memory. OK. */
 uint32_t iddqd_index_clear(iddqd_table *table);
 
 #ifdef __cplusplus

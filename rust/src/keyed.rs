@@ -66,7 +66,8 @@ impl fmt::Display for ReplaceError {
 impl Error for ReplaceError {}
 
 /// Items that have a first key of bytes, which is looked up by its hash, a second key, which is looked up by its order,
-/// and a value. No two share a first key, and no two share a second key. An item keeps its index until it is removed.
+/// and a value. No two share a first key, and no two share a second key. An item keeps its index until it is removed or
+/// the items are compacted.
 pub struct Keyed(Handle);
 
 impl Keyed {
@@ -216,6 +217,29 @@ impl Keyed {
     /// Whether there is no item.
     pub fn is_empty(&self) -> bool {
         self.len() == 0
+    }
+
+    /// Moves the items down in the order of their indexes, so that these are 0, 1 and so on. Returns the new index of each
+    /// old one, `None` for one that no item had. If memory runs out, nothing changes.
+    pub fn compact(&mut self) -> Result<Vec<Option<u32>>, OutOfMemory> {
+        let (mut indexes, mut new) = (Vec::new(), Vec::new());
+        let mut count = 0;
+        if self.compact_into(&mut indexes, &mut count) == SMALL {
+            indexes.try_reserve_exact(count).map_err(|_| OutOfMemory)?;
+            new.try_reserve_exact(count).map_err(|_| OutOfMemory)?;
+            indexes.resize(count, SENTINEL);
+            if self.compact_into(&mut indexes, &mut count) != OK {
+                return Err(OutOfMemory);
+            }
+        }
+        new.extend(indexes.into_iter().map(index_of));
+        Ok(new)
+    }
+
+    // Compacts the items, if the buffer has a place for each slot.
+    fn compact_into(&mut self, indexes: &mut [u32], count: &mut usize) -> u32 {
+        // SAFETY: the pointers are to `len` numbers and to a number that nothing else uses.
+        unsafe { raw::iddqd_keyed_compact(self.0.get(), indexes.as_mut_ptr(), indexes.len(), count) }
     }
 
     /// Forgets all items, and keeps the memory.

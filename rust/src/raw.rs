@@ -22,7 +22,7 @@ pub struct Row {
     pub second: u64,
     /// The value.
     pub value: u64,
-    /// The index, which stays until the item is removed.
+    /// The index, which stays until the item is removed or the items are compacted.
     pub index: u32,
 }
 
@@ -102,6 +102,7 @@ unsafe extern "C" {
         count: *mut usize,
     ) -> u32;
     pub(crate) fn iddqd_keyed_validate(table: *mut Table) -> u32;
+    pub(crate) fn iddqd_keyed_compact(table: *mut Table, indexes: *mut u32, len: usize, count: *mut usize) -> u32;
     pub(crate) fn iddqd_keyed_len(table: *mut Table, count: *mut usize) -> u32;
     pub(crate) fn iddqd_keyed_clear(table: *mut Table) -> u32;
 

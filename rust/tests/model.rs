@@ -86,6 +86,29 @@ fn an_item_gets_other_keys() {
 }
 
 #[test]
+fn a_compaction_returns_the_new_index_of_each_old_one() {
+    let mut items = Keyed::new(1, 2).unwrap();
+    assert_eq!(items.compact(), Ok(vec![]));
+    for number in 0..100u64 {
+        items.insert(&number.to_le_bytes(), 1_000 - number, number).unwrap();
+    }
+    assert_eq!(items.compact(), Ok((0..100).map(Some).collect()));
+    for number in (0..100).filter(|number| number % 3 == 0) {
+        items.remove(number).unwrap();
+    }
+    let new = items.compact().unwrap();
+    assert_eq!((new.len(), items.len()), (100, 66));
+    for (old, new) in new.into_iter().enumerate() {
+        let row = items.find1(&(old as u64).to_le_bytes());
+        assert_eq!(row.map(|row| row.index), new);
+        assert_eq!(new, (old % 3 > 0).then_some((old - old / 3 - 1) as u32));
+        assert_eq!(items.find2(1_000 - old as u64), row);
+    }
+    assert_eq!(items.validate(), Ok(true));
+    assert_eq!(items.insert(b"next", 0, 0), Ok(66));
+}
+
+#[test]
 fn an_index_finds_records_by_keys_of_any_type() {
     let people: Vec<(String, u64)> = (0..10_000).map(|number| (format!("person {number}"), number)).collect();
     let mut by_name = Index::new(|person: &(String, u64)| person.0.clone()).unwrap();

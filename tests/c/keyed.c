@@ -33,7 +33,7 @@ static void check_no_table(iddqd_table *table) {
     const iddqd_table was = *table;
     iddqd_row row = NO_ROW, rows[2] = { NO_ROW, NO_ROW };
     iddqd_conflict conflict = NO_CONFLICT;
-    uint32_t index = 77;
+    uint32_t index = 77, indexes[2] = { 77, 77 };
     uint8_t byte = 77;
     size_t count = 77;
     CHECK(iddqd_keyed_insert(table, bytes("a"), 1, 1, 1, &index, &conflict) == IDDQD_HANDLE);
@@ -51,6 +51,7 @@ static void check_no_table(iddqd_table *table) {
     CHECK(iddqd_keyed_key(table, 0, &byte, 1, &count) == IDDQD_HANDLE && byte == 77);
     CHECK(iddqd_keyed_reserve(table, 1) == IDDQD_HANDLE && iddqd_keyed_room(table, &count) == IDDQD_HANDLE);
     CHECK(iddqd_keyed_validate(table) == IDDQD_HANDLE);
+    CHECK(iddqd_keyed_compact(table, indexes, 2, &count) == IDDQD_HANDLE && indexes[0] == 77 && indexes[1] == 77);
     CHECK(iddqd_keyed_clear(table) == IDDQD_HANDLE);
     CHECK(index == 77 && count == 77 && conflict.first == 77 && conflict.second == 77);
     CHECK(same_row(&row, &NO_ROW) && same_row(&rows[0], &NO_ROW) && same_row(&rows[1], &NO_ROW));
@@ -209,6 +210,36 @@ static void check_room(void) {
     iddqd_free(&table);
 }
 
+/* Buffers that are too short, exact and longer, of slots that are all live, some vacant, and all vacant. */
+static void check_compaction(void) {
+    iddqd_table table = IDDQD_NONE;
+    iddqd_conflict conflict;
+    iddqd_row row;
+    uint32_t index, indexes[5] = { 77, 77, 77, 77, 77 };
+    size_t count = 77;
+    CHECK(iddqd_keyed_new(&table, 11, 12) == IDDQD_OK);
+    CHECK(iddqd_keyed_compact(&table, indexes, 0, &count) == IDDQD_OK && count == 0 && indexes[0] == 77);
+    for (uint64_t i = 0; i < 4; i++)
+        CHECK(iddqd_keyed_insert(&table, (const uint8_t *)&i, sizeof i, 9 - i, i, &index, &conflict) == IDDQD_OK);
+    CHECK(iddqd_keyed_compact(&table, indexes, 5, &count) == IDDQD_OK && count == 4);
+    for (uint32_t i = 0; i < 4; i++)
+        CHECK(indexes[i] == i);
+    CHECK(indexes[4] == 77);
+    CHECK(iddqd_keyed_remove(&table, 2, &row) == IDDQD_OK && iddqd_keyed_remove(&table, 0, &row) == IDDQD_OK);
+    CHECK(iddqd_keyed_compact(&table, indexes, 3, &count) == IDDQD_SMALL && count == 4 && indexes[2] == 2);
+    CHECK(iddqd_keyed_get(&table, 3, &row) == IDDQD_OK && row.value == 3);
+    CHECK(iddqd_keyed_compact(&table, indexes, 4, &count) == IDDQD_OK && count == 4);
+    CHECK(indexes[0] == IDDQD_SENTINEL && indexes[1] == 0 && indexes[2] == IDDQD_SENTINEL && indexes[3] == 1);
+    CHECK(iddqd_keyed_get(&table, 0, &row) == IDDQD_OK && row.value == 1 && row.index == 0);
+    CHECK(iddqd_keyed_find2(&table, 6, &row) == IDDQD_OK && row.value == 3 && row.index == 1);
+    CHECK(iddqd_keyed_get(&table, 2, &row) == IDDQD_MISSING);
+    CHECK(iddqd_keyed_remove(&table, 0, &row) == IDDQD_OK && iddqd_keyed_remove(&table, 1, &row) == IDDQD_OK);
+    CHECK(iddqd_keyed_compact(&table, indexes, 5, &count) == IDDQD_OK && count == 2);
+    CHECK(indexes[0] == IDDQD_SENTINEL && indexes[1] == IDDQD_SENTINEL && indexes[3] == 1);
+    CHECK(iddqd_keyed_compact(&table, indexes, 0, &count) == IDDQD_OK && count == 0);
+    iddqd_free(&table);
+}
+
 /* ---- 100,000 records against a model: an array, by the records' numbers */
 
 typedef struct record {
@@ -302,6 +333,25 @@ static void give_keys(iddqd_table *table, record *new, record *gone, const recor
     CHECK(iddqd_keyed_find1(table, bytes(was.key), strlen(was.key), &row) == IDDQD_MISSING);
 }
 
+/* Compacts the table, and gives each record its new index. The records that are there keep the order of their indexes. */
+static void compact_all(iddqd_table *table, size_t slots) {
+    static uint32_t indexes[RECORDS];
+    size_t count = 77;
+    uint32_t next = 0;
+    CHECK(iddqd_keyed_compact(table, indexes, slots - 1, &count) == IDDQD_SMALL && count == slots);
+    CHECK(iddqd_keyed_compact(table, indexes, RECORDS, &count) == IDDQD_OK && count == slots);
+    for (size_t i = 0; i < slots; i++) {
+        CHECK(indexes[i] == IDDQD_SENTINEL || indexes[i] == next++);
+    }
+    for (size_t i = 0; i < RECORDS; i++) {
+        if (model[i].is_there) {
+            model[i].index = indexes[model[i].index];
+            CHECK(model[i].index != IDDQD_SENTINEL);
+        }
+    }
+    CHECK(iddqd_keyed_len(table, &count) == IDDQD_OK && count == next);
+}
+
 static void check_many(void) {
     iddqd_table table = IDDQD_NONE;
     iddqd_row row;
@@ -341,6 +391,9 @@ static void check_many(void) {
     }
     find_all(&table);
     walk_all(&table, 1);
+    compact_all(&table, RECORDS);
+    find_all(&table);
+    walk_all(&table, 1000);
     CHECK(iddqd_keyed_validate(&table) == IDDQD_OK);
     iddqd_free(&table);
 }
@@ -351,6 +404,7 @@ int main(void) {
     check_buffers();
     check_keys_at_once();
     check_room();
+    check_compaction();
     check_many();
     puts("keyed: ok");
     return 0;

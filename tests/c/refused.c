@@ -56,6 +56,12 @@ static uint32_t replace(iddqd_table *table, uint64_t i) {
     return iddqd_keyed_replace(table, (uint32_t)i, (const uint8_t *)&key, sizeof key, key, i, &conflict);
 }
 
+static uint32_t compact(iddqd_table *table) {
+    uint32_t indexes[ITEMS];
+    size_t count;
+    return iddqd_keyed_compact(table, indexes, ITEMS, &count);
+}
+
 /* Whether allocation `at` of the run was refused. */
 static int is_refused_at(long at) {
     iddqd_table table = IDDQD_NONE;
@@ -90,6 +96,16 @@ static int is_refused_at(long at) {
         }
         CHECK(iddqd_keyed_find2(&table, ITEMS + i, &row) == IDDQD_OK && row.index == i);
     }
+    iddqd_row row;
+    CHECK(iddqd_keyed_remove(&table, 0, &row) == IDDQD_OK);
+    answer = compact(&table);
+    if (answer != IDDQD_OK) {
+        CHECK(answer == IDDQD_MEMORY);
+        CHECK(iddqd_keyed_find2(&table, ITEMS + 1, &row) == IDDQD_OK && row.index == 1);
+        refused++;
+        CHECK(compact(&table) == IDDQD_OK);
+    }
+    CHECK(iddqd_keyed_find2(&table, ITEMS + 1, &row) == IDDQD_OK && row.index == 0);
     iddqd_free(&table);
     CHECK(held == 0);
     CHECK(refused <= 1);

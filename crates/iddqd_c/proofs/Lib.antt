@@ -5,3 +5,4 @@ pub mod FillLemmas
 pub mod CallLemmas
 pub mod ManyLemmas
 pub mod ReplacingLemmas
+pub mod CompactingLemmas

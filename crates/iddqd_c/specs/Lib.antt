@@ -3,4 +3,5 @@ pub mod Rows
 pub mod Held
 pub mod Entries
 pub mod Replacing
+pub mod Compacting
 pub mod Numbers

@@ -2,7 +2,7 @@
 use Rattle.std.specs.Prelude.{◌≡◌, ◌⊎◌, ◌++◌, ℕ, List, [], ◌∷◌, length, take, drop}
 use Rattle.std.specs.List.{Contains}
 use Rattle.std.specs.List.Sorted.{IsPermutation}
-use Rattle.iddqd_hash.specs.HashTable.{Table, entries, under}
+use Rattle.iddqd_hash.specs.HashTable.{Table, KeepsMemory, entries, under}
 use Rattle.iddqd_c.specs.declared.code.TheConstants.{OK, MISSING, MEMORY}
 
 -- an insert: one more pair, or nothing changes
@@ -30,6 +30,6 @@ pub record ListsUnder (hash code count : ℕ) (was numbers : List ℕ) (table : 
 abbrev pub CountsPairs : ℕ → ℕ → Table ℕ → Type 0
 CountsPairs code count table = (code ≡ OK) × (count ≡ length (entries table))
 
--- a clear
+-- a clear: no pair is left, and the memory stays
 abbrev pub ClearsPairs : ℕ → Table ℕ → Table ℕ → Type 0
-ClearsPairs code old new = (code ≡ OK) × (entries new ≡ [])
+ClearsPairs code old new = (code ≡ OK) × (entries new ≡ []) × KeepsMemory old new

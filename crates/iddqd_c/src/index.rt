@@ -192,7 +192,7 @@ fn len(table: &Table, count: &mut usize) -> u32
     }
 }
 
-/// Forgets all pairs.
+/// Forgets all pairs. The memory stays.
 #[unsafe(no_mangle)]
 pub extern "C" fn iddqd_index_clear(t: &mut CTable, alloc: Global) -> u32
     ensures clears { ChangesIndex (ClearsPairs result) t.old.handle.value result t.new.handle.value }

@@ -11,6 +11,7 @@ ghost use Rattle.iddqd_c.specs.Entries.{Clears, Counts};
 ghost use Rattle.iddqd_c.specs.Held.{ReadsKeyed, ChangesKeyed, HoldsKeyed};
 
 mod bytes;
+mod compaction;
 pub(crate) mod finds;
 pub(crate) mod inserts;
 mod many;

@@ -1,0 +1,99 @@
+//! Compaction: afterwards no slot is vacant.
+ghost use Rattle.std.specs.Prelude.{◌≡◌, ◌≢◌, ◌≤◌, ◌++◌, Some, length, map, drop};
+ghost use Rattle.iddqd.specs.{numbers, slot_limit};
+ghost use Rattle.iddqd_c.specs.declared.code.TheConstants.{OK, SMALL};
+ghost use Rattle.iddqd_c.specs.Compacting.{CompactsInto, name_in};
+ghost use Rattle.iddqd_c.specs.Held.{ChangesKeyed};
+
+use crate::code::{HANDLE, MEMORY, OK, SMALL};
+use crate::entry::Entries;
+use crate::handle::{CTable, put, take};
+use crate::table::Table;
+use iddqd::index_remap::IndexRemap;
+use iddqd::item_index::ItemIndex;
+use iddqd_driver::keyed_items::Keyed;
+use std::alloc::{AllocError, Global};
+
+/// Moves every item down to its rank, so that no slot is vacant, and writes the new index of each old slot to the
+/// buffer, `SENTINEL` for a vacant one; and how many slots there were. If the buffer has fewer places than there are
+/// slots, it writes their number alone.
+#[unsafe(no_mangle)]
+pub extern "C" fn iddqd_keyed_compact(
+    t: &mut CTable,
+    alloc: Global,
+    indexes: &mut [u32],
+    count: &mut usize,
+) -> u32
+    ensures compacts { ChangesKeyed (CompactsInto ⟦<Entries as Keyed>⟧.keys result count.new indexes.old
+        indexes.new) t.old.handle.value result t.new.handle.value }
+    ensures state { t.new.state ≡ t.old.state }
+    ensures closed { t.old.state ≢ 1 → t.new ≡ t.old }
+    ensures indexes_kept { result ≢ OK → indexes.new ≡ indexes.old }
+    ensures count_kept { result ≢ OK → result ≢ SMALL → count.new ≡ count.old }
+{
+    if t.state != 1 {
+        return HANDLE;
+    }
+    let mut table = take(t, alloc);
+    let answer = compact(table.as_mut(), indexes, count);
+    put(t, table);
+    answer
+}
+
+fn compact(table: &mut Table, indexes: &mut [u32], count: &mut usize) -> u32
+    ensures compacts { ChangesKeyed (CompactsInto ⟦<Entries as Keyed>⟧.keys result count.new indexes.old
+        indexes.new) (Some table.old) result (Some table.new) }
+    ensures indexes_kept { result ≢ OK → indexes.new ≡ indexes.old }
+    ensures count_kept { result ≢ OK → result ≢ SMALL → count.new ≡ count.old }
+{
+    match table {
+        Table::Keyed(items) => close_up(items, indexes, count),
+        Table::Index(_) => HANDLE,
+    }
+}
+
+// The compaction of keyed items.
+fn close_up(items: &mut Entries, indexes: &mut [u32], count: &mut usize) -> u32
+    ensures compacts { CompactsInto ⟦<Entries as Keyed>⟧.keys result count.new indexes.old indexes.new
+        items.old items.new }
+    ensures indexes_kept { result ≢ OK → indexes.new ≡ indexes.old }
+    ensures count_kept { result ≢ OK → result ≢ SMALL → count.new ≡ count.old }
+{
+    let slots = items.slot_count();
+    if indexes.len() < slots {
+        *count = slots;
+        return SMALL;
+    }
+    match items.compact() {
+        Ok(remap) => {
+            *count = slots;
+            write_all(&remap, slots, indexes);
+            OK
+        }
+        Err(AllocError) => MEMORY,
+    }
+}
+
+// Writes the new index of each of the first slots.
+fn write_all(remap: &IndexRemap, slots: usize, indexes: &mut [u32])
+    requires fits { slots ≤ length indexes.old }
+    requires few { slots ≤ slot_limit }
+    ensures { indexes.new ≡ map (name_in remap.now) (numbers slots) ++ drop slots indexes.old }
+{
+    for at in 0..slots {
+        indexes[at] = new_index(remap, at as u32);
+    }
+}
+
+// The new index of a slot, `SENTINEL` for one that isn't listed.
+fn new_index(remap: &IndexRemap, slot: u32) -> u32
+    ensures { result ≡ name_in remap.now slot }
+{
+    match remap {
+        IndexRemap::Identity => slot,
+        IndexRemap::Permuted(names) => match names.get(slot as usize) {
+            Some(name) => name.as_u32(),
+            None => ItemIndex::SENTINEL.as_u32(),
+        },
+    }
+}
