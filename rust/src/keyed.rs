@@ -5,7 +5,8 @@ use crate::OutOfMemory;
 use std::error::Error;
 use std::fmt;
 
-/// How many rows a range reads at a time.
+/// How many rows a range reads at first, so that a short one costs little, and then at a time.
+const FIRST_ROWS: usize = 16;
 const ROWS: usize = 64;
 
 /// Why an item was not inserted. Nothing changed.
@@ -198,7 +199,7 @@ impl Keyed {
 
     /// The items whose second keys are at least `from`, in the order of these keys.
     pub fn range(&self, from: u64) -> Range<'_> {
-        Range { items: self, from: Some(from), rows: [Row::default(); ROWS], at: 0, count: 0 }
+        Range { items: self, from: Some(from), rows: [Row::default(); ROWS], places: FIRST_ROWS, at: 0, count: 0 }
     }
 
     /// All items, in the order of their second keys.
@@ -264,13 +265,15 @@ impl<'a> IntoIterator for &'a Keyed {
     }
 }
 
-/// Items in the order of their second keys. It reads some at a time into a buffer of its own.
+/// Items in the order of their second keys. It reads 16 into a buffer of its own, and then 64 at a time.
 #[derive(Clone, Debug)]
 pub struct Range<'a> {
     items: &'a Keyed,
     // The second key from which it goes on once the buffer is read; `None` at the end.
     from: Option<u64>,
     rows: [Row; ROWS],
+    // How many rows it reads next.
+    places: usize,
     at: usize,
     count: usize,
 }
@@ -279,10 +282,11 @@ impl Range<'_> {
     // Reads on from a second key.
     fn fill(&mut self, from: u64) {
         (self.at, self.count) = (0, 0);
-        let rows = self.rows.as_mut_ptr();
-        // SAFETY: the pointers are to `ROWS` rows and to a number that nothing else uses.
-        unsafe { raw::iddqd_keyed_range(self.items.0.get(), from, rows, ROWS, &mut self.count) };
-        self.from = if self.count < ROWS { None } else { self.rows[ROWS - 1].second.checked_add(1) };
+        let (rows, places) = (self.rows.as_mut_ptr(), self.places);
+        // SAFETY: the pointers are to at least `places` rows and to a number that nothing else uses.
+        unsafe { raw::iddqd_keyed_range(self.items.0.get(), from, rows, places, &mut self.count) };
+        self.from = if self.count < places { None } else { self.rows[places - 1].second.checked_add(1) };
+        self.places = ROWS;
     }
 }
 

@@ -53,8 +53,10 @@ fn a_range_ends_at_the_greatest_key() {
     for below in 0..64 {
         items.insert(&[below], u64::MAX - u64::from(below), 0).unwrap();
     }
+    for count in [1, 15, 16, 17, 63, 64] {
+        assert_eq!(items.range(u64::MAX - (count - 1)).count() as u64, count);
+    }
     assert_eq!(items.iter().count(), 64);
-    assert_eq!(items.range(u64::MAX).count(), 1);
 }
 
 #[test]
