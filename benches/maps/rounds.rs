@@ -1,4 +1,4 @@
-//! Rounds over two maps, ours and a peer's, and the tables that a run prints of them.
+//! Rounds over maps, ours and those of peers, and the tables that a run prints of two.
 
 /// The nanoseconds of each part of a round, and a sum of its answers.
 #[repr(C)]
@@ -20,19 +20,19 @@ impl<const PARTS: usize> Round<PARTS> {
     }
 }
 
-/// The least nanoseconds an item of each part, of ours and of the peer's.
-pub type Least<const PARTS: usize> = [[f64; PARTS]; 2];
+/// The least nanoseconds an item of each part, of each side: of ours and of the peer's.
+pub type Least<const PARTS: usize, const SIDES: usize = 2> = [[f64; PARTS]; SIDES];
 
-/// Runs some rounds of `count` items each. The closure makes one round of ours and one of the peer's.
-pub fn least<const PARTS: usize>(
+/// Runs some rounds of `count` items each. The closure makes one round of each side.
+pub fn least<const PARTS: usize, const SIDES: usize>(
     count: usize,
     rounds: usize,
-    mut both: impl FnMut() -> [Round<PARTS>; 2],
-) -> Least<PARTS> {
-    let mut least = [[f64::MAX; PARTS]; 2];
+    mut each: impl FnMut() -> [Round<PARTS>; SIDES],
+) -> Least<PARTS, SIDES> {
+    let mut least = [[f64::MAX; PARTS]; SIDES];
     for _ in 0..rounds {
-        let rounds = both();
-        assert_eq!(rounds[0].sum, rounds[1].sum, "the answers differ");
+        let rounds = each();
+        assert!(rounds.iter().all(|round| round.sum == rounds[0].sum), "the answers differ");
         for (least, round) in least.iter_mut().zip(rounds) {
             for (least, nanos) in least.iter_mut().zip(round.nanos) {
                 *least = least.min(nanos as f64 / count as f64);
