@@ -25,7 +25,9 @@ from repository import TOP, read, sources_of
 PARTS = [("README.md", "Four guarantees", {"paragraph"}),
          ("README.md", "What is proved, tested, neither", {"item"}),
          ("docs/FROM_C.md", "What is proved", {"paragraph", "row"}),
-         ("docs/CALLING.md", "The contracts of the main calls", {"row"})]
+         ("docs/CALLING.md", "The contracts of the main calls", {"row"}),
+         ("docs/CALLING.md", "A collection for n items", {"item"}),
+         ("docs/CALLING.md", "Keys", {"row"})]
 COMMENT = re.compile(r"<!-- (?:((?:(?!-->).)+?), )?held by: ((?:(?!-->).)+?) -->")
 
 
