@@ -9,7 +9,7 @@ row, `<!-- CELL, held by: THING -->`, with the row's first cell. A THING is one 
     lemma CRATE FILE.NAME        crates/CRATE/proofs/FILE.antt has this lemma, or names it as one that it re-exports
     spec CRATE FILE.NAME         crates/CRATE/specs/FILE.antt defines this
     test PLACE/FILE NAME         a test in FILE below tests/PLACE, tools/PLACE or crates/PLACE
-    file PATH                    what is run by hand
+    file PATH                    a program that is run by hand, or an example that the gate proves
 """
 
 import glob
