@@ -14,6 +14,9 @@
 //! shrink in place. `reserve` calls the vector only if it has too few slots: if it has enough, the vector doesn't
 //! promise to leave its capacity unchanged. A compaction first allocates its list; then std's `retain` closes the gaps,
 //! which keeps the order and takes no memory. `Debug` prints no item, so it needs no `T: Debug`.
+//!
+//! The calls for one item stand in one file with the handle: each is a few lines beside its contract. Walks, copies and
+//! what goes over all slots have modules of their own.
 ghost use Rattle.std.specs.Prelude.{◌≡◌, ℕ, [], ◌+◌, ◌<◌, ◌≤◌, ◌↔◌, length, map, Some, None, IsSome, IsTrue, IsOk, IfOk, OnOk, OnErr, IfNone, OnSome, option_copied, slice_get};
 ghost use Rattle.std.specs.Option.{option_copied_mut};
 ghost use Rattle.std.specs.Borrow.{sem, Lends, RestsIfErr};

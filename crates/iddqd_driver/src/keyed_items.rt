@@ -10,6 +10,8 @@
 //! insert searches the ordered table once, which finds a duplicate or the place of the new index. Each call that
 //! `step` makes has a clause that the states before and after it are paired, though the type says so too: `step` and
 //! `run` are proved from the calls' clauses alone.
+//!
+//! The calls that the machine's commands make stand in one file. What else the type has stands in the modules below.
 ghost use Rattle.std.specs.Prelude.{◌≡◌, ◌↔◌, ◌≤◌, ◌+◌, ◌*◌, min, max, [], None, IsTrue, IsSome, OnSome, IsOk, IfOk, OnOk, IfErr, OnErr, option_copied};
 ghost use Rattle.std.specs.FinMap as finite;
 ghost use Rattle.iddqd.specs.{get, live_count, slot_count, next_index, inserted, removed, IsFull, IsValid, IsRemapOf};

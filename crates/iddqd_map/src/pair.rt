@@ -5,6 +5,8 @@
 //! all of both. Pairs nest, so items can have any number of keys.
 //!
 //! Invariant: both key indexes index the same store, under the same state of the hasher.
+//!
+//! It is one file: it is an impl of each trait of key indexes, and no impl can be split.
 ghost use Rattle.std.specs.Prelude.{◌≡◌, ◌+◌, ℕ, min, Some, IfSome};
 ghost use Rattle.std.specs.Option.{option_map};
 ghost use Rattle.std.specs.Range.Bound.{bound_map};

@@ -16,6 +16,8 @@
 //!
 //! `prepare_insert` compares the length with the capacity first, since std's vector doesn't promise that its capacity
 //! stays if it suffices.
+//!
+//! But for guards, iterator, `retain` and copies it is one file, to be read beside the contracts of the tree.
 ghost use Rattle.std.specs.Prelude.{◌≡◌, ◌≢◌, ◌↔◌, ℕ, ◌-◌, ◌<◌, ◌≤◌, [], length, map, slice_get, slice_index, is_some, IfOk, IsOk, IsSome, OnErr, Contains, insert, IsTrue, false, Some, None};
 ghost use Rattle.std.specs.declared.cmp.Ordering.{Ordering};
 ghost use Rattle.iddqd.specs.Compaction.{CanRemap, remapped};

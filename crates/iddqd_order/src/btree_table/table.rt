@@ -1,4 +1,7 @@
 //! The table: a tree of distinct indexes, searched from the root down.
+//!
+//! The table's calls are one file: most are a search and a few lines, beside a contract. How the search walks and how
+//! the tree changes stands in other modules.
 ghost use Rattle.std.specs.Prelude.{◌≡◌, ◌≢◌, ◌↔◌, ℕ, ◌+◌, ◌-◌, ◌<◌, ◌≤◌, List, [], length, map, slice_get, slice_index, is_some, IfOk, IsOk, IsSome, Contains, insert, IsTrue, false, Some, None};
 ghost use Rattle.std.specs.List.{remove};
 ghost use Rattle.std.specs.declared.cmp.Ordering.{Ordering};
