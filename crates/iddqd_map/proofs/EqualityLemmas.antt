@@ -151,7 +151,7 @@ module _ {T : Type 0} (same : T → T → Bool) where
 
 -- the items of slots, and a test
 module _ {T : Type 0} (test : T → Bool) where
-  none_among :
+  pub none_among :
       (slots : List (Option T))
       → ((ix : ℕ) (z : T) → get_or slots ix None ≡ Some z → test z ≡ false)
       → list_any test (items_in slots) ≡ false
@@ -159,7 +159,7 @@ module _ {T : Type 0} (test : T → Bool) where
   none_among (None ∷ slots) none = none_among slots (λ ix. none (suc ix))
   none_among (Some z ∷ slots) none = ap (λ b. b || list_any test (items_in slots)) (none zero z refl) ∙ none_among slots (λ ix. none (suc ix))
 
-  some_among :
+  pub some_among :
       (slots : List (Option T)) (ix : ℕ) (z : T)
       → get_or slots ix None ≡ Some z
       → test z ≡ true

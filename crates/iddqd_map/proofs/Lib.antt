@@ -1,5 +1,6 @@
 pub use Rattle.iddqd.proofs.LiveCountLemmas
 pub mod AlongLemmas
+pub mod AppendLemmas
 pub mod BulkLemmas
 pub mod CallerLemmas
 pub mod CloneLemmas

@@ -58,7 +58,7 @@ module _
     inserted-count : (ix : ℕ) → InsertsAt alike most old item ix new → live_count new.store ≡ live_count old.store + 1
     inserted-count ix did = ap live_count did.stored ∙ live_count-inserted old.store item valid did.not_full
 
-    inserted-room : (ix : ℕ) → InsertsAt alike most old item ix new → 1 ≤ room old → room old ≡ room new + 1
+    pub inserted-room : (ix : ℕ) → InsertsAt alike most old item ix new → 1 ≤ room old → room old ≡ room new + 1
     inserted-room ix did some =
         room-one_more old new (did.memory.had_room some) (ap (λ (s : Store T). s.limit) did.stored)
         (inserted-count ix did) some
@@ -67,10 +67,10 @@ module _
     full-room : (back : T) → RefusesFull alike most old item back new → room old ≤ room new
     full-room back refused = let same = ap room refused.unchanged in omega (arith, same)
 
-    full-never : (back : T) → RefusesFull alike most old item back new → 1 ≤ room old → ⊥
+    pub full-never : (back : T) → RefusesFull alike most old item back new → 1 ≤ room old → ⊥
     full-never back refused some = not_full old valid some refused.full
 
-    memory-never : (back : T) → RefusesMemory alike most old item back new → 1 ≤ room old → ⊥
+    pub memory-never : (back : T) → RefusesMemory alike most old item back new → 1 ≤ room old → ⊥
     memory-never back refused some = let none = refused.no_room in omega (arith, none, some)
 
     module _ {C : Type 0} (conflicts : Store T → T → C → Type 0) where

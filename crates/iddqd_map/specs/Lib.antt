@@ -1,3 +1,4 @@
+pub mod Append
 pub mod Bulk
 pub mod Calls
 pub mod Clones

@@ -12,6 +12,7 @@ ghost use Rattle.std.specs.Prelude.{◌≡◌, ◌↔◌, IsTrue, option_copied}
 ghost use Rattle.iddqd.specs.{get, live_count};
 ghost use Rattle.iddqd_map.specs.Map.{empty_map, IsMap};
 
+mod appends;
 mod bulk_inserts;
 mod by_place;
 mod changes;

@@ -1,6 +1,7 @@
 //! Inserts. All memory is taken before anything is written.
-ghost use Rattle.std.specs.Prelude.{◌≡◌, ◌+◌, ◌≤◌, IfOk, IfErr, OnOk, OnErr};
-ghost use Rattle.iddqd.specs.{inserted, live_count, next_index};
+ghost use Rattle.std.specs.Prelude.{◌≡◌, ◌≢◌, ◌+◌, ◌≤◌, IfOk, IfErr, OnOk, OnErr};
+ghost use Rattle.iddqd.specs.{inserted, live_count, next_index, room as set_room, sentinel};
+ghost use Rattle.iddqd_map.specs.Append.{IsPrevented, Prepares};
 ghost use Rattle.iddqd_map.specs.Map.{map_with, room};
 ghost use Rattle.iddqd_map.specs.Calls.{Inserts, IsDuplicate};
 ghost use Rattle.iddqd_map.specs.KeyIndex.{IsIndexed};
@@ -56,21 +57,59 @@ pub(super) fn insert<T, X: KeyIndex<T, S>, S>(
         (map_with items.old (X.capacity indexes.old) (X.cells indexes.old)) item result
         (map_with items.new (X.capacity indexes.new) (X.cells indexes.new)) }
 {
-    let position = match indexes.look_up(items, state, hashes, &item) {
+    match prepare(items, indexes, state, hashes, &item) {
+        Ok((plan, blocks, ix)) => {
+            indexes.insert(hashes, &plan, blocks, ix);
+            Ok(store_in_room(items, item))
+        }
+        Err(NotReady::Conflict(at)) => Err(InsertRefusal::Duplicate { item, at }),
+        Err(NotReady::Refused(error)) => Err(refusal(error, item)),
+    }
+}
+
+/// Why an item isn't inserted: stored items share a key with it, or the store can't grow.
+pub(super) enum NotReady<C> {
+    Conflict(C),
+    Refused(GrowError),
+}
+
+/// Takes all memory that the insert of an item needs: how its index is to be inserted, the memory for that, and the
+/// index. The contents stay.
+#[inline(always)]
+pub(super) fn prepare<T, X: KeyIndex<T, S>, S>(
+    items: &mut ItemSet<T>,
+    indexes: &mut X,
+    state: &S,
+    hashes: X::Hashes,
+    item: &T,
+) -> Result<(X::InsertPlan, X::Blocks, ItemIndex), NotReady<X::Conflict>>
+    requires map { IsIndexed (X.indexes indexes.old) state.now items.old.store }
+    requires hashed { X.are_hashes state.now item.now hashes }
+    ensures map { IsIndexed (X.indexes indexes.new) state.now items.new.store }
+    ensures prepares { IfOk result (λ p. Prepares X.alike X.grown
+        (map_with items.old (X.capacity indexes.old) (X.cells indexes.old)) item.now p.2
+        (map_with items.new (X.capacity indexes.new) (X.cells indexes.new))) }
+    ensures assigned { IfOk result (λ p. p.2 ≢ sentinel) }
+    ensures room { OnOk result (1 ≤ set_room items.new) }
+    ensures ready { IfOk result (λ p. X.has_room_for indexes.new p.0 p.1) }
+    ensures planned { IfOk result (λ p. X.is_planned indexes.new state.now items.new.store item.now p.0) }
+    ensures prevented { IfErr result (IsPrevented X.alike X.grown X.conflicts
+        (map_with items.old (X.capacity indexes.old) (X.cells indexes.old)) item.now
+        (map_with items.new (X.capacity indexes.new) (X.cells indexes.new))) }
+{
+    let position = match indexes.look_up(items, state, hashes, item) {
         Ok(position) => position,
-        Err(at) => return Err(InsertRefusal::Duplicate { item, at }),
+        Err(at) => return Err(NotReady::Conflict(at)),
     };
     let ix = match items.assert_can_grow() {
         Ok(handle) => handle.next_index(),
-        Err(error) => return Err(refusal(error, item)),
+        Err(error) => return Err(NotReady::Refused(error)),
     };
-    let plan = indexes.plan(items, state, position, ix, &item);
-    let blocks = match indexes.make_room(items, state, &plan) {
-        Ok(blocks) => blocks,
-        Err(AllocError) => return Err(InsertRefusal::Memory(item)),
-    };
-    indexes.insert(hashes, &plan, blocks, ix);
-    Ok(store_in_room(items, item))
+    let plan = indexes.plan(items, state, position, ix, item);
+    match indexes.make_room(items, state, &plan) {
+        Ok(blocks) => Ok((plan, blocks, ix)),
+        Err(AllocError) => Err(NotReady::Refused(GrowError::Memory)),
+    }
 }
 
 // The refusal of an item that shares no key, by the reason why the store can't grow: full, or out of memory.

@@ -1,0 +1,88 @@
+-- What `append` leaves in the map that gets items and in the map that gives them.
+use Rattle.std.specs.Prelude.{◌≡◌, ◌⊎◌, if◌then◌else◌, ℕ, zero, suc, Bool, List, length, Option, Some, None}
+use Rattle.std.specs.List.{FoldsTo, list_any}
+use Rattle.iddqd.specs.LiveItems.{live_items}
+use Rattle.iddqd.specs.Store.{Store, IsFull, get, inserted, next_index, removed, slot_count}
+use Rattle.iddqd.specs.declared.item_set.GrowError.{GrowError}
+use Rattle.iddqd.specs.declared.item_set.GrowError.TheVariants.{Full, Memory}
+use Rattle.iddqd_keys.specs.Scan.{HasNoHit, IsHit}
+use Rattle.iddqd_map.specs.Calls.{InsertsAt, RefusesFull, RefusesMemory}
+use Rattle.iddqd_map.specs.Map.{MapState}
+use Rattle.iddqd_map.specs.Memory.{MakesRoom}
+use Rattle.iddqd_map.specs.declared.appended.Appended.{Appended}
+use Rattle.iddqd_map.specs.declared.map.inserts.NotReady.{NotReady}
+use Rattle.iddqd_map.specs.declared.map.inserts.NotReady.TheVariants.{Conflict, Refused}
+
+-- `alike x y` says that the items share a unique key, and `grown n` is the most by which the cells grow in an insert
+-- that leaves n indexes. Below, a key is a unique one.
+module _ {T : Type 0} (alike : T → T → Bool) where
+  -- an item of the store shares a key with this one
+  abbrev pub has_alike : Store T → T → Bool
+  has_alike s item = list_any (alike item) (live_items s)
+
+  -- Two stores after the item in this slot of the second, if there is one, was moved to the next index of the first. If
+  -- the first has an item that shares a key with it, it stays.
+  abbrev pub moved_slot : ℕ → Option T → Store T → Store T → Store T × Store T
+  moved_slot ix None into from = (into, from)
+  moved_slot ix (Some item) into from =
+      if has_alike into item then (into, from) else (inserted into item, removed from ix)
+
+  -- the two stores after the same for each of the first n slots of the second, by rising index
+  abbrev pub moved_slots : ℕ → Store T → Store T → Store T × Store T
+  moved_slots zero into from = (into, from)
+  moved_slots (suc n) into from =
+      let so_far = moved_slots n into from in
+      moved_slot n (get from n) so_far.0 so_far.1
+
+  module _ (grown : ℕ → ℕ) where
+    -- why an insert of an item that shares no key is refused, and what the refusal leaves: as `insert_unique`
+    abbrev pub RefusesFor : GrowError → MapState T → T → MapState T → Type 0
+    RefusesFor Full old item new = RefusesFull alike grown old item item new
+    RefusesFor Memory old item new = RefusesMemory alike grown old item item new
+
+    -- The memory for an insert of this item was taken. It shares no key, and `ix` is the index that it will have.
+    pub record Prepares (old : MapState T) (item : T) (ix : ℕ) (new : MapState T) : Type 0 where
+      pub no_conflict : HasNoHit old.store (alike item)
+      pub not_full : IsFull old.store → ⊥
+      pub index : ix ≡ next_index old.store
+      pub store_stays : new.store ≡ old.store
+      pub memory : MakesRoom grown old new.memory
+
+    -- Why an insert of this item can't be prepared, and what is left. `conflicts s item at` says that `at` reports the
+    -- items that share a key with this one.
+    abbrev pub IsPrevented :
+        {C : Type 0} → (Store T → T → C → Type 0) → MapState T → T → MapState T → NotReady C → Type 0
+    IsPrevented conflicts old item new (Conflict at) = conflicts old.store item at × (new ≡ old)
+    IsPrevented conflicts old item new (Refused error) = RefusesFor error old item new
+
+    -- What the move of the item at an index may answer and leave. An item that shares a key stays, and so does one that
+    -- is refused, and then the answer is the reason.
+    abbrev pub AppendsItem :
+        ℕ → Option T → (into from : MapState T) → Option GrowError → (new_into new_from : MapState T) → Type 0
+    AppendsItem ix None into from None new_into new_from = (new_into ≡ into) × (new_from ≡ from)
+    AppendsItem ix (Some item) into from None new_into new_from =
+        ((at : ℕ) × InsertsAt alike grown into item at new_into
+          × (new_from ≡ record from { store = removed from.store ix }))
+        ⊎ (((at : ℕ) × IsHit into.store (alike item) at) × (new_into ≡ into) × (new_from ≡ from))
+    AppendsItem ix None into from (Some error) new_into new_from = ⊥
+    AppendsItem ix (Some item) into from (Some error) new_into new_from =
+        RefusesFor error into item new_into × (new_from ≡ from)
+
+    -- It goes over all slots, or stops at the first item that is refused, which is in the slot behind those that it has
+    -- passed. `before` and `new` are the map that gets the items before and after the refusal.
+    abbrev pub StopsAt : Option GrowError → ℕ → Store T → (before new : MapState T) → Type 0
+    StopsAt None passed from before new = (passed ≡ slot_count from) × (new ≡ before)
+    StopsAt (Some error) passed from before new =
+        (item : T) × (get from passed ≡ Some item) × RefusesFor error before item new
+
+    -- What a call that moves the items of one map into another may answer, and what it leaves in both. Each item that is
+    -- moved takes no more memory than an insert of it. The memory of the second map stays.
+    pub record Appends (into from : MapState T) (answer : Appended) (new_into new_from : MapState T) : Type 0 where
+      pub passed : ℕ
+      pub items : List T
+      pub before : MapState T
+      pub in_turn : FoldsTo (λ m item n. (ix : ℕ) × InsertsAt alike grown m item ix n) into items before
+      pub counted : answer.moved ≡ length items
+      pub stores : (new_into.store, new_from.store) ≡ moved_slots passed into.store from.store
+      pub memory : new_from.memory ≡ from.memory
+      pub stops : StopsAt answer.stopped passed new_from.store before new_into
