@@ -6,7 +6,7 @@ use Rattle.std.proofs.lemmas.Fn.{FoldsTo-push}
 use Rattle.std.proofs.lemmas.List.{length-append, length-set}
 use Rattle.iddqd.specs.declared.item_set.GrowError.{GrowError}
 use Rattle.iddqd.specs.declared.item_set.GrowError.TheVariants.{Full, Memory}
-use Rattle.iddqd.specs.Store.{Store, IsFull, IsValid, get, inserted, live_count, next_index, removed, slot_count}
+use Rattle.iddqd.specs.Store.{Store, IsFull, IsValid, get, live_count, next_index, removed, slot_count}
 use Rattle.iddqd.proofs.LiveCountLemmas.{live_count-removed}
 use Rattle.iddqd.proofs.LiveLemmas.{get-inserted_at, get-removed_at, get-removed_other}
 use Rattle.iddqd.proofs.StoreLemmas.{IsValid-removed, live_within}
@@ -292,7 +292,7 @@ module _ {T : Type 0} (alike : T → T → Bool) (grown : ℕ → ℕ) where
           others = stays-along alike grown w.items into now_into valid w.in_turn;
           stay = w.stay;
           kept = w.kept;
-          conflicts = λ _ ix x there. 
+          conflicts = λ _ ix x there.
               let within = live_within now_from.store.items ix (ap is_some there) in
               w.conflicts ix x (omega (arith, within, past, w.slots)) there;
           full = λ is. absurd (cc);

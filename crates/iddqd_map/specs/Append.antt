@@ -62,7 +62,7 @@ module _ {T : Type 0} (alike : T → T → Bool) where
     AppendsItem ix None into from None new_into new_from = (new_into ≡ into) × (new_from ≡ from)
     AppendsItem ix (Some item) into from None new_into new_from =
         ((at : ℕ) × InsertsAt alike grown into item at new_into
-          × (new_from ≡ record from { store = removed from.store ix }))
+        × (new_from ≡ record from { store = removed from.store ix }))
         ⊎ (((at : ℕ) × IsHit into.store (alike item) at) × (new_into ≡ into) × (new_from ≡ from))
     AppendsItem ix None into from (Some error) new_into new_from = ⊥
     AppendsItem ix (Some item) into from (Some error) new_into new_from =

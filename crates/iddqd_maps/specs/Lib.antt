@@ -16,6 +16,7 @@ pub use Rattle.iddqd_order.specs.Iter
 pub use Rattle.iddqd_order.specs.Range
 pub use Rattle.iddqd_map.specs.Map
 pub use Rattle.iddqd_map.specs.Memory
+pub use Rattle.iddqd_map.specs.Append
 pub use Rattle.iddqd_map.specs.Bulk
 pub use Rattle.iddqd_map.specs.Calls
 pub use Rattle.iddqd_map.specs.Clones

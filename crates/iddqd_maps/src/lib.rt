@@ -44,6 +44,7 @@ pub use iddqd_keys::{
     item_order_query as item_order_query, key_kinds as key_kinds, key_of as key_of,
     order_key as order_key, order_query as order_query, starts_with as starts_with,
 };
+pub use iddqd_map::appended::Appended;
 pub use iddqd_map::bi_hash_map::{BiClash, BiHashItem, BiHashMap, BiHashMapBy};
 pub use iddqd_map::by_hash::{ByHash, ByHashOf};
 pub use iddqd_map::id_hash_map::{HashMapBy, IdHashItem, IdHashMap};
@@ -56,7 +57,7 @@ pub use iddqd_map::pair_conflict::PairConflict;
 pub use iddqd_map::refusal::{InsertRefusal, OverwriteRefusal, ReplaceRefusal, Stopped};
 pub use iddqd_map::tri_hash_map::{TriClash, TriHashItem, TriHashMap, TriHashMapBy};
 pub use iddqd_map::{
-    bi_hash_map as bi_hash_map, by_hash as by_hash, grouped_at as grouped_at,
+    appended as appended, bi_hash_map as bi_hash_map, by_hash as by_hash, grouped_at as grouped_at,
     id_hash_map as id_hash_map, key_index as key_index, map as map, mix as mix,
     no_conflict as no_conflict, pair as pair, pair_conflict as pair_conflict, refusal as refusal,
     tri_hash_map as tri_hash_map,

@@ -3,12 +3,14 @@ use Rattle.std.specs.Prelude.{ℕ, Bool, true, List, Option, Result}
 use Rattle.std.specs.Fn.{Once}
 use Rattle.std.specs.Iterator.{Count}
 use Rattle.std.specs.declared.cmp.Ordering.{Ordering}
+use Rattle.iddqd_map.specs.Append.{Appends}
 use Rattle.iddqd_map.specs.Bulk.{InsertsFrom, RefusesOneOf}
 use Rattle.iddqd_map.specs.Calls.{Inserts, ReplacesIfLive, Replaces, Changes}
 use Rattle.iddqd_map.specs.Map.{MapState}
 use Rattle.iddqd_map.specs.OneKey.{IsReported, IsTaken}
 use Rattle.iddqd_map.specs.Remake.{Remakes, RemakesIfLive}
 use Rattle.iddqd_map.specs.Upsert.{InsertsMade}
+use Rattle.iddqd_map.specs.declared.appended.Appended.{Appended}
 use Rattle.iddqd_map.specs.declared.refusal.InsertRefusal.{InsertRefusal}
 use Rattle.iddqd_map.specs.declared.refusal.ReplaceRefusal.{ReplaceRefusal}
 use Rattle.iddqd_map.specs.declared.refusal.Stopped.{Stopped}
@@ -52,6 +54,11 @@ module _ {T K : Type 0} (key_of : T → K) (compare : K → K → Ordering) wher
   InsertsFromInOrder gives remaining it old result new =
       let alike = alike_in_order key_of compare in
       InsertsFrom gives alike (λ count. 0) (IsReported alike) remaining most_cells it old result new
+
+  -- what moving the items of one map into another may answer, and what it leaves in both
+  abbrev pub AppendsInOrder : (into from : MapState T) → Appended → (new_into new_from : MapState T) → Type 0
+  AppendsInOrder into from answer new_into new_from =
+      Appends (alike_in_order key_of compare) (λ count. 0) into from answer new_into new_from
 
   -- why no map is made of these items
   abbrev pub RefusesOneInOrder : List T → InsertRefusal T ℕ → Type 0

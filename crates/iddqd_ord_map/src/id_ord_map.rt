@@ -17,6 +17,7 @@ ghost use Rattle.iddqd_ord_map.specs.OrderedIndexing.{Sorts};
 ghost use Rattle.iddqd_by_order.specs.Ordered.{is_equal};
 ghost use Rattle.iddqd_keys.specs.Scan.{HasNoHit, AnswersScan};
 
+mod appends;
 mod bulk_inserts;
 mod checks;
 mod clones;

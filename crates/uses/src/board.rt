@@ -22,6 +22,7 @@ ghost use Rattle.uses.specs.declared.scores.Score.{Score};
 ghost use Rattle.uses.specs.Updates.{Updates, UpdatesAll, UpdatesAt, UpdatesHit, UpdatesItem};
 
 use crate::scores::Score;
+use iddqd_maps::appended::Appended;
 use iddqd_maps::id_ord_map::{IdOrdMap, IntoValues, Iter, Values};
 use iddqd_maps::item_index::ItemIndex;
 use iddqd_maps::refusal::{InsertRefusal, OverwriteRefusal, ReplaceRefusal, Stopped};
@@ -328,6 +329,20 @@ pub fn add_all<I: Iterator<Item = Score>>(
         → IfErr result (λ stopped. IsDuplicate stopped.refusal) }
 {
     board.insert_all(scores)
+}
+
+/// Moves the scores of another board into this one, as far as there is room, and returns how many were moved. Those
+/// whose hour has a score here stay on the other board.
+pub fn take_in(board: &mut Board, other: &mut Board) -> Appended
+    ensures count { live_count board.new.store ≡ live_count board.old.store + result.moved }
+    ensures left { live_count other.new.store + result.moved ≡ live_count other.old.store }
+    ensures others { (ix : ℕ) (score : Score) → get board.old.store ix ≡ Some score
+        → get board.new.store ix ≡ Some score }
+    ensures scored { result.stopped ≡ None → (ix : ℕ) (score : Score) → get other.new.store ix ≡ Some score
+        → (at : ℕ) × IsHit board.new.store (same_hour score) at }
+    ensures all { live_count other.old.store ≤ room board.old → result.stopped ≡ None }
+{
+    board.append(other)
 }
 
 /// The index of the score of an hour; if there is none, of one without points, which is added.

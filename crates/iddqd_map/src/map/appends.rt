@@ -64,7 +64,13 @@ impl<T, X: KeyIndex<T, S>, S> Map<T, X, S> {
             return None;
         };
         let hashes = X::hashes(&self.state, item);
-        match prepare(&mut self.items, &mut self.indexes, &self.state, hashes, item) {
+        match prepare(
+            &mut self.items,
+            &mut self.indexes,
+            &self.state,
+            hashes,
+            item,
+        ) {
             Ok((plan, blocks, next)) => {
                 match take_out(&mut other.items, &mut other.indexes, &other.state, ix) {
                     Some(item) => {

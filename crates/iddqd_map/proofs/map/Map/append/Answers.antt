@@ -1,7 +1,7 @@
-use Rattle.std.proofs.Common.{◌≡◌, ◌∙◌, ◌-◌, Some, None, sym, ap, subst, arith}
+use Rattle.std.proofs.Common.{◌-◌, Some, None, ap, subst, arith}
 use Rattle.iddqd.specs.Store.{IsValid, slot_count}
 use Rattle.iddqd_map.specs.Map.{MapState}
-use Rattle.iddqd_map.proofs.AppendLemmas.{AppendLeaves, Appending-first, Appending-step, Appending-more, Appending-all, Appending-stops}
+use Rattle.iddqd_map.proofs.AppendLemmas.{AppendLeaves, Appending-first, Appending-step, Appending-all, Appending-stops}
 use Rattle.iddqd_map.proofs.map.Map.append.Given.{Over}
 use Rattle.iddqd_map.proofs.map.Map.append.Goals as goal
 
@@ -21,7 +21,7 @@ loop-at-preserved g c =
 stops :
     (g : Over) (c : goal.After-len g)
     → AppendLeaves g.X.KeyIndex.alike g.X.KeyIndex.grown c.args.self.now c.args.other.now (c.len.result - c.len-before.result)
-        (Some c.in-Some.error) c.append_at.new.self c.append_at.new.other
+    (Some c.in-Some.error) c.append_at.new.self c.append_at.new.other
 stops g c =
     Appending-stops g.X.KeyIndex.alike g.X.KeyIndex.grown c.args.self.now c.args.other.now c.loop-at.self c.loop-at.other
     c.loop-at.at c.len-before.ensures.state.valid c.loop-at.invariant c.len-before.result c.len.result c.len-before.ensures.value
@@ -32,7 +32,7 @@ stops g c =
 goes_over :
     (g : Over) (c : goal.After-len-2 g)
     → AppendLeaves g.X.KeyIndex.alike g.X.KeyIndex.grown c.args.self.now c.args.other.now (c.len-2.result - c.len-before.result)
-        None c.loop-at.self c.loop-at.other
+    None c.loop-at.self c.loop-at.other
 goes_over g c =
     let other = ap (λ (m : MapState _). slot_count m.store) c.other.view_is in
     Appending-all g.X.KeyIndex.alike g.X.KeyIndex.grown c.args.self.now c.args.other.now c.loop-at.self c.loop-at.other

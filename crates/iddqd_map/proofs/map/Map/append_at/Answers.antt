@@ -1,6 +1,6 @@
-use Rattle.std.proofs.Common.{◌≡◌, ◌∙◌, Some, None, refl, sym, ap, subst}
+use Rattle.std.proofs.Common.{◌≡◌, ◌∙◌, Some, refl, sym, ap, subst}
 use Rattle.iddqd.specs.ItemSet.{SizedStore}
-use Rattle.iddqd.specs.Store.{IsFull, get, inserted, next_index}
+use Rattle.iddqd.specs.Store.{IsFull, inserted, next_index}
 use Rattle.iddqd_keys.specs.Scan.{HasNoHit}
 use Rattle.iddqd_map.proofs.AppendLemmas.{AppendsItem-moved, AppendsItem-kept}
 use Rattle.iddqd_map.proofs.MapLemmas.{IsIndexed-inserted}
@@ -29,8 +29,7 @@ returns-in-Some-take_out g c =
     let one : Some c.in-Some-take_out.item ≡ Some item = c.in-Some-take_out.ensures.value ∙ sym c.in-Some.ensures in
     let same : c.in-Some-take_out.item ≡ item = cc in
     rw (← c.self.view_is, ← c.other.view_is)
-    (AppendsItem-moved g.X.KeyIndex.alike g.X.KeyIndex.grown c.args.ix item _ _ _ _ (sym c.in-Some.ensures)
-    (
+    (AppendsItem-moved g.X.KeyIndex.alike g.X.KeyIndex.grown c.args.ix item _ _ _ _ (sym c.in-Some.ensures) (
       c.in-Ok.next,
       record {
         no_conflict = did.prepares.no_conflict;

@@ -1,0 +1,38 @@
+//! Moves the items of another map into a map.
+ghost use Rattle.std.specs.Prelude.{◌≡◌, ◌≤◌, ◌+◌, ◌⊎◌, ℕ, Some, None};
+ghost use Rattle.iddqd.specs.{IsFull, get, live_count};
+ghost use Rattle.iddqd.specs.declared.item_set.GrowError.TheVariants.{Full};
+ghost use Rattle.iddqd_keys.specs.Scan.{IsHit};
+ghost use Rattle.iddqd_map.specs.Map.{room};
+ghost use Rattle.iddqd_ord_map.specs.OrdMap.{AppendsInOrder};
+ghost use Rattle.iddqd_ord_map.specs.OrderedIndexing.{alike_in_order};
+
+use super::OrdMapBy;
+use iddqd_keys::order_key::OrdKey;
+use iddqd_map::appended::Appended;
+
+impl<T: Drop, E: OrdKey<T>> OrdMapBy<T, E> {
+    /// Moves the items of another map into this one, by rising index, and returns how many there were.
+    ///
+    /// Each is inserted as by `insert_unique`. An item whose key is in this map stays in the other map, and the call
+    /// goes on. It stops at the first item that is refused since this map is full or memory ran out, and returns why.
+    /// What stays in the other map stays under its index. The other map may have another limit, and keeps its memory.
+    ///
+    /// The key of each item is looked up once in this map; an item that is moved costs a removal by its index in the
+    /// other. It costs a step for each slot of the other map.
+    pub fn append(&mut self, other: &mut OrdMapBy<T, E>) -> Appended
+        ensures appends { AppendsInOrder E.key_of E.cmp self.old other.old result self.new other.new }
+        ensures count { live_count self.new.store ≡ live_count self.old.store + result.moved }
+        ensures left { live_count other.new.store + result.moved ≡ live_count other.old.store }
+        ensures others { (ix : ℕ) (item : T) → get self.old.store ix ≡ Some item → get self.new.store ix ≡ Some item }
+        ensures stay { (ix : ℕ) (item : T) → get other.new.store ix ≡ Some item → get other.old.store ix ≡ Some item }
+        ensures kept { (ix : ℕ) (item : T) → get other.old.store ix ≡ Some item
+            → (get other.new.store ix ≡ Some item) ⊎ ((at : ℕ) × (get self.new.store at ≡ Some item)) }
+        ensures conflicts { result.stopped ≡ None → (ix : ℕ) (item : T) → get other.new.store ix ≡ Some item
+            → (at : ℕ) × IsHit self.new.store (alike_in_order E.key_of E.cmp item) at }
+        ensures full { result.stopped ≡ Some Full → IsFull self.new.store }
+        ensures not_refused { live_count other.old.store ≤ room self.old → result.stopped ≡ None }
+    {
+        self.map.append(&mut other.map)
+    }
+}
