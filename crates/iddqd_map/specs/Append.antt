@@ -13,12 +13,22 @@ use Rattle.iddqd_map.specs.declared.appended.Appended.{Appended}
 use Rattle.iddqd_map.specs.declared.map.inserts.NotReady.{NotReady}
 use Rattle.iddqd_map.specs.declared.map.inserts.NotReady.TheVariants.{Conflict, Refused}
 
+-- each item of the old store is still under its index in the new one, or it is in the other store
+abbrev pub KeepsOrMoves : {T : Type 0} → (old new other : Store T) → Type 0
+KeepsOrMoves {T} old new other =
+    (ix : ℕ) (item : T) → get old ix ≡ Some item
+    → (get new ix ≡ Some item) ⊎ ((at : ℕ) × (get other at ≡ Some item))
+
 -- `alike x y` says that the items share a unique key, and `grown n` is the most by which the cells grow in an insert
 -- that leaves n indexes. Below, a key is a unique one.
 module _ {T : Type 0} (alike : T → T → Bool) where
   -- an item of the store shares a key with this one
   abbrev pub has_alike : Store T → T → Bool
   has_alike s item = list_any (alike item) (live_items s)
+
+  -- each item of the second store shares a key with one of the first
+  abbrev pub EachConflicts : Store T → Store T → Type 0
+  EachConflicts s t = (ix : ℕ) (item : T) → get t ix ≡ Some item → (at : ℕ) × IsHit s (alike item) at
 
   -- Two stores after the item in this slot of the second, if there is one, was moved to the next index of the first. If
   -- the first has an item that shares a key with it, it stays.
@@ -75,8 +85,8 @@ module _ {T : Type 0} (alike : T → T → Bool) where
     StopsAt (Some error) passed from before new =
         (item : T) × (get from passed ≡ Some item) × RefusesFor error before item new
 
-    -- What a call that moves the items of one map into another may answer, and what it leaves in both. Each item that is
-    -- moved takes no more memory than an insert of it. The memory of the second map stays.
+    -- What a call that moves the items of one map into another may answer, and what it leaves in both. Each item that
+    -- is moved takes no more memory than an insert of it. The memory of the second map stays.
     pub record Appends (into from : MapState T) (answer : Appended) (new_into new_from : MapState T) : Type 0 where
       pub passed : ℕ
       pub items : List T

@@ -3,6 +3,7 @@ ghost use Rattle.std.specs.Prelude.{◌≡◌, ◌⊎◌, ◌≤◌, ◌<◌, �
 ghost use Rattle.std.specs.Ordering.{nat_cmp, eq_by_cmp};
 ghost use Rattle.std.specs.declared.cmp.Ordering.TheVariants.{Less, Greater};
 ghost use Rattle.std.specs.Iterator.{UpTo};
+ghost use Rattle.iddqd_maps.specs.Append.{EachConflicts};
 ghost use Rattle.iddqd_maps.specs.Bulk.{inserted_all, inserted_count};
 ghost use Rattle.iddqd_maps.specs.Calls.{IsDuplicate};
 ghost use Rattle.iddqd_maps.specs.Compaction.{compacted};
@@ -338,8 +339,7 @@ pub fn take_in(board: &mut Board, other: &mut Board) -> Appended
     ensures left { live_count other.new.store + result.moved ≡ live_count other.old.store }
     ensures others { (ix : ℕ) (score : Score) → get board.old.store ix ≡ Some score
         → get board.new.store ix ≡ Some score }
-    ensures scored { result.stopped ≡ None → (ix : ℕ) (score : Score) → get other.new.store ix ≡ Some score
-        → (at : ℕ) × IsHit board.new.store (same_hour score) at }
+    ensures scored { result.stopped ≡ None → EachConflicts same_hour board.new.store other.new.store }
     ensures all { live_count other.old.store ≤ room board.old → result.stopped ≡ None }
 {
     board.append(other)

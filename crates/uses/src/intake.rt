@@ -1,12 +1,12 @@
 //! Orders that come and go in many: a ledger takes them from an iterator or from another ledger, and is emptied at the
 //! end.
-ghost use Rattle.std.specs.Prelude.{◌≡◌, ◌≤◌, ◌+◌, ◌⊎◌, ℕ, Some, None, IfOk, IfErr, filter, nat_le};
+ghost use Rattle.std.specs.Prelude.{◌≡◌, ◌≤◌, ◌+◌, ℕ, Some, None, IfOk, IfErr, filter, nat_le};
 ghost use Rattle.std.specs.Iterator.{UpTo};
+ghost use Rattle.iddqd_maps.specs.Append.{EachConflicts, KeepsOrMoves};
 ghost use Rattle.iddqd_maps.specs.Bulk.{inserted_count};
 ghost use Rattle.iddqd_maps.specs.Calls.{IsDuplicate};
 ghost use Rattle.iddqd_maps.specs.LiveItems.{live_pairs};
 ghost use Rattle.iddqd_maps.specs.Map.{room};
-ghost use Rattle.iddqd_maps.specs.Scan.{IsHit};
 ghost use Rattle.iddqd_maps.specs.Store.{cleared, get, live_count};
 ghost use Rattle.uses.specs.Intake.{AddsAll, AddsUntil};
 ghost use Rattle.uses.specs.Ledger.{shares_number};
@@ -39,10 +39,8 @@ pub fn add_all<I: Iterator<Item = Order>>(
 pub fn take_over(ledger: &mut Ledger, other: &mut Ledger) -> Appended
     ensures count { live_count ledger.new.store ≡ live_count ledger.old.store + result.moved }
     ensures left { live_count other.new.store + result.moved ≡ live_count other.old.store }
-    ensures kept { (ix : ℕ) (order : Order) → get other.old.store ix ≡ Some order
-        → (get other.new.store ix ≡ Some order) ⊎ ((at : ℕ) × (get ledger.new.store at ≡ Some order)) }
-    ensures taken { result.stopped ≡ None → (ix : ℕ) (order : Order) → get other.new.store ix ≡ Some order
-        → (at : ℕ) × IsHit ledger.new.store (shares_number order) at }
+    ensures kept { KeepsOrMoves other.old.store other.new.store ledger.new.store }
+    ensures taken { result.stopped ≡ None → EachConflicts shares_number ledger.new.store other.new.store }
     ensures all { live_count other.old.store ≤ room ledger.old → result.stopped ≡ None }
 {
     ledger.append(other)

@@ -2,11 +2,10 @@
 //!
 //! Room for an item is made while it is still in the other map. Once it is removed there, nothing can fail, so no item
 //! is ever put back.
-ghost use Rattle.std.specs.Prelude.{◌≡◌, ◌≤◌, ◌+◌, ◌⊎◌, ℕ, Some, None};
-ghost use Rattle.iddqd.specs.{IsFull, IsValid, get, live_count};
+ghost use Rattle.std.specs.Prelude.{◌≡◌, ◌≤◌, ◌+◌, ℕ, Some, None};
+ghost use Rattle.iddqd.specs.{IsFull, get, live_count};
 ghost use Rattle.iddqd.specs.declared.item_set.GrowError.TheVariants.{Full};
-ghost use Rattle.iddqd_keys.specs.Scan.{IsHit};
-ghost use Rattle.iddqd_map.specs.Append.{Appends, AppendsItem};
+ghost use Rattle.iddqd_map.specs.Append.{Appends, AppendsItem, EachConflicts, KeepsOrMoves};
 ghost use Rattle.iddqd_map.specs.Map.{room};
 
 use super::Map;
@@ -33,10 +32,8 @@ impl<T, X: KeyIndex<T, S>, S> Map<T, X, S> {
         ensures left { live_count other.new.store + result.moved ≡ live_count other.old.store }
         ensures others { (ix : ℕ) (item : T) → get self.old.store ix ≡ Some item → get self.new.store ix ≡ Some item }
         ensures stay { (ix : ℕ) (item : T) → get other.new.store ix ≡ Some item → get other.old.store ix ≡ Some item }
-        ensures kept { (ix : ℕ) (item : T) → get other.old.store ix ≡ Some item
-            → (get other.new.store ix ≡ Some item) ⊎ ((at : ℕ) × (get self.new.store at ≡ Some item)) }
-        ensures conflicts { result.stopped ≡ None → (ix : ℕ) (item : T) → get other.new.store ix ≡ Some item
-            → (at : ℕ) × IsHit self.new.store (X.alike item) at }
+        ensures kept { KeepsOrMoves other.old.store other.new.store self.new.store }
+        ensures conflicts { result.stopped ≡ None → EachConflicts X.alike self.new.store other.new.store }
         ensures full { result.stopped ≡ Some Full → IsFull self.new.store }
         ensures not_refused { live_count other.old.store ≤ room self.old → result.stopped ≡ None }
     {

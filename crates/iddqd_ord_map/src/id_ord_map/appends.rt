@@ -1,8 +1,8 @@
 //! Moves the items of another map into a map.
-ghost use Rattle.std.specs.Prelude.{◌≡◌, ◌≤◌, ◌+◌, ◌⊎◌, ℕ, Some, None};
+ghost use Rattle.std.specs.Prelude.{◌≡◌, ◌≤◌, ◌+◌, ℕ, Some, None};
 ghost use Rattle.iddqd.specs.{IsFull, get, live_count};
 ghost use Rattle.iddqd.specs.declared.item_set.GrowError.TheVariants.{Full};
-ghost use Rattle.iddqd_keys.specs.Scan.{IsHit};
+ghost use Rattle.iddqd_map.specs.Append.{EachConflicts, KeepsOrMoves};
 ghost use Rattle.iddqd_map.specs.Map.{room};
 ghost use Rattle.iddqd_ord_map.specs.OrdMap.{AppendsInOrder};
 ghost use Rattle.iddqd_ord_map.specs.OrderedIndexing.{alike_in_order};
@@ -26,10 +26,8 @@ impl<T: Drop, E: OrdKey<T>> OrdMapBy<T, E> {
         ensures left { live_count other.new.store + result.moved ≡ live_count other.old.store }
         ensures others { (ix : ℕ) (item : T) → get self.old.store ix ≡ Some item → get self.new.store ix ≡ Some item }
         ensures stay { (ix : ℕ) (item : T) → get other.new.store ix ≡ Some item → get other.old.store ix ≡ Some item }
-        ensures kept { (ix : ℕ) (item : T) → get other.old.store ix ≡ Some item
-            → (get other.new.store ix ≡ Some item) ⊎ ((at : ℕ) × (get self.new.store at ≡ Some item)) }
-        ensures conflicts { result.stopped ≡ None → (ix : ℕ) (item : T) → get other.new.store ix ≡ Some item
-            → (at : ℕ) × IsHit self.new.store (alike_in_order E.key_of E.cmp item) at }
+        ensures kept { KeepsOrMoves other.old.store other.new.store self.new.store }
+        ensures conflicts { result.stopped ≡ None → EachConflicts (alike_in_order E.key_of E.cmp) self.new.store other.new.store }
         ensures full { result.stopped ≡ Some Full → IsFull self.new.store }
         ensures not_refused { live_count other.old.store ≤ room self.old → result.stopped ≡ None }
     {

@@ -20,18 +20,21 @@ loop-at-preserved g c =
 -- what is there after a refusal
 stops :
     (g : Over) (c : goal.After-len g)
-    → AppendLeaves g.X.KeyIndex.alike g.X.KeyIndex.grown c.args.self.now c.args.other.now (c.len.result - c.len-before.result)
+    → AppendLeaves g.X.KeyIndex.alike g.X.KeyIndex.grown c.args.self.now c.args.other.now
+    (c.len.result - c.len-before.result)
     (Some c.in-Some.error) c.append_at.new.self c.append_at.new.other
 stops g c =
     Appending-stops g.X.KeyIndex.alike g.X.KeyIndex.grown c.args.self.now c.args.other.now c.loop-at.self c.loop-at.other
-    c.loop-at.at c.len-before.ensures.state.valid c.loop-at.invariant c.len-before.result c.len.result c.len-before.ensures.value
+    c.loop-at.at c.len-before.ensures.state.valid c.loop-at.invariant c.len-before.result c.len.result
+    c.len-before.ensures.value
     c.append_at.new.self c.append_at.new.other c.new.result c.append_at.result c.append_at.ensures c.new.ensures
     c.in-Some.error c.in-Some.is c.len.ensures.value
 
 -- what is there after all slots
 goes_over :
     (g : Over) (c : goal.After-len-2 g)
-    → AppendLeaves g.X.KeyIndex.alike g.X.KeyIndex.grown c.args.self.now c.args.other.now (c.len-2.result - c.len-before.result)
+    → AppendLeaves g.X.KeyIndex.alike g.X.KeyIndex.grown c.args.self.now c.args.other.now
+    (c.len-2.result - c.len-before.result)
     None c.loop-at.self c.loop-at.other
 goes_over g c =
     let other = ap (λ (m : MapState _). slot_count m.store) c.other.view_is in
