@@ -27,7 +27,8 @@ impl<T: Drop, E: OrdKey<T>> OrdMapBy<T, E> {
         ensures others { (ix : ℕ) (item : T) → get self.old.store ix ≡ Some item → get self.new.store ix ≡ Some item }
         ensures stay { (ix : ℕ) (item : T) → get other.new.store ix ≡ Some item → get other.old.store ix ≡ Some item }
         ensures kept { KeepsOrMoves other.old.store other.new.store self.new.store }
-        ensures conflicts { result.stopped ≡ None → EachConflicts (alike_in_order E.key_of E.cmp) self.new.store other.new.store }
+        ensures conflicts { result.stopped ≡ None
+            → EachConflicts (alike_in_order E.key_of E.cmp) self.new.store other.new.store }
         ensures full { result.stopped ≡ Some Full → IsFull self.new.store }
         ensures not_refused { live_count other.old.store ≤ room self.old → result.stopped ≡ None }
     {
