@@ -1,11 +1,11 @@
 //! What `append` of a map answers.
 use iddqd::item_set::GrowError;
 
-/// How far a map got that appended the items of another.
+/// What a call of `append` did.
 #[derive(Clone, Copy, Debug, PartialEq, Eq)]
 pub struct Appended {
-    /// How many items were moved.
+    /// How many items it moved.
     pub moved: usize,
-    /// Why an item was refused, at which it stopped. `None`: it went over all items.
+    /// Why it stopped at an item: the map is full, or memory ran out. `None` if it went over all items.
     pub stopped: Option<GrowError>,
 }

@@ -17,7 +17,7 @@ use iddqd::item_index::ItemIndex;
 use iddqd::item_set::GrowError;
 
 impl<T, X: KeyIndex<T, S>, S> Map<T, X, S> {
-    /// Moves the items of another map into this one, by rising index, and returns how many there were.
+    /// Moves the items of another map into this one, by rising index, and returns how many were moved.
     ///
     /// Each is inserted as by `insert_unique`. An item that shares a unique key with one of this map stays in the other
     /// map, and the call goes on. It stops at the first item that is refused since this map is full or memory ran out,

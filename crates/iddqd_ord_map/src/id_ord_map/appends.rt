@@ -12,7 +12,7 @@ use iddqd_keys::order_key::OrdKey;
 use iddqd_map::appended::Appended;
 
 impl<T: Drop, E: OrdKey<T>> OrdMapBy<T, E> {
-    /// Moves the items of another map into this one, by rising index, and returns how many there were.
+    /// Moves the items of another map into this one, by rising index, and returns how many were moved.
     ///
     /// Each is inserted as by `insert_unique`. An item whose key is in this map stays in the other map, and the call
     /// goes on. It stops at the first item that is refused since this map is full or memory ran out, and returns why.
