@@ -144,8 +144,10 @@ pub fn next_to_end(sessions: &Sessions) -> Option<Session>
     ensures next { IfSome result (λ session. (ix : ℕ) × EndsFirst sessions.now.store ix session) }
     ensures none { IfNone result (live_count sessions.now.store ≡ 0) }
 {
-    let (_ix, session) = sessions.first_by::<ByEnd>()?;
-    Some(*session)
+    match sessions.first_by::<ByEnd>() {
+        Some((_, session)) => Some(*session),
+        None => None,
+    }
 }
 
 /// The indexes of all sessions, the first to end first.
