@@ -17,6 +17,7 @@ pub mod MapLemmas
 pub mod ModifyLemmas
 pub mod OneKeyLemmas
 pub mod OverwriteLemmas
+pub mod RangeIntoLemmas
 pub mod RangeLemmas
 pub mod RangeRetainLemmas
 pub mod RemakeLemmas

@@ -1,11 +1,13 @@
 -- The outcome of calls that ask a closure about each item within bounds, in order, and remove those it rejects.
-use Rattle.std.specs.Prelude.{◌≡◌, ℕ, zero, suc, Bool, List, Option, Some, None, map}
+use Rattle.std.specs.Prelude.{◌≡◌, ℕ, zero, suc, Bool, true, false, List, Option, Some, None, map}
+use Rattle.std.specs.Fn.{Mut}
 use Rattle.std.specs.List.{Contains, FoldsTo}
 use Rattle.std.specs.declared.cmp.Ordering.{Ordering}
 use Rattle.iddqd.specs.Store.{Store, get}
 use Rattle.iddqd_keys.specs.KeyWalk.{IsFirstHit, IsNextHit, SortsWithin, pairs_at}
 use Rattle.iddqd_keys.specs.Scan.{IsHit}
-use Rattle.iddqd_map.specs.Ranges.{itself}
+use Rattle.iddqd_map.specs.Bulk.{RetainsInto}
+use Rattle.iddqd_map.specs.Ranges.{GivesItem, TakesItem, itself}
 use Rattle.iddqd_map.specs.Retain.{removed_of}
 use Rattle.iddqd_keys.specs.Removals.{removed_all}
 
@@ -51,3 +53,33 @@ module _ {F T : Type 0} (order : T → T → Ordering) (within : T → Bool) (as
     pub gone : (ix : ℕ) → Contains (removed_of asks) ix → get new ix ≡ None
     pub others : (ix : ℕ) → (Contains (removed_of asks) ix → ⊥) → get new ix ≡ get old ix
     pub left : new ≡ removed_all old (removed_of asks)
+
+-- What becomes of the second closure where the first answers b at x: if that is true it stays, otherwise it is called
+-- with x.
+abbrev pub GivesIfRefused : {G T : Type 0} → Mut G (T × Unit {0}) (Unit {0}) → G → T → Bool → G → Type 0
+GivesIfRefused g p x true q = q ≡ p
+GivesIfRefused g p x false q = GivesItem g p x q
+
+-- both closures at x: the first answers b, and the second is called with x if that is false
+abbrev pub AsksAndGives :
+    {F G T : Type 0}
+    → (F → T → Bool → F → Type 0) → Mut G (T × Unit {0}) (Unit {0}) → F × G → T → Bool → F × G → Type 0
+AsksAndGives ask g p x b q = ask p.0 x b q.0 × GivesIfRefused g p.1 x b q.1
+
+module _ {G T : Type 0} (order : T → T → Ordering) (within : T → Bool) (g : Mut G (T × Unit {0}) (Unit {0})) where
+  -- it may be called with some of the items within in turn, in order and then by index, whichever they are
+  abbrev pub MayGiveSomeWithin : G → Store T → Type 0
+  MayGiveSomeWithin gone s = MayAskWithin order within (TakesItem g) (GivesIfRefused g) gone s
+
+-- `ask p x b q` says that the first closure in the state p may answer b at x, and is then in the state q, and
+-- `give p x q` that a call of the second with x in the state p may leave the state q
+module _ {F G T : Type 0} (order : T → T → Ordering) (within : T → Bool)
+    (ask : F → T → Bool → F → Type 0) (give : G → T → G → Type 0) where
+  -- The first closure was called once at each item within, in order and then by index. Those at which it answered false
+  -- were removed, and the second was called with each of them, in the same turn.
+  pub record GivesRefusedWithin (keep : F) (gone : G) (old new : Store T) : Type 0 where
+    pub indexes : List ℕ
+    pub sorted : SortsWithin itself order within old indexes
+    pub last_keep : F
+    pub last_gone : G
+    pub given : RetainsInto ask give (pairs_at old indexes) keep gone old new last_keep last_gone

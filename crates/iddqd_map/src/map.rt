@@ -31,6 +31,7 @@ mod overwrites;
 mod parts;
 mod range_modify;
 mod range_retain;
+mod range_retain_into;
 mod ranges;
 mod remakes;
 mod removals;

@@ -2,6 +2,7 @@
 //!
 //! The closure sees each item in place, by key and then by index. A spot in that order says how far the call has come,
 //! also where a rejected item was removed. So there is one search, no list of indexes is kept, and no memory is taken.
+//! A rejected item goes to a second closure: here it drops the item, in `range_retain_into` it is the caller's.
 ghost use Rattle.std.specs.Prelude.{◌≡◌, ◌≤◌, ◌+◌, true, false, IfSome, Some};
 ghost use Rattle.std.specs.Fn.{TakesAt, CalledAt};
 ghost use Rattle.iddqd.specs.{get, live_count, removed};
@@ -11,8 +12,8 @@ ghost use Rattle.iddqd_keys.specs.OrderedQuery.{is_equal, is_up_to, is_within};
 ghost use Rattle.iddqd_keys.specs.Scan.{IsLive};
 ghost use Rattle.iddqd_map.specs.KeyIndex.{IsIndexed};
 ghost use Rattle.iddqd_map.specs.Map.{room};
-ghost use Rattle.iddqd_map.specs.Ranges.{itself};
-ghost use Rattle.iddqd_map.specs.RangeRetain.{AsksWithin, KeepsMisses, MayAskWithin, RetainsWithin};
+ghost use Rattle.iddqd_map.specs.Ranges.{GivesItem, TakesItem, itself};
+ghost use Rattle.iddqd_map.specs.RangeRetain.{AsksAndGives, AsksWithin, GivesIfRefused, KeepsMisses, MayAskWithin, RetainsWithin};
 
 use super::Map;
 use super::steps::take_out_between;
@@ -48,13 +49,14 @@ impl<T, X: KeyIndex<T, S>, S> Map<T, X, S> {
         ensures room { room self.old ≤ room self.new }
         ensures count { result + live_count self.new.store ≡ live_count self.old.store }
     {
-        retain_counted::<P, Q, T, S, X, F>(
+        retain_counted::<P, Q, T, S, X, F, _>(
             &mut self.items,
             &mut self.indexes,
             &self.state,
             lower,
             upper,
             &mut f,
+            &mut |item: T| drop(item),
         )
     }
 
@@ -76,36 +78,41 @@ impl<T, X: KeyIndex<T, S>, S> Map<T, X, S> {
         ensures count { result + live_count self.new.store ≡ live_count self.old.store }
     {
         let (from, to) = (Bound::Included(query), Bound::Included(query));
-        retain_counted::<P, Q, T, S, X, F>(
+        retain_counted::<P, Q, T, S, X, F, _>(
             &mut self.items,
             &mut self.indexes,
             &self.state,
             from,
             to,
             &mut f,
+            &mut |item: T| drop(item),
         )
     }
 }
 
-// Keeps, of the items whose keys are within the bounds, those at which the closure answers true, and returns how many
-// it removed. The closure stays in the state that its last call leaves.
-fn retain_counted<P, Q, T: Drop, S, X, F: FnMut(&T) -> bool>(
+// Keeps, of the items whose keys are within the bounds, those at which the first closure answers true, passes the others
+// to the second, and returns how many these were. The closures stay in the states that their last calls leave.
+pub(super) fn retain_counted<P, Q, T, S, X, F: FnMut(&T) -> bool, G: FnMut(T)>(
     items: &mut ItemSet<T>,
     indexes: &mut X,
     state: &S,
     lower: Bound<Q>,
     upper: Bound<Q>,
-    f: &mut F,
+    keep: &mut F,
+    gone: &mut G,
 ) -> usize
 where
     X: OrderedAt<P, Q, T, S>,
     Q: Copy,
     requires indexed { IsIndexed (X.indexes indexes.old) state.now items.old.store }
     requires can_ask { let within = is_within X.compare lower upper in
-        AsksWithin X.order within (TakesAt F.FnMut) (CalledAt F.FnMut) f.old items.old.store }
+        AsksWithin X.order within (TakesAt F.FnMut) (CalledAt F.FnMut) keep.old items.old.store }
+    requires can_give { let within = is_within X.compare lower upper in
+        AsksWithin X.order within (TakesItem G.FnMut) (GivesIfRefused G.FnMut) gone.old items.old.store }
     ensures indexed { IsIndexed (X.indexes indexes.new) state.now items.new.store }
     ensures asked { let within = is_within X.compare lower upper in
-        RetainsWithin X.order within (CalledAt F.FnMut) f.old items.old.store items.new.store f.new }
+        RetainsWithin X.order within (AsksAndGives (CalledAt F.FnMut) G.FnMut) (keep.old, gone.old)
+        items.old.store items.new.store (keep.new, gone.new) }
     ensures others { KeepsMisses items.old.store (is_within X.compare lower upper) items.new.store }
     ensures count { result + live_count items.new.store ≡ live_count items.old.store }
     ensures limit { items.new.store.limit ≡ items.old.store.limit }
@@ -114,29 +121,33 @@ where
     ensures cells { X.cells indexes.new ≡ X.cells indexes.old }
 {
     let before = items.len();
-    retain_within::<P, Q, T, S, X, F>(items, indexes, state, lower, upper, f);
+    retain_within::<P, Q, T, S, X, F, G>(items, indexes, state, lower, upper, keep, gone);
     before - items.len()
 }
 
-// Keeps, of the items whose keys are within the bounds, those at which the closure answers true. The closure stays in
-// the state that its last call leaves.
-fn retain_within<P, Q, T: Drop, S, X, F: FnMut(&T) -> bool>(
+// Keeps, of the items whose keys are within the bounds, those at which the first closure answers true, and passes the
+// others to the second. The closures stay in the states that their last calls leave.
+fn retain_within<P, Q, T, S, X, F: FnMut(&T) -> bool, G: FnMut(T)>(
     items: &mut ItemSet<T>,
     indexes: &mut X,
     state: &S,
     lower: Bound<Q>,
     upper: Bound<Q>,
-    f: &mut F,
+    keep: &mut F,
+    gone: &mut G,
 )
 where
     X: OrderedAt<P, Q, T, S>,
     Q: Copy,
     requires indexed { IsIndexed (X.indexes indexes.old) state.now items.old.store }
     requires can_ask { let within = is_within X.compare lower upper in
-        AsksWithin X.order within (TakesAt F.FnMut) (CalledAt F.FnMut) f.old items.old.store }
+        AsksWithin X.order within (TakesAt F.FnMut) (CalledAt F.FnMut) keep.old items.old.store }
+    requires can_give { let within = is_within X.compare lower upper in
+        AsksWithin X.order within (TakesItem G.FnMut) (GivesIfRefused G.FnMut) gone.old items.old.store }
     ensures indexed { IsIndexed (X.indexes indexes.new) state.now items.new.store }
     ensures asked { let within = is_within X.compare lower upper in
-        RetainsWithin X.order within (CalledAt F.FnMut) f.old items.old.store items.new.store f.new }
+        RetainsWithin X.order within (AsksAndGives (CalledAt F.FnMut) G.FnMut) (keep.old, gone.old)
+        items.old.store items.new.store (keep.new, gone.new) }
     ensures others { KeepsMisses items.old.store (is_within X.compare lower upper) items.new.store }
     ensures fewer { live_count items.new.store ≤ live_count items.old.store }
     ensures limit { items.new.store.limit ≡ items.old.store.limit }
@@ -149,23 +160,25 @@ where
     };
     let mut next = Some(first);
     while let Some(ix) = next {
-        let (_, then) = retain_at::<P, Q, T, S, X, F>(
-            items, indexes, state, &mut spot, ix, upper, f,
+        let (_, then) = retain_at::<P, Q, T, S, X, F, G>(
+            items, indexes, state, &mut spot, ix, upper, keep, gone,
         );
         next = then;
     }
 }
 
-// Calls the closure at the item at a live index, and removes the item if the closure answers false. Returns the answer,
-// and the next index behind it whose item's key is within the bound, to which the spot is moved.
-fn retain_at<P, Q, T: Drop, S, X, F: FnMut(&T) -> bool>(
+// Calls the first closure at the item at a live index, and removes the item if the closure answers false: it is passed
+// to the second. Returns the answer, and the next index behind it whose item's key is within the bound, to which the
+// spot is moved.
+fn retain_at<P, Q, T, S, X, F: FnMut(&T) -> bool, G: FnMut(T)>(
     items: &mut ItemSet<T>,
     indexes: &mut X,
     state: &S,
     spot: &mut X::Spot,
     ix: ItemIndex,
     upper: Bound<Q>,
-    f: &mut F,
+    keep: &mut F,
+    gone: &mut G,
 ) -> (bool, Option<ItemIndex>)
 where
     X: OrderedAt<P, Q, T, S>,
@@ -173,25 +186,32 @@ where
     requires live { IsLive items.old.store ix }
     requires indexed { IsIndexed (X.indexes indexes.old) state.now items.old.store }
     requires stands { X.stands indexes.old spot.old ix }
-    requires takes { (item : T) → get items.old.store ix ≡ Some item → TakesAt F.FnMut f.old item }
-    ensures asked { (item : T) → get items.old.store ix ≡ Some item → CalledAt F.FnMut f.old item result.0 f.new }
+    requires takes { (item : T) → get items.old.store ix ≡ Some item → TakesAt F.FnMut keep.old item }
+    requires gives { (item : T) → get items.old.store ix ≡ Some item → TakesItem G.FnMut gone.old item }
+    ensures asked { (item : T) → get items.old.store ix ≡ Some item → CalledAt F.FnMut keep.old item result.0 keep.new }
     ensures next { IsNextHit itself X.order items.old.store (is_up_to (bound_map X.compare upper)) ix result.1 }
     ensures stands { IfSome result.1 (X.stands indexes.new spot.new) }
     ensures indexed { IsIndexed (X.indexes indexes.new) state.now items.new.store }
     ensures kept { result.0 ≡ true → items.new ≡ items.old }
+    ensures ungiven { result.0 ≡ true → gone.new ≡ gone.old }
     ensures removed { result.0 ≡ false → items.new ≡ record items.old { store = removed items.old.store ix } }
+    ensures given { result.0 ≡ false → (item : T) → get items.old.store ix ≡ Some item →
+        GivesItem G.FnMut gone.old item gone.new }
     ensures slots { items.new.capacity ≡ items.old.capacity }
     ensures capacity { X.capacity indexes.new ≡ X.capacity indexes.old }
     ensures cells { X.cells indexes.new ≡ X.cells indexes.old }
 {
     let is_kept = match items.get(ix) {
-        Some(item) => f(item),
+        Some(item) => keep(item),
         None => unreachable!(),
     };
     if is_kept {
         return (is_kept, indexes.next_between(items, state, spot, ix, upper));
     }
     let (taken, next) = take_out_between::<P, Q, T, X, S>(items, indexes, state, spot, ix, upper);
-    drop(taken);
+    match taken {
+        Some(item) => gone(item),
+        None => unreachable!(),
+    }
     (is_kept, next)
 }

@@ -1,7 +1,8 @@
-use Rattle.std.proofs.Common.{arith}
+use Rattle.std.proofs.Common.{rules, arith}
 use Rattle.std.specs.Fn.{TakesAt, CalledAt}
 use Rattle.iddqd_keys.specs.OrderedQuery.{is_equal}
-use Rattle.iddqd_map.proofs.RangeRetainLemmas.{AsksWithin-group, MayAskWithin-asks, KeepsMisses-group, RetainsWithin-group}
+use Rattle.iddqd_map.proofs.RangeIntoLemmas.{RetainsWithin-asked}
+use Rattle.iddqd_map.proofs.RangeRetainLemmas.{AsksWithin-by, AsksWithin-group, MayAskWithin-asks, KeepsMisses-group, RetainsWithin-group}
 use Rattle.iddqd_map.proofs.RetainLemmas.{same_memory}
 use Rattle.iddqd_map.proofs.map.Map.retain_group_by.Goals as goal
 
@@ -12,12 +13,18 @@ retain_counted-requires-clause-can_ask g c =
     let asks = MayAskWithin-asks g.X.OrderedAt.order (is_equal comparing) (TakesAt g.F.FnMut) (CalledAt g.F.FnMut) c.args.f s c.requires in
     rw (← c.self.view_is) at (AsksWithin-group comparing s s g.X.OrderedAt.order (TakesAt g.F.FnMut) (CalledAt g.F.FnMut) c.args.f asks)
 
+pub retain_counted-requires-clause-can_give : goal.retain_counted-requires-clause-can_give
+retain_counted-requires-clause-can_give g c =
+    AsksWithin-by _ _ _ _ (λ _. Unit {0}) _ (λ p ix x live i. search rules) (λ p ix x b q live i called. tt) _ tt
+
 pub returns-clause-asked : goal.returns-clause-asked
 returns-clause-asked g c =
     let s = c.self.inside.items.store in
     let now = c.retain_counted.new.items.store in
+    let last = c.retain_counted.new.keep in
+    let asked = RetainsWithin-asked (CalledAt g.F.FnMut) _ g.X.OrderedAt.order _ c.args.f _ s now _ c.retain_counted.ensures.asked in
     rw (← c.self.view_is)
-    (c.retain_counted.new.f, RetainsWithin-group (g.X.OrderedAt.compare c.args.query) s now g.X.OrderedAt.order (CalledAt g.F.FnMut) c.args.f c.retain_counted.new.f c.retain_counted.ensures.asked)
+    (last, RetainsWithin-group (g.X.OrderedAt.compare c.args.query) s now g.X.OrderedAt.order (CalledAt g.F.FnMut) c.args.f last asked)
 
 pub returns-clause-others : goal.returns-clause-others
 returns-clause-others g c =

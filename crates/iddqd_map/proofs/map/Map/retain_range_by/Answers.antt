@@ -1,8 +1,9 @@
-use Rattle.std.proofs.Common.{arith}
+use Rattle.std.proofs.Common.{rules, arith}
 use Rattle.std.specs.Fn.{TakesAt, CalledAt}
 use Rattle.std.specs.Range.Bound.{bound_map}
 use Rattle.iddqd_keys.specs.OrderedQuery.{is_between}
-use Rattle.iddqd_map.proofs.RangeRetainLemmas.{MayAskWithin-asks}
+use Rattle.iddqd_map.proofs.RangeIntoLemmas.{RetainsWithin-asked}
+use Rattle.iddqd_map.proofs.RangeRetainLemmas.{AsksWithin-by, MayAskWithin-asks}
 use Rattle.iddqd_map.proofs.RetainLemmas.{same_memory}
 use Rattle.iddqd_map.proofs.map.Map.retain_range_by.Goals as goal
 
@@ -10,6 +11,18 @@ pub retain_counted-requires-clause-can_ask : goal.retain_counted-requires-clause
 retain_counted-requires-clause-can_ask g c =
     let within = is_between (bound_map g.X.OrderedAt.compare c.args.lower) (bound_map g.X.OrderedAt.compare c.args.upper) in
     rw (← c.self.view_is) at (MayAskWithin-asks g.X.OrderedAt.order within (TakesAt g.F.FnMut) (CalledAt g.F.FnMut) c.args.f c.args.self.now.store c.requires)
+
+pub retain_counted-requires-clause-can_give : goal.retain_counted-requires-clause-can_give
+retain_counted-requires-clause-can_give g c =
+    AsksWithin-by _ _ _ _ (λ _. Unit {0}) _ (λ p ix x live i. search rules) (λ p ix x b q live i called. tt) _ tt
+
+pub returns-clause-asked : goal.returns-clause-asked
+returns-clause-asked g c =
+    let s = c.self.inside.items.store in
+    let now = c.retain_counted.new.items.store in
+    let last = c.retain_counted.new.keep in
+    rw (← c.self.view_is)
+    (last, RetainsWithin-asked (CalledAt g.F.FnMut) _ g.X.OrderedAt.order _ c.args.f _ s now _ c.retain_counted.ensures.asked)
 
 pub returns-clause-memory : goal.returns-clause-memory
 returns-clause-memory g c =

@@ -5,9 +5,9 @@ use Rattle.iddqd.specs.Store.{Store, get, live_count}
 use Rattle.iddqd_keys.specs.OrderedQuery.{is_between}
 use Rattle.iddqd_keys.specs.Scan.{IsHit}
 use Rattle.iddqd_map.specs.KeyIndex.{IsIndexed}
-use Rattle.iddqd_map.specs.RangeRetain.{AsksFrom, KeepsMisses, RetainsWithin}
+use Rattle.iddqd_map.specs.RangeRetain.{AsksAndGives, AsksFrom, GivesIfRefused, KeepsMisses, RetainsWithin}
 use Rattle.iddqd_map.proofs.RangeRetainLemmas.{RetainsFrom, to_ask}
-use Rattle.iddqd_map.specs.Ranges.{itself}
+use Rattle.iddqd_map.specs.Ranges.{TakesItem, itself}
 use Rattle.iddqd_map.proofs.map.range_retain.retain_within.Given as goal
 
 -- what the asks that are still to come leave is what all of them leave
@@ -15,17 +15,19 @@ abbrev pub invariant-loop-next : goal.invariant-loop-next
 invariant-loop-next g l =
     let compare = g.X.OrderedAt.order in
     let within = is_between (bound_map g.X.OrderedAt.compare l.fn.lower) (bound_map g.X.OrderedAt.compare l.fn.upper) in
+    let both = AsksAndGives (CalledAt g.F.FnMut) g.G.FnMut in
     record {
       kept : IsIndexed (g.X.KeyIndex.indexes l.indexes) l.fn.state l.items.store;
       stands : IfSome l.next (g.X.OrderedAt.stands l.indexes l.spot);
       can : (n : ℕ)
-          → AsksFrom compare within (TakesAt g.F.FnMut) (CalledAt g.F.FnMut) l.items.store n l.f l.next;
+          → AsksFrom compare within (TakesAt g.F.FnMut) (CalledAt g.F.FnMut) l.items.store n l.keep l.next;
+      can_give : (n : ℕ)
+          → AsksFrom compare within (TakesItem g.G.FnMut) (GivesIfRefused g.G.FnMut) l.items.store n l.gone l.next;
       among : (j : ℕ) (x : _) → get l.items.store j ≡ Some x → get l.fn.items.store j ≡ Some x;
       passing : (n : ℕ) → l.next ≡ Some n → IsHit l.items.store within n;
       retains : (new : Store _) (last : _)
-          → RetainsFrom compare g.met.X.OrderedAt.total within (CalledAt g.F.FnMut) l.f l.items.store l.next new
-          last
-          → RetainsWithin compare within (CalledAt g.F.FnMut) l.fn.f l.fn.items.store new last;
+          → RetainsFrom compare g.met.X.OrderedAt.total within both (l.keep, l.gone) l.items.store l.next new last
+          → RetainsWithin compare within both (l.fn.keep, l.fn.gone) l.fn.items.store new last;
       others : KeepsMisses l.fn.items.store within l.items.store;
       fewer : live_count l.items.store ≤ live_count l.fn.items.store;
       limit : l.items.store.limit ≡ l.fn.items.store.limit;

@@ -1,0 +1,82 @@
+//! Calls that ask a closure about each item within bounds of a key, and pass those that it rejects to another closure.
+ghost use Rattle.std.specs.Prelude.{◌≡◌, ◌≤◌, ◌+◌};
+ghost use Rattle.std.specs.Fn.{TakesAt, CalledAt};
+ghost use Rattle.iddqd.specs.{live_count};
+ghost use Rattle.iddqd_keys.specs.OrderedQuery.{is_equal, is_within};
+ghost use Rattle.iddqd_map.specs.Map.{room};
+ghost use Rattle.iddqd_map.specs.Ranges.{GivesItem};
+ghost use Rattle.iddqd_map.specs.RangeRetain.{GivesRefusedWithin, KeepsMisses, MayAskWithin, MayGiveSomeWithin, RetainsWithin};
+
+use super::Map;
+use super::range_retain::retain_counted;
+use crate::key_index::{KeyIndex, OrderedAt};
+use std::ops::Bound;
+
+impl<T, X: KeyIndex<T, S>, S> Map<T, X, S> {
+    /// Keeps, of the items whose keys at the place are within the bounds, those at which the first closure answers
+    /// true, passes the others to the second by value, and returns how many these were.
+    ///
+    /// The first closure is called once at each of them, by key and then by index. An item at which it answers false is
+    /// removed at once, and passed to the second. Otherwise it behaves as `retain_range_by`.
+    pub fn retain_range_into_by<P, Q, F: FnMut(&T) -> bool, G: FnMut(T)>(
+        &mut self,
+        lower: Bound<Q>,
+        upper: Bound<Q>,
+        mut keep: F,
+        mut gone: G,
+    ) -> usize
+    where
+        X: OrderedAt<P, Q, T, S>,
+        Q: Copy,
+        requires asked { MayAskWithin X.order (is_within X.compare lower upper) (TakesAt F.FnMut)
+            (CalledAt F.FnMut) keep self.old.store }
+        requires given { MayGiveSomeWithin X.order (is_within X.compare lower upper) G.FnMut gone self.old.store }
+        ensures asked { (last : F) × RetainsWithin X.order (is_within X.compare lower upper)
+            (CalledAt F.FnMut) keep self.old.store self.new.store last }
+        ensures given { GivesRefusedWithin X.order (is_within X.compare lower upper) (CalledAt F.FnMut)
+            (GivesItem G.FnMut) keep gone self.old.store self.new.store }
+        ensures others { KeepsMisses self.old.store (is_within X.compare lower upper)
+            self.new.store }
+        ensures memory { self.new.memory ≡ self.old.memory }
+        ensures room { room self.old ≤ room self.new }
+        ensures count { result + live_count self.new.store ≡ live_count self.old.store }
+    {
+        retain_counted::<P, Q, T, S, X, F, G>(
+            &mut self.items,
+            &mut self.indexes,
+            &self.state,
+            lower,
+            upper,
+            &mut keep,
+            &mut gone,
+        )
+    }
+
+    /// Keeps, of the items that have the key for which the query stands, those at which the first closure answers true,
+    /// passes the others to the second by value, and returns how many these were. The first closure is called at each
+    /// of them, by index. Otherwise it behaves as `retain_range_into_by`.
+    pub fn retain_group_into_by<P, Q, F: FnMut(&T) -> bool, G: FnMut(T)>(
+        &mut self,
+        query: Q,
+        keep: F,
+        gone: G,
+    ) -> usize
+    where
+        X: OrderedAt<P, Q, T, S>,
+        Q: Copy,
+        requires asked { MayAskWithin X.order (is_equal (X.compare query)) (TakesAt F.FnMut) (CalledAt F.FnMut) keep
+            self.old.store }
+        requires given { MayGiveSomeWithin X.order (is_equal (X.compare query)) G.FnMut gone self.old.store }
+        ensures asked { (last : F) × RetainsWithin X.order (is_equal (X.compare query)) (CalledAt F.FnMut) keep
+            self.old.store self.new.store last }
+        ensures given { GivesRefusedWithin X.order (is_equal (X.compare query)) (CalledAt F.FnMut)
+            (GivesItem G.FnMut) keep gone self.old.store self.new.store }
+        ensures others { KeepsMisses self.old.store (is_equal (X.compare query)) self.new.store }
+        ensures memory { self.new.memory ≡ self.old.memory }
+        ensures room { room self.old ≤ room self.new }
+        ensures count { result + live_count self.new.store ≡ live_count self.old.store }
+    {
+        let (from, to) = (Bound::Included(query), Bound::Included(query));
+        self.retain_range_into_by::<P, Q, F, G>(from, to, keep, gone)
+    }
+}
