@@ -1,5 +1,5 @@
 -- How the calls that give items away, or insert many, call their closures and their iterator, and what they leave.
-use Rattle.std.specs.Prelude.{◌≡◌, ◌++◌, ℕ, Bool, not, List, [], ◌∷◌, length, map, filter, Option, Some, None, Result, Ok, Err}
+use Rattle.std.specs.Prelude.{◌≡◌, ◌++◌, ℕ, Bool, true, false, not, List, [], ◌∷◌, length, map, filter, Option, Some, None, Result, Ok, Err}
 use Rattle.std.specs.Fn.{Mut}
 use Rattle.std.specs.Iterator.{Count, MakesProgress, YieldsThen}
 use Rattle.std.specs.Iterator.SizeHint.{IsWithinCount}
@@ -52,6 +52,21 @@ module _ {F G T : Type 0} (ask : F → T → Bool → F → Type 0) (give : G �
   abbrev pub GivesRefused : F → G → Store T → Store T → Type 0
   GivesRefused keep gone old new =
       (last_keep : F) × (last_gone : G) × RetainsInto (live_pairs old) keep gone old new last_keep last_gone
+
+-- What becomes of the second closure where the first answers b at x: if that is true it stays, otherwise it is called
+-- with x.
+abbrev pub GivesIfRefused : {G T : Type 0} → Mut G (T × Unit {0}) (Unit {0}) → G → T → Bool → G → Type 0
+GivesIfRefused g p x true q = q ≡ p
+GivesIfRefused g p x false q = GivesItem g p x q
+
+module _ {F G T : Type 0} (g : Mut G (T × Unit {0}) (Unit {0})) where
+  -- both closures may be called at x
+  abbrev pub TakesBoth : (F → T → Type 0) → F × G → T → Type 0
+  TakesBoth takes p x = takes p.0 x × TakesItem g p.1 x
+
+  -- both closures at x: the first answers b, and the second is called with x if that is false
+  abbrev pub AsksAndGives : (F → T → Bool → F → Type 0) → F × G → T → Bool → F × G → Type 0
+  AsksAndGives ask p x b q = ask p.0 x b q.0 × GivesIfRefused g p.1 x b q.1
 
 -- the store after these items were inserted, one after the other
 abbrev pub inserted_all : {T : Type 0} → Store T → List T → Store T

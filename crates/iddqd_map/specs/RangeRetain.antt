@@ -1,13 +1,13 @@
 -- The outcome of calls that ask a closure about each item within bounds, in order, and remove those it rejects.
-use Rattle.std.specs.Prelude.{◌≡◌, ℕ, zero, suc, Bool, true, false, List, Option, Some, None, map}
+use Rattle.std.specs.Prelude.{◌≡◌, ℕ, zero, suc, Bool, List, Option, Some, None, map}
 use Rattle.std.specs.Fn.{Mut}
 use Rattle.std.specs.List.{Contains, FoldsTo}
 use Rattle.std.specs.declared.cmp.Ordering.{Ordering}
 use Rattle.iddqd.specs.Store.{Store, get}
 use Rattle.iddqd_keys.specs.KeyWalk.{IsFirstHit, IsNextHit, SortsWithin, pairs_at}
 use Rattle.iddqd_keys.specs.Scan.{IsHit}
-use Rattle.iddqd_map.specs.Bulk.{RetainsInto}
-use Rattle.iddqd_map.specs.Ranges.{GivesItem, TakesItem, itself}
+use Rattle.iddqd_map.specs.Bulk.{GivesIfRefused, RetainsInto}
+use Rattle.iddqd_map.specs.Ranges.{TakesItem, itself}
 use Rattle.iddqd_map.specs.Retain.{removed_of}
 use Rattle.iddqd_keys.specs.Removals.{removed_all}
 
@@ -53,18 +53,6 @@ module _ {F T : Type 0} (order : T → T → Ordering) (within : T → Bool) (as
     pub gone : (ix : ℕ) → Contains (removed_of asks) ix → get new ix ≡ None
     pub others : (ix : ℕ) → (Contains (removed_of asks) ix → ⊥) → get new ix ≡ get old ix
     pub left : new ≡ removed_all old (removed_of asks)
-
--- What becomes of the second closure where the first answers b at x: if that is true it stays, otherwise it is called
--- with x.
-abbrev pub GivesIfRefused : {G T : Type 0} → Mut G (T × Unit {0}) (Unit {0}) → G → T → Bool → G → Type 0
-GivesIfRefused g p x true q = q ≡ p
-GivesIfRefused g p x false q = GivesItem g p x q
-
--- both closures at x: the first answers b, and the second is called with x if that is false
-abbrev pub AsksAndGives :
-    {F G T : Type 0}
-    → (F → T → Bool → F → Type 0) → Mut G (T × Unit {0}) (Unit {0}) → F × G → T → Bool → F × G → Type 0
-AsksAndGives ask g p x b q = ask p.0 x b q.0 × GivesIfRefused g p.1 x b q.1
 
 module _ {G T : Type 0} (order : T → T → Ordering) (within : T → Bool) (g : Mut G (T × Unit {0}) (Unit {0})) where
   -- it may be called with some of the items within in turn, in order and then by index, whichever they are

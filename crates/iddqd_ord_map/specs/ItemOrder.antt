@@ -4,7 +4,7 @@ use Rattle.std.specs.declared.cmp.Ordering.{Ordering}
 use Rattle.std.specs.declared.ops.Bound.{Bound}
 use Rattle.iddqd.specs.Store.{Store}
 use Rattle.iddqd_keys.specs.OrderedQuery.{is_within}
-use Rattle.iddqd_map.specs.RangeRetain.{RetainsWithin}
+use Rattle.iddqd_map.specs.RangeRetain.{GivesRefusedWithin, RetainsWithin}
 use Rattle.iddqd_map.specs.Ranges.{RemovesAlong}
 
 -- The items within the bounds were removed, or kept where the closure answered true: f was called with each, or at
@@ -17,3 +17,9 @@ module _ {F Q T : Type 0} (order : T → T → Ordering) (compare : Q → T → 
   abbrev pub RetainsBetween : (F → T → Bool → F → Type 0) → F → Store T → Store T → Type 0
   RetainsBetween ask f old new =
       (last : F) × RetainsWithin order (is_within compare lower upper) ask f old new last
+
+  -- and each that was removed was passed to a second closure
+  abbrev pub GivesRefusedBetween :
+      {G : Type 0} → (F → T → Bool → F → Type 0) → (G → T → G → Type 0) → F → G → Store T → Store T → Type 0
+  GivesRefusedBetween ask give keep gone old new =
+      GivesRefusedWithin order (is_within compare lower upper) ask give keep gone old new

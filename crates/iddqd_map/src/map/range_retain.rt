@@ -10,10 +10,11 @@ ghost use Rattle.std.specs.Range.Bound.{bound_map};
 ghost use Rattle.iddqd_keys.specs.KeyWalk.{IsNextHit};
 ghost use Rattle.iddqd_keys.specs.OrderedQuery.{is_equal, is_up_to, is_within};
 ghost use Rattle.iddqd_keys.specs.Scan.{IsLive};
+ghost use Rattle.iddqd_map.specs.Bulk.{AsksAndGives, GivesIfRefused};
 ghost use Rattle.iddqd_map.specs.KeyIndex.{IsIndexed};
 ghost use Rattle.iddqd_map.specs.Map.{room};
 ghost use Rattle.iddqd_map.specs.Ranges.{GivesItem, TakesItem, itself};
-ghost use Rattle.iddqd_map.specs.RangeRetain.{AsksAndGives, AsksWithin, GivesIfRefused, KeepsMisses, MayAskWithin, RetainsWithin};
+ghost use Rattle.iddqd_map.specs.RangeRetain.{AsksWithin, KeepsMisses, MayAskWithin, RetainsWithin};
 
 use super::Map;
 use super::steps::take_out_between;
@@ -111,7 +112,7 @@ where
         AsksWithin X.order within (TakesItem G.FnMut) (GivesIfRefused G.FnMut) gone.old items.old.store }
     ensures indexed { IsIndexed (X.indexes indexes.new) state.now items.new.store }
     ensures asked { let within = is_within X.compare lower upper in
-        RetainsWithin X.order within (AsksAndGives (CalledAt F.FnMut) G.FnMut) (keep.old, gone.old)
+        RetainsWithin X.order within (AsksAndGives G.FnMut (CalledAt F.FnMut)) (keep.old, gone.old)
         items.old.store items.new.store (keep.new, gone.new) }
     ensures others { KeepsMisses items.old.store (is_within X.compare lower upper) items.new.store }
     ensures count { result + live_count items.new.store ≡ live_count items.old.store }
@@ -146,7 +147,7 @@ where
         AsksWithin X.order within (TakesItem G.FnMut) (GivesIfRefused G.FnMut) gone.old items.old.store }
     ensures indexed { IsIndexed (X.indexes indexes.new) state.now items.new.store }
     ensures asked { let within = is_within X.compare lower upper in
-        RetainsWithin X.order within (AsksAndGives (CalledAt F.FnMut) G.FnMut) (keep.old, gone.old)
+        RetainsWithin X.order within (AsksAndGives G.FnMut (CalledAt F.FnMut)) (keep.old, gone.old)
         items.old.store items.new.store (keep.new, gone.new) }
     ensures others { KeepsMisses items.old.store (is_within X.compare lower upper) items.new.store }
     ensures fewer { live_count items.new.store ≤ live_count items.old.store }

@@ -4,12 +4,12 @@ ghost use Rattle.std.specs.Fn.{TakesAt, CalledAt};
 ghost use Rattle.iddqd.specs.{live_count};
 ghost use Rattle.iddqd.specs.LiveItems.{live_items};
 ghost use Rattle.iddqd_keys.specs.OrderedQuery.{is_within};
-ghost use Rattle.iddqd_ord_map.specs.ItemOrder.{RemovesBetween, RetainsBetween};
+ghost use Rattle.iddqd_ord_map.specs.ItemOrder.{GivesRefusedBetween, RemovesBetween, RetainsBetween};
 ghost use Rattle.std.specs.Ordering.{on};
 ghost use Rattle.iddqd_map.specs.Groups.{CountsHits};
 ghost use Rattle.iddqd_map.specs.Map.{capacity, room};
 ghost use Rattle.iddqd_map.specs.ModifyMany.{IsStoredHit, KeepsKeys, MayLeave, ModifiesWithin, TakesMut};
-ghost use Rattle.iddqd_map.specs.RangeRetain.{KeepsMisses, MayAskWithin};
+ghost use Rattle.iddqd_map.specs.RangeRetain.{KeepsMisses, MayAskWithin, MayGiveSomeWithin};
 ghost use Rattle.iddqd_map.specs.Ranges.{GivesItem, LeavesOthers, MayGive};
 
 use super::OrdMapBy;
@@ -65,6 +65,36 @@ impl<T: Drop, E: OrdKey<T>> OrdMapBy<T, E> {
         ensures count { result + live_count self.new.store ≡ live_count self.old.store }
     {
         self.map.retain_range_by::<Here, Q, F>(lower, upper, f)
+    }
+
+    /// Keeps, of the items whose keys are within the bounds, those at which the first closure answers true, passes the
+    /// others to the second by value, and returns how many these were.
+    ///
+    /// The first closure is called once at each of them, by key. An item at which it answers false is removed at once,
+    /// and passed to the second. Otherwise it behaves as `retain_range`.
+    pub fn retain_range_into<Q: ItemRangeQuery<T, E>, F: FnMut(&T) -> bool, G: FnMut(T)>(
+        &mut self,
+        lower: Bound<Q>,
+        upper: Bound<Q>,
+        keep: F,
+        gone: G,
+    ) -> usize
+        requires asked { MayAskWithin (on E.key_of E.cmp) (is_within Q.compare_item lower upper)
+            (TakesAt F.FnMut) (CalledAt F.FnMut) keep self.old.store }
+        requires given { MayGiveSomeWithin (on E.key_of E.cmp) (is_within Q.compare_item lower upper) G.FnMut gone
+            self.old.store }
+        ensures asked { RetainsBetween (on E.key_of E.cmp) Q.compare_item lower upper (CalledAt F.FnMut) keep
+            self.old.store self.new.store }
+        ensures given { GivesRefusedBetween (on E.key_of E.cmp) Q.compare_item lower upper (CalledAt F.FnMut)
+            (GivesItem G.FnMut) keep gone self.old.store self.new.store }
+        ensures others { KeepsMisses self.old.store (is_within Q.compare_item lower upper)
+            self.new.store }
+        ensures memory { self.new.memory ≡ self.old.memory }
+        ensures room { room self.old ≤ room self.new }
+        ensures count { result + live_count self.new.store ≡ live_count self.old.store }
+    {
+        self.map
+            .retain_range_into_by::<Here, Q, F, G>(lower, upper, keep, gone)
     }
 
     /// Calls the closure with a `&mut` to each item whose key is within the bounds, by key, and returns how many there

@@ -2,7 +2,7 @@ use Rattle.std.proofs.Common.{arith}
 use Rattle.std.specs.Fn.{TakesAt, CalledAt}
 use Rattle.std.specs.Range.Bound.{bound_map}
 use Rattle.iddqd_keys.specs.OrderedQuery.{is_between}
-use Rattle.iddqd_map.specs.RangeRetain.{GivesIfRefused}
+use Rattle.iddqd_map.specs.Bulk.{GivesIfRefused}
 use Rattle.iddqd_map.specs.Ranges.{TakesItem}
 use Rattle.iddqd_map.proofs.RangeIntoLemmas.{RetainsWithin-asked, GivesRefusedWithin-both}
 use Rattle.iddqd_map.proofs.RangeRetainLemmas.{MayAskWithin-asks}

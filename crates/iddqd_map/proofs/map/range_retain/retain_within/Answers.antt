@@ -7,7 +7,7 @@ use Rattle.iddqd_keys.specs.KeyWalk.{IsFirstHit}
 use Rattle.iddqd_keys.specs.OrderedQuery.{is_between}
 use Rattle.iddqd_keys.specs.Scan.{IsHit}
 use Rattle.iddqd_keys.proofs.NextLemmas.{IsNextHit-between}
-use Rattle.iddqd_map.specs.RangeRetain.{AsksAndGives, GivesIfRefused}
+use Rattle.iddqd_map.specs.Bulk.{AsksAndGives, GivesIfRefused}
 use Rattle.iddqd_map.proofs.RangeIntoLemmas.{gives-if}
 use Rattle.iddqd_map.proofs.RangeRetainLemmas.{takes-at, AsksFrom-asked, RetainsFrom, RetainsFrom-none, RetainsFrom-asked, RetainsWithin-from, first_passes, limit_stays, live_then, next_passes, no_more_live, others_stay, to_ask-asked}
 use Rattle.iddqd_map.specs.Ranges.{TakesItem, itself}
@@ -28,7 +28,7 @@ loop-next-init g c =
       among = λ j x there. there;
       passing = first_passes itself compare s within (Some ix) first;
       retains = λ new last.
-          RetainsWithin-from compare g.met.X.OrderedAt.total within (AsksAndGives (CalledAt g.F.FnMut) g.G.FnMut)
+          RetainsWithin-from compare g.met.X.OrderedAt.total within (AsksAndGives g.G.FnMut (CalledAt g.F.FnMut))
           (c.args.keep.now, c.args.gone.now) s new last (Some ix) first;
       others = λ j other. refl;
       fewer = omega arith;
@@ -85,7 +85,7 @@ loop-next-preserved g c =
     let compare = g.X.OrderedAt.order in
     let total = g.met.X.OrderedAt.total in
     let cmp = g.X.OrderedAt.compare in
-    let ask = AsksAndGives (CalledAt g.F.FnMut) g.G.FnMut in
+    let ask = AsksAndGives g.G.FnMut (CalledAt g.F.FnMut) in
     let within = is_between (bound_map cmp c.args.lower) (bound_map cmp c.args.upper) in
     let next = c.retain_at.result.1 in
     let hit : IsHit s within ix = i.passing ix c.in-Some-next.is in
@@ -125,7 +125,7 @@ returns-clause-asked g c =
     let compare = g.X.OrderedAt.order in
     let total = g.met.X.OrderedAt.total in
     let within = is_between (bound_map g.X.OrderedAt.compare c.args.lower) (bound_map g.X.OrderedAt.compare c.args.upper) in
-    let ask = AsksAndGives (CalledAt g.F.FnMut) g.G.FnMut in
+    let ask = AsksAndGives g.G.FnMut (CalledAt g.F.FnMut) in
     let none = RetainsFrom-none compare total within ask last s in
     i.retains s last (subst (λ n. RetainsFrom compare total within ask last s n s last) (sym c.in_default-next.is) none)
 
@@ -136,5 +136,5 @@ returns-in_default-clause-asked g c =
     let compare = g.X.OrderedAt.order in
     let total = g.met.X.OrderedAt.total in
     let within = is_between (bound_map g.X.OrderedAt.compare c.args.lower) (bound_map g.X.OrderedAt.compare c.args.upper) in
-    let ask = AsksAndGives (CalledAt g.F.FnMut) g.G.FnMut in
+    let ask = AsksAndGives g.G.FnMut (CalledAt g.F.FnMut) in
     RetainsWithin-from compare total within ask f s s f None c.in_default.ensures.first (RetainsFrom-none compare total within ask f s)

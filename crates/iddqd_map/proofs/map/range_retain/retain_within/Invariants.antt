@@ -5,7 +5,8 @@ use Rattle.iddqd.specs.Store.{Store, get, live_count}
 use Rattle.iddqd_keys.specs.OrderedQuery.{is_between}
 use Rattle.iddqd_keys.specs.Scan.{IsHit}
 use Rattle.iddqd_map.specs.KeyIndex.{IsIndexed}
-use Rattle.iddqd_map.specs.RangeRetain.{AsksAndGives, AsksFrom, GivesIfRefused, KeepsMisses, RetainsWithin}
+use Rattle.iddqd_map.specs.Bulk.{AsksAndGives, GivesIfRefused}
+use Rattle.iddqd_map.specs.RangeRetain.{AsksFrom, KeepsMisses, RetainsWithin}
 use Rattle.iddqd_map.proofs.RangeRetainLemmas.{RetainsFrom, to_ask}
 use Rattle.iddqd_map.specs.Ranges.{TakesItem, itself}
 use Rattle.iddqd_map.proofs.map.range_retain.retain_within.Given as goal
@@ -15,7 +16,7 @@ abbrev pub invariant-loop-next : goal.invariant-loop-next
 invariant-loop-next g l =
     let compare = g.X.OrderedAt.order in
     let within = is_between (bound_map g.X.OrderedAt.compare l.fn.lower) (bound_map g.X.OrderedAt.compare l.fn.upper) in
-    let both = AsksAndGives (CalledAt g.F.FnMut) g.G.FnMut in
+    let both = AsksAndGives g.G.FnMut (CalledAt g.F.FnMut) in
     record {
       kept : IsIndexed (g.X.KeyIndex.indexes l.indexes) l.fn.state l.items.store;
       stands : IfSome l.next (g.X.OrderedAt.stands l.indexes l.spot);
