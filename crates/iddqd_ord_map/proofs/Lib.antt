@@ -10,5 +10,6 @@ mod CallLemmas
 mod WalkLemmas
 mod EndLemmas
 mod TakeLemmas
+mod IntoLemmas
 mod RetainLemmas
 mod EqualityLemmas

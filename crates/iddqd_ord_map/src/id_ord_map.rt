@@ -30,6 +30,7 @@ mod ranges;
 mod remakes;
 mod replaces;
 mod retain;
+mod retain_into;
 mod upserts;
 mod values;
 mod walks;
