@@ -1,5 +1,6 @@
--- For callers of `retain`, `retain_range_by` and `retain_group_by`: that exactly the items that pass a test stay, where
--- the closure's answers are that test; and that a closure may be asked which asks for something.
+-- For callers of `retain`, `retain_range_by`, `retain_group_by` and their like: that exactly the items that pass a test
+-- stay, where the closure's answers are that test, and that only others are passed to a second closure; and that a
+-- closure may be asked which asks for something.
 use Rattle.std.proofs.Common.{◌≡◌, ◌∙◌, inl, inr, ℕ, Bool, true, false, List, [], ◌∷◌, map, Some, None, refl, sym, ap, subst, Ordering}
 use Rattle.std.specs.List.{Contains, filter, FoldsTo}
 use Rattle.iddqd.specs.Store.{Store, get}
@@ -7,7 +8,8 @@ use Rattle.iddqd.specs.LiveItems.{live_pairs}
 use Rattle.iddqd.proofs.StoreLemmas.{contains_head, contains_tail, contains_cases, contains_none}
 use Rattle.iddqd_keys.specs.KeyWalk.{pairs_at}
 use Rattle.iddqd_map.specs.Map.{MapState}
-use Rattle.iddqd_map.specs.RangeRetain.{RetainsWithin}
+use Rattle.iddqd_map.specs.Bulk.{refused_of}
+use Rattle.iddqd_map.specs.RangeRetain.{GivesRefusedWithin, RetainsWithin}
 use Rattle.iddqd_map.specs.Retain.{kept_of, removed_of, Retains, RetainsTo}
 pub use Rattle.iddqd_hash.proofs.AskLemmas.{CanAsk-by}
 
@@ -27,6 +29,20 @@ module _ {T : Type 0} (s : Store T) where
               | inr behind ↦ pair_live rest ix x behind
             ]
         | None ↦ λ none. pair_live rest ix x (rw none at here)
+      ] refl
+
+  -- and only where the index is
+  pair_listed : (indexes : List ℕ) (ix : ℕ) (x : T) → Contains (pairs_at s indexes) (ix, x) → Contains indexes ix
+  pair_listed [] ix x here = absurd (contains_none (ix, x) here)
+  pair_listed (at ∷ rest) ix x here =
+      elim (get s at) as (λ o. get s at ≡ o → Contains (at ∷ rest) ix) [
+        | Some y ↦ λ live.
+            let listed : Contains ((at, y) ∷ pairs_at s rest) (ix, x) = rw live at here in
+            elim (contains_cases (at, y) (ix, x) (pairs_at s rest) listed) [
+              | inl same ↦ subst (Contains (at ∷ rest)) (ap (λ p. p.0) same) (contains_head at rest)
+              | inr behind ↦ contains_tail at ix rest (pair_listed rest ix x behind)
+            ]
+        | None ↦ λ none. contains_tail at ix rest (pair_listed rest ix x (rw none at here))
       ] refl
 
   -- and the pair of a listed index and its item is
@@ -133,6 +149,53 @@ module _
               subst (λ k. Contains (at ∷ removed_of asks) k) place (contains_head at (removed_of asks))
           | inr behind ↦ contains_tail at ix (removed_of asks) (fails_refused asked.0 asks last ix x one.1 asked.2 behind fails)
         ]
+
+    -- an item is passed to a second closure only where it fails
+    given_fails :
+        (f : F) (asks : List ((ℕ × T) × Bool)) (last : F) (x : T)
+        → I f
+        → FoldsTo (λ p a q. ask p a.0.1 a.1 q) f asks last
+        → Contains (refused_of asks) x
+        → (ix : ℕ) × Contains (map (λ a. a.0) asks) (ix, x) × (test x ≡ false)
+    given_fails f [] last x i asked here = absurd (contains_none x here)
+    given_fails f (((at, y), true) ∷ asks) last x i asked here =
+        let one = says f y true asked.0 i asked.1 in
+        let (ix, there, fails) = given_fails asked.0 asks last x one.1 asked.2 here in
+        (ix, contains_tail (at, y) (ix, x) (map (λ a. a.0) asks) there, fails)
+    given_fails f (((at, y), false) ∷ asks) last x i asked here =
+        let one = says f y false asked.0 i asked.1 in
+        elim (contains_cases y x (refused_of asks) here) [
+          | inl same ↦ (
+            at,
+            subst (λ z. Contains ((at, y) ∷ map (λ a. a.0) asks) (at, z)) same (contains_head (at, y) (map (λ a. a.0) asks)),
+            subst (λ z. test z ≡ false) same (sym one.0),
+          )
+          | inr behind ↦
+              let (ix, there, fails) = given_fails asked.0 asks last x one.1 asked.2 behind in
+              (ix, contains_tail (at, y) (ix, x) (map (λ a. a.0) asks) there, fails)
+        ]
+
+    -- of a range or a group: the second closure is called with items that were there, are within, and fail
+    pub GivesRefusedWithin-tested :
+        {G : Type 0} (give : G → T → G → Type 0) (order : T → T → Ordering) (within : T → Bool)
+        (f : F) (gone : G) (old new : Store T)
+        → I f
+        → GivesRefusedWithin order within ask give f gone old new
+        → (items : List T) × (last : G) × FoldsTo give gone items last
+        × ((x : T) → Contains items x → (within x ≡ true) × (test x ≡ false))
+    GivesRefusedWithin-tested give order within f gone old new i gives =
+        let did = gives.given in (
+          refused_of did.asks,
+          gives.last_gone,
+          did.given,
+          λ x here.
+              let (ix, there, fails) = given_fails f did.asks gives.last_keep x i did.were_asked here in
+              let listed = subst (λ l. Contains l (ix, x)) did.each_once there in
+              let (item, live, passes) = (gives.sorted.each ix).0 (pair_listed old gives.indexes ix x listed) in
+              let one : Some item ≡ Some x = sym live ∙ pair_live old gives.indexes ix x listed in
+              let same : item ≡ x = cc in
+              (subst (λ z. within z ≡ true) same passes, fails),
+        )
 
     -- of a range or a group: items that pass stay under their indexes, and those within that fail are gone
     module _ (order : T → T → Ordering) (within : T → Bool) (f : F) (old new : Store T) (last : F) (i : I f)

@@ -1,7 +1,10 @@
--- What calls leave that add the items of an iterator.
+-- What calls leave that add the items of an iterator, and what calls do that hand items on.
 use Rattle.std.specs.Prelude.{◌≡◌, ℕ, List, Option, Some, length}
+use Rattle.std.specs.Fn.{Mut}
 use Rattle.std.specs.Iterator.{Drains, YieldsThen}
+use Rattle.std.specs.List.{Contains, FoldsTo}
 use Rattle.iddqd_maps.specs.Bulk.{inserted_all}
+use Rattle.iddqd_maps.specs.Ranges.{GivesItem}
 use Rattle.iddqd_maps.specs.Refusal.{insert_refusal_item}
 use Rattle.iddqd_maps.specs.Store.{Store}
 use Rattle.iddqd_maps.specs.declared.refusal.Stopped.{Stopped}
@@ -19,3 +22,9 @@ module _ {I T : Type 0} (gives : I → Option T → I → Type 0) where
   AddsUntil it old stopped new =
       (items : List T) × YieldsThen gives it items (Some (insert_refusal_item stopped.refusal)) stopped.rest
       × (stopped.inserted ≡ length items) × (new ≡ inserted_all old items)
+
+-- the closure was called with some items, one after the other, and this holds of each of them
+abbrev pub IsHandedOnly : {F T : Type 0} → Mut F (T × Unit {0}) (Unit {0}) → (T → Type 0) → F → Type 0
+IsHandedOnly {F} {T} g IsOne f =
+    (items : List T) × (last : F) × FoldsTo (GivesItem g) f items last
+    × ((item : T) → Contains items item → IsOne item)

@@ -1,9 +1,14 @@
 -- Scores by their hours.
-use Rattle.std.specs.Prelude.{ℕ, Bool}
+use Rattle.std.specs.Prelude.{ℕ, Bool, List}
+use Rattle.std.specs.Fn.{Mut}
+use Rattle.std.specs.List.{FoldsTo}
 use Rattle.std.specs.Ordering.{nat_cmp, eq_by_cmp}
 use Rattle.std.specs.declared.cmp.Ordering.{Ordering}
 use Rattle.std.specs.declared.ops.Bound.TheVariants.{Included, Unbounded}
+use Rattle.iddqd_maps.specs.KeyOrder.{AreInKeyOrder}
 use Rattle.iddqd_maps.specs.OrderedQuery.{is_within}
+use Rattle.iddqd_maps.specs.Ranges.{GivesItem}
+use Rattle.iddqd_maps.specs.Store.{Store}
 use Rattle.uses.specs.declared.scores.Score.{Score}
 
 -- the score is of this hour
@@ -38,3 +43,9 @@ is_between from to score =
 -- how two scores compare by their hours
 abbrev pub by_hour : Score → Score → Ordering
 by_hour x y = nat_cmp x.hour y.hour
+
+-- the closure was called with each score once, by hour
+abbrev pub HandsOnByHour : {F : Type 0} → Mut F (Score × Unit {0}) (Unit {0}) → F → Store Score → Type 0
+HandsOnByHour {F} g f s =
+    (scores : List Score) × (last : F) × AreInKeyOrder (λ score. score.hour) nat_cmp s scores
+    × FoldsTo (GivesItem g) f scores last

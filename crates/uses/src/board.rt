@@ -11,14 +11,15 @@ ghost use Rattle.iddqd_maps.specs.Groups.{CountsHits};
 ghost use Rattle.iddqd_maps.specs.KeyOrder.{AreInKeyOrder, FindsEnd, IsKeyWalk, PopsEnd};
 ghost use Rattle.iddqd_maps.specs.Map.{FindsItem, Removes, RemovesAt, RemovesHit, capacity, empty_map, room};
 ghost use Rattle.iddqd_maps.specs.OneKey.{IsTaken};
+ghost use Rattle.iddqd_maps.specs.Ranges.{TakesItem};
 ghost use Rattle.iddqd_maps.specs.Scan.{AnswersScan, HasNoHit, IsHit};
 ghost use Rattle.iddqd_maps.specs.Sizes.{insertable};
 ghost use Rattle.iddqd_maps.specs.Store.{cleared, empty, empty_within, get, inserted, live_count, next_index, rebound, removed, slot_count, slot_limit};
 ghost use Rattle.iddqd_maps.specs.Validation.{Tells, Validates, not_compact_text};
 ghost use Rattle.iddqd_maps.specs.Drops.{Drops};
 ghost use Rattle.uses.specs.Exchanges.{Exchanges, ExchangesIfFound, IsWhyGoneAt, IsWhyGoneBy, IsWhyNot, IsWhyNotAdded, IsWhyNotAt, IsWhyNotChanged, IsWhyNotTakenOver, TakesOverOne};
-ghost use Rattle.uses.specs.Intake.{AddsAll, AddsUntil};
-ghost use Rattle.uses.specs.Scores.{has_hour, is_from, same_hour, unscored, with_hour, with_points};
+ghost use Rattle.uses.specs.Intake.{AddsAll, AddsUntil, IsHandedOnly};
+ghost use Rattle.uses.specs.Scores.{HandsOnByHour, has_hour, is_from, same_hour, unscored, with_hour, with_points};
 ghost use Rattle.uses.specs.declared.scores.Score.{Score};
 ghost use Rattle.uses.specs.Updates.{Updates, UpdatesAll, UpdatesAt, UpdatesHit, UpdatesItem};
 
@@ -285,6 +286,48 @@ pub fn forget_low(board: &mut Board, hour: u32, least: u32) -> usize
     board.retain_range(Bound::Unbounded, Bound::Included(&hour), |score| {
         score.points >= least
     })
+}
+
+/// Forgets the scores up to an hour that have fewer points than so many, passes each to the closure, by hour, and returns
+/// how many they were. All others stay. It takes no memory.
+pub fn hand_on_low<F: FnMut(Score)>(board: &mut Board, hour: u32, least: u32, gone: F) -> usize
+    requires { (p : F) (score : Score) → TakesItem F.FnMut p score }
+    ensures dropped { Drops (λ score. (score.hour ≤ hour) × (score.points < least))
+        board.old.store board.new.store }
+    ensures handed { IsHandedOnly F.FnMut (λ score. (score.hour ≤ hour) × (score.points < least)) gone }
+    ensures count { result + live_count board.new.store ≡ live_count board.old.store }
+    ensures memory { board.new.memory ≡ board.old.memory }
+{
+    board.retain_range_into(
+        Bound::Unbounded,
+        Bound::Included(&hour),
+        |score| score.points >= least,
+        gone,
+    )
+}
+
+/// Keeps the scores with at least so many points, passes the others to the closure, by hour, and returns how many they
+/// were. It takes no memory.
+pub fn keep_high<F: FnMut(Score)>(board: &mut Board, least: u32, gone: F) -> usize
+    requires { (p : F) (score : Score) → TakesItem F.FnMut p score }
+    ensures stay { (ix : ℕ) (score : Score) → (get board.new.store ix ≡ Some score)
+        ↔ ((get board.old.store ix ≡ Some score) × (least ≤ score.points)) }
+    ensures count { result + live_count board.new.store ≡ live_count board.old.store }
+    ensures memory { board.new.memory ≡ board.old.memory }
+{
+    board.retain_into(|score| score.points >= least, gone)
+}
+
+/// Empties the board: it passes each score to the closure, by hour, and returns how many there were. The board keeps its
+/// memory, and takes none.
+pub fn empty_into<F: FnMut(Score)>(board: &mut Board, gone: F) -> usize
+    requires { (p : F) (score : Score) → TakesItem F.FnMut p score }
+    ensures handed { HandsOnByHour F.FnMut gone board.old.store }
+    ensures count { result ≡ live_count board.old.store }
+    ensures emptied { board.new.store ≡ cleared board.old.store }
+    ensures memory { board.new.memory ≡ board.old.memory }
+{
+    board.drain_into(gone)
 }
 
 /// Voids the scores of an hour and of later ones, and returns how many they are. It takes no memory.

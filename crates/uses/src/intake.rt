@@ -1,20 +1,23 @@
-//! Orders that come and go in many: a ledger takes them from an iterator or from another ledger, and is emptied at the
-//! end.
-ghost use Rattle.std.specs.Prelude.{◌≡◌, ◌≤◌, ◌+◌, ℕ, Some, None, IfOk, IfErr, filter, nat_le};
+//! Orders that come and go in many: a ledger takes them from an iterator or from another ledger, hands on the small
+//! ones, and is emptied at the end.
+ghost use Rattle.std.specs.Prelude.{◌≡◌, ◌≤◌, ◌<◌, ◌+◌, ℕ, Some, None, IfOk, IfErr, filter, nat_le};
 ghost use Rattle.std.specs.Iterator.{UpTo};
 ghost use Rattle.iddqd_maps.specs.Append.{EachConflicts, KeepsOrMoves};
 ghost use Rattle.iddqd_maps.specs.Bulk.{inserted_count};
 ghost use Rattle.iddqd_maps.specs.Calls.{IsDuplicate};
+ghost use Rattle.iddqd_maps.specs.Drops.{Drops};
 ghost use Rattle.iddqd_maps.specs.LiveItems.{live_pairs};
 ghost use Rattle.iddqd_maps.specs.Map.{room};
+ghost use Rattle.iddqd_maps.specs.Ranges.{TakesItem};
 ghost use Rattle.iddqd_maps.specs.Store.{cleared, get, live_count};
-ghost use Rattle.uses.specs.Intake.{AddsAll, AddsUntil};
+ghost use Rattle.uses.specs.Intake.{AddsAll, AddsUntil, IsHandedOnly};
 ghost use Rattle.uses.specs.Ledger.{shares_number};
 ghost use Rattle.uses.specs.declared.ledger.Order.{Order};
 
-use crate::ledger::{Ledger, Order, Taken};
+use crate::ledger::{ByDay, Ledger, Order, Taken};
 use iddqd_maps::appended::Appended;
 use iddqd_maps::refusal::Stopped;
+use std::ops::Bound;
 
 /// Adds orders in turn, up to the first that is refused: it comes back with the rest.
 pub fn add_all<I: Iterator<Item = Order>>(
@@ -63,4 +66,40 @@ pub fn write_off(ledger: &mut Ledger, day: u32) -> usize
     ensures memory { ledger.new.memory ≡ ledger.old.memory }
 {
     ledger.retain_into(|order| order.day >= day, |_order| ())
+}
+
+/// Removes those orders of a day that come to less than so much, passes each to the closure, by index, and returns how
+/// many they were. It takes no memory.
+pub fn hand_on_small<F: FnMut(Order)>(ledger: &mut Ledger, day: u32, least: u64, gone: F) -> usize
+    requires { (p : F) (order : Order) → TakesItem F.FnMut p order }
+    ensures dropped { Drops (λ order. (order.day ≡ day) × (order.amount < least))
+        ledger.old.store ledger.new.store }
+    ensures handed { IsHandedOnly F.FnMut (λ order. (order.day ≡ day) × (order.amount < least)) gone }
+    ensures count { result + live_count ledger.new.store ≡ live_count ledger.old.store }
+    ensures memory { ledger.new.memory ≡ ledger.old.memory }
+{
+    ledger.retain_group_into_by::<ByDay, _, _, _>(&day, |order| order.amount >= least, gone)
+}
+
+/// Removes those orders up to a day that come to less than so much, passes each to the closure, by day and then by
+/// index, and returns how many they were. It takes no memory.
+pub fn hand_on_small_until<F: FnMut(Order)>(
+    ledger: &mut Ledger,
+    day: u32,
+    least: u64,
+    gone: F,
+) -> usize
+    requires { (p : F) (order : Order) → TakesItem F.FnMut p order }
+    ensures dropped { Drops (λ order. (order.day ≤ day) × (order.amount < least))
+        ledger.old.store ledger.new.store }
+    ensures handed { IsHandedOnly F.FnMut (λ order. (order.day ≤ day) × (order.amount < least)) gone }
+    ensures count { result + live_count ledger.new.store ≡ live_count ledger.old.store }
+    ensures memory { ledger.new.memory ≡ ledger.old.memory }
+{
+    ledger.retain_range_into_by::<ByDay, _, _, _>(
+        Bound::Unbounded,
+        Bound::Included(&day),
+        |order| order.amount >= least,
+        gone,
+    )
 }

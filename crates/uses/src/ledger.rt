@@ -84,7 +84,8 @@ type ByNumber = Left<Here>;
 
 type ByCustomer = Right<Left<Here>>;
 
-type ByDay = Right<Right<Here>>;
+/// The place of the day.
+pub type ByDay = Right<Right<Here>>;
 
 type Keys = Pair<ByHash<Number, u64>, Shared>;
 
