@@ -59,10 +59,10 @@ module _ {F G T : Type 0} (is_walk : Store T → List (ℕ × T) → Type 0) (as
       };
     }
 
--- where the first closure always answers false, the second is called with each item
+-- where the first closure always answers false, and the second may be called with each item, both may be called
 module _ {F G T : Type 0} (is_walk : Store T → List (ℕ × T) → Type 0) (takes : F → T → Type 0)
     (ask : F → T → Bool → F → Type 0) (g : Mut G (T × Unit {0}) (Unit {0}))
-    (any : (p : F) (x : T) → takes p x) (no : (p : F) (x : T) (b : Bool) (q : F) → ask p x b q → b ≡ false)
+    (any : (p : F) (x : T) → takes p x) (refuses : (p : F) (x : T) (b : Bool) (q : F) → ask p x b q → b ≡ false)
   where
     AsksInTurn-refused :
         (keep : F) (gone : G) (items : List T)
@@ -72,7 +72,7 @@ module _ {F G T : Type 0} (is_walk : Store T → List (ℕ × T) → Type 0) (ta
     AsksInTurn-refused keep gone (x ∷ items) gives = (
       (any keep x, gives.0),
       λ b next both.
-          let given = subst (λ a. GivesIfRefused g gone x a next.1) (no keep x b next.0 both.0) both.1 in
+          let given = subst (λ a. GivesIfRefused g gone x a next.1) (refuses keep x b next.0 both.0) both.1 in
           AsksInTurn-refused next.0 next.1 items (gives.1 false next.1 given),
     )
 
@@ -84,20 +84,27 @@ module _ {F G T : Type 0} (is_walk : Store T → List (ℕ × T) → Type 0) (ta
       at = λ pairs walk. AsksInTurn-refused keep gone (map (λ (p : ℕ × T). p.1) pairs) (gives.at pairs walk);
     }
 
+-- of each item, then: the second closure was called with it
+module _ {F G T : Type 0} (is_walk : Store T → List (ℕ × T) → Type 0) (ask : F → T → Bool → F → Type 0)
+    (g : Mut G (T × Unit {0}) (Unit {0}))
+  where
     all_refused :
+        (refuses : (p : F) (x : T) (b : Bool) (q : F) → ask p x b q → b ≡ false)
         (p : F × G) (asks : List ((ℕ × T) × Bool)) (last : F × G)
         → FoldsTo (λ p a q. AsksAndGives g ask p a.0.1 a.1 q) p asks last
         → refused_of asks ≡ map (λ (pair : ℕ × T). pair.1) (map (λ (a : (ℕ × T) × Bool). a.0) asks)
-    all_refused p [] last folds = refl
-    all_refused p ((pair, true) ∷ asks) last folds =
-        absurd (let never = no p.0 pair.1 true folds.0.0 folds.1.0 in cc)
-    all_refused p ((pair, false) ∷ asks) last folds = ap (λ l. pair.1 ∷ l) (all_refused folds.0 asks last folds.2)
+    all_refused refuses p [] last folds = refl
+    all_refused refuses p ((pair, true) ∷ asks) last folds =
+        absurd (let never = refuses p.0 pair.1 true folds.0.0 folds.1.0 in cc)
+    all_refused refuses p ((pair, false) ∷ asks) last folds =
+        ap (λ l. pair.1 ∷ l) (all_refused refuses folds.0 asks last folds.2)
 
     pub GivesAlong-refused :
         (keep : F) (gone : G) (old new : Store T) (last : F × G)
         → RetainsAlongTo is_walk (AsksAndGives g ask) (keep, gone) old new last
+        → ((p : F) (x : T) (b : Bool) (q : F) → ask p x b q → b ≡ false)
         → GivesAlong is_walk (GivesItem g) gone old
-    GivesAlong-refused keep gone old new last r =
+    GivesAlong-refused keep gone old new last r refuses =
         let given = given_refused ask g (keep, gone) r.asks last r.were_asked in
-        let all = all_refused (keep, gone) r.asks last r.were_asked in
+        let all = all_refused refuses (keep, gone) r.asks last r.were_asked in
         (map (λ a. a.0) r.asks, last.1, r.each_once, subst (λ l. FoldsTo (GivesItem g) gone l last.1) all given)

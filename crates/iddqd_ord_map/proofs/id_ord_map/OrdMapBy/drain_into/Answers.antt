@@ -1,8 +1,9 @@
-use Rattle.std.proofs.Common.{rules, ◌≡◌, ◌∙◌, ap, Bool, false, arith}
-use Rattle.std.specs.Fn.{TakesAt, CalledAt}
-use Rattle.iddqd.specs.Store.{Store, cleared}
+use Rattle.std.proofs.Common.{rules, ◌≡◌, ◌∙◌, ℕ, [], ap, Bool, arith}
+use Rattle.iddqd.specs.Store.{Store}
 use Rattle.iddqd_keys.proofs.RemovalLemmas.{limit-removed_all}
+use Rattle.iddqd_map.specs.Map.{MapMemory}
 use Rattle.iddqd_map.specs.Ranges.{GivesItem, TakesItem}
+use Rattle.iddqd_map.specs.Retain.{removed_of}
 use Rattle.iddqd_ord_map.specs.KeyOrder.{IsKeyWalk}
 use Rattle.iddqd_ord_map.proofs.IntoLemmas.{AsksAlong-refused, GivesAlong-refused}
 use Rattle.iddqd_ord_map.proofs.RetainLemmas.{MayAskAlong-asks}
@@ -18,4 +19,21 @@ retain_with-requires g c =
 pub returns-clause-given : goal.returns-clause-given
 returns-clause-given g c =
     let is_walk = IsKeyWalk g.E.OrdKey.key_of g.E.OrdKey.cmp in
-    GivesAlong-refused is_walk _ _ g.F.FnMut (λ p x. search rules) (λ p x b q called. search rules) _ c.args.gone c.args.self.now.store _ _ c.retain_with.ensures.retained
+    GivesAlong-refused is_walk _ g.F.FnMut _ c.args.gone c.args.self.now.store _ _ c.retain_with.ensures.retained
+    (λ p x b q called. search rules)
+
+pub returns-clause-store : goal.returns-clause-store
+returns-clause-store g c =
+    let did = c.retain_with.ensures.retained in
+    let limit = ap (λ (s : Store _). s.limit) did.left ∙ limit-removed_all c.args.self.now.store (removed_of did.asks) in
+    c.clear.ensures.store ∙ ap (λ (n : ℕ). record { items = []; free = []; limit = n }) limit
+
+pub returns-clause-room : goal.returns-clause-room
+returns-clause-room g c =
+    let did = c.retain_with.ensures in
+    let limit =
+        ap (λ (s : Store _). s.limit) did.retained.left
+        ∙ limit-removed_all c.args.self.now.store (removed_of did.retained.asks) in
+    let slots = ap (λ (m : MapMemory). m.slots) did.memory in
+    let capacity = ap (λ (m : MapMemory). m.capacity) did.memory in
+    omega (arith, c.clear.ensures.room, did.count, limit, slots, capacity)

@@ -5,6 +5,7 @@ use Rattle.iddqd_keys.proofs.RemovalLemmas.{limit-removed_all}
 use Rattle.iddqd_map.specs.Bulk.{GivesIfRefused}
 use Rattle.iddqd_map.specs.Map.{MapMemory}
 use Rattle.iddqd_map.specs.Ranges.{TakesItem}
+use Rattle.iddqd_map.specs.Retain.{removed_of}
 use Rattle.iddqd_ord_map.specs.KeyOrder.{IsKeyWalk}
 use Rattle.iddqd_ord_map.proofs.IntoLemmas.{AsksAlong-both, GivesRefusedAlong-both, RetainsAlongTo-asked}
 use Rattle.iddqd_ord_map.proofs.RetainLemmas.{MayAskAlong-asks}
@@ -36,5 +37,5 @@ returns-clause-given g c =
 pub returns-clause-room : goal.returns-clause-room
 returns-clause-room g c =
     let did = c.retain_with.ensures in
-    let limit = ap (λ (s : Store _). s.limit) did.retained.left ∙ limit-removed_all c.args.self.now.store _ in
+    let limit = ap (λ (s : Store _). s.limit) did.retained.left ∙ limit-removed_all c.args.self.now.store (removed_of did.retained.asks) in
     omega (arith, did.count, limit, ap (λ (m : MapMemory). m.slots) did.memory, ap (λ (m : MapMemory). m.capacity) did.memory)
