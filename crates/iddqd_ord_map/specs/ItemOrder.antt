@@ -1,11 +1,12 @@
 -- What a call for the items within two bounds of an order removes.
 use Rattle.std.specs.Prelude.{Bool}
+use Rattle.std.specs.Fn.{Mut}
 use Rattle.std.specs.declared.cmp.Ordering.{Ordering}
 use Rattle.std.specs.declared.ops.Bound.{Bound}
 use Rattle.iddqd.specs.Store.{Store}
 use Rattle.iddqd_keys.specs.OrderedQuery.{is_within}
 use Rattle.iddqd_map.specs.RangeRetain.{GivesRefusedWithin, RetainsWithin}
-use Rattle.iddqd_map.specs.Ranges.{RemovesAlong}
+use Rattle.iddqd_map.specs.Ranges.{GivesItem, RemovesAlong}
 
 -- The items within the bounds were removed, or kept where the closure answered true: f was called with each, or at
 -- each, in order and then by index. `order` compares items, and `compare` a query with an item.
@@ -20,6 +21,7 @@ module _ {F Q T : Type 0} (order : T → T → Ordering) (compare : Q → T → 
 
   -- and each that was removed was passed to a second closure
   abbrev pub GivesRefusedBetween :
-      {G : Type 0} → (F → T → Bool → F → Type 0) → (G → T → G → Type 0) → F → G → Store T → Store T → Type 0
-  GivesRefusedBetween ask give keep gone old new =
-      GivesRefusedWithin order (is_within compare lower upper) ask give keep gone old new
+      {G : Type 0}
+      → (F → T → Bool → F → Type 0) → Mut G (T × Unit {0}) (Unit {0}) → F → G → Store T → Store T → Type 0
+  GivesRefusedBetween ask g keep gone old new =
+      GivesRefusedWithin order (is_within compare lower upper) ask (GivesItem g) keep gone old new

@@ -288,8 +288,8 @@ pub fn forget_low(board: &mut Board, hour: u32, least: u32) -> usize
     })
 }
 
-/// Forgets the scores up to an hour that have fewer points than so many, passes each to the closure, by hour, and returns
-/// how many they were. All others stay. It takes no memory.
+/// Forgets the scores up to an hour that have fewer points than so many, passes each to the closure, by hour, and
+/// returns how many they were. All others stay. It takes no memory.
 pub fn hand_on_low<F: FnMut(Score)>(board: &mut Board, hour: u32, least: u32, gone: F) -> usize
     requires { (p : F) (score : Score) → TakesItem F.FnMut p score }
     ensures dropped { Drops (λ score. (score.hour ≤ hour) × (score.points < least))
@@ -318,8 +318,8 @@ pub fn keep_high<F: FnMut(Score)>(board: &mut Board, least: u32, gone: F) -> usi
     board.retain_into(|score| score.points >= least, gone)
 }
 
-/// Empties the board: it passes each score to the closure, by hour, and returns how many there were. The board keeps its
-/// memory, and takes none.
+/// Empties the board: it passes each score to the closure, by hour, and returns how many there were. The board keeps
+/// its memory, and takes none.
 pub fn empty_into<F: FnMut(Score)>(board: &mut Board, gone: F) -> usize
     requires { (p : F) (score : Score) → TakesItem F.FnMut p score }
     ensures handed { HandsOnByHour F.FnMut gone board.old.store }

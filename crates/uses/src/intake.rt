@@ -14,10 +14,13 @@ ghost use Rattle.uses.specs.Intake.{AddsAll, AddsUntil, IsHandedOnly};
 ghost use Rattle.uses.specs.Ledger.{shares_number};
 ghost use Rattle.uses.specs.declared.ledger.Order.{Order};
 
-use crate::ledger::{ByDay, Ledger, Order, Taken};
+use crate::ledger::{Ledger, Order, Taken};
 use iddqd_maps::appended::Appended;
 use iddqd_maps::refusal::Stopped;
+use iddqd_maps::{Here, Right};
 use std::ops::Bound;
+
+type ByDay = Right<Right<Here>>;
 
 /// Adds orders in turn, up to the first that is refused: it comes back with the rest.
 pub fn add_all<I: Iterator<Item = Order>>(

@@ -84,8 +84,7 @@ type ByNumber = Left<Here>;
 
 type ByCustomer = Right<Left<Here>>;
 
-/// The place of the day.
-pub type ByDay = Right<Right<Here>>;
+type ByDay = Right<Right<Here>>;
 
 type Keys = Pair<ByHash<Number, u64>, Shared>;
 

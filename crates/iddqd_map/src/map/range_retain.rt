@@ -91,8 +91,8 @@ impl<T, X: KeyIndex<T, S>, S> Map<T, X, S> {
     }
 }
 
-// Keeps, of the items whose keys are within the bounds, those at which the first closure answers true, passes the others
-// to the second, and returns how many these were. The closures stay in the states that their last calls leave.
+// Keeps, of the items whose keys are within the bounds, those at which the first closure answers true, passes the
+// others to the second, and returns how many these were. The closures stay in the states that their last calls leave.
 pub(super) fn retain_counted<P, Q, T, S, X, F: FnMut(&T) -> bool, G: FnMut(T)>(
     items: &mut ItemSet<T>,
     indexes: &mut X,

@@ -86,7 +86,7 @@ impl<T: Drop, E: OrdKey<T>> OrdMapBy<T, E> {
         ensures asked { RetainsBetween (on E.key_of E.cmp) Q.compare_item lower upper (CalledAt F.FnMut) keep
             self.old.store self.new.store }
         ensures given { GivesRefusedBetween (on E.key_of E.cmp) Q.compare_item lower upper (CalledAt F.FnMut)
-            (GivesItem G.FnMut) keep gone self.old.store self.new.store }
+            G.FnMut keep gone self.old.store self.new.store }
         ensures others { KeepsMisses self.old.store (is_within Q.compare_item lower upper)
             self.new.store }
         ensures memory { self.new.memory ≡ self.old.memory }

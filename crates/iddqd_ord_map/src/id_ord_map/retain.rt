@@ -65,8 +65,8 @@ impl<T: Drop, E: OrdKey<T>> OrdMapBy<T, E> {
     }
 }
 
-// Keeps the items at which the first closure answers true, and passes the others to the second. The closures stay in the
-// states that their last calls leave.
+// Keeps the items at which the first closure answers true, and passes the others to the second. The closures stay in
+// the states that their last calls leave.
 fn retain_in<T, E: OrdKey<T>, F: FnMut(&T) -> bool, G: FnMut(T)>(
     items: &mut ItemSet<T>,
     table: &mut MapBTreeTable,

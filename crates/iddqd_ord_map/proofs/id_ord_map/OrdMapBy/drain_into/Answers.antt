@@ -32,8 +32,8 @@ pub returns-clause-room : goal.returns-clause-room
 returns-clause-room g c =
     let did = c.retain_with.ensures in
     let limit =
-        ap (λ (s : Store _). s.limit) did.retained.left
-        ∙ limit-removed_all c.args.self.now.store (removed_of did.retained.asks) in
+    ap (λ (s : Store _). s.limit) did.retained.left
+    ∙ limit-removed_all c.args.self.now.store (removed_of did.retained.asks) in
     let slots = ap (λ (m : MapMemory). m.slots) did.memory in
     let capacity = ap (λ (m : MapMemory). m.capacity) did.memory in
     omega (arith, c.clear.ensures.room, did.count, limit, slots, capacity)
