@@ -298,12 +298,8 @@ pub fn hand_on_low<F: FnMut(Score)>(board: &mut Board, hour: u32, least: u32, go
     ensures count { result + live_count board.new.store ≡ live_count board.old.store }
     ensures memory { board.new.memory ≡ board.old.memory }
 {
-    board.retain_range_into(
-        Bound::Unbounded,
-        Bound::Included(&hour),
-        |score| score.points >= least,
-        gone,
-    )
+    let last = Bound::Included(&hour);
+    board.retain_range_into(Bound::Unbounded, last, |score| score.points >= least, gone)
 }
 
 /// Keeps the scores with at least so many points, passes the others to the closure, by hour, and returns how many they
