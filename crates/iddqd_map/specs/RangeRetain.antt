@@ -55,7 +55,7 @@ module _ {F T : Type 0} (order : T → T → Ordering) (within : T → Bool) (as
     pub left : new ≡ removed_all old (removed_of asks)
 
 module _ {G T : Type 0} (order : T → T → Ordering) (within : T → Bool) (g : Mut G (T × Unit {0}) (Unit {0})) where
-  -- it may be called with some of the items within in turn, in order and then by index, whichever they are
+  -- the closure may be called with some of the items within, in order and then by index, whichever they are
   abbrev pub MayGiveSomeWithin : G → Store T → Type 0
   MayGiveSomeWithin gone s = MayAskWithin order within (TakesItem g) (GivesIfRefused g) gone s
 
