@@ -1,5 +1,5 @@
 -- What calls leave whose rejected items go to a second closure, of both closures and of each.
-use Rattle.std.proofs.Common.{◌≡◌, ◌∙◌, ℕ, Bool, true, false, List, [], ◌∷◌, map, refl, ap, subst}
+use Rattle.std.proofs.Common.{◌≡◌, ℕ, Bool, true, false, List, [], ◌∷◌, map, refl, ap, subst}
 use Rattle.std.specs.Fn.{Mut}
 use Rattle.std.specs.List.{FoldsTo}
 use Rattle.iddqd.specs.Store.{Store}

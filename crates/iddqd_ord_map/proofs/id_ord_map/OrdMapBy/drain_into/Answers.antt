@@ -1,4 +1,4 @@
-use Rattle.std.proofs.Common.{rules, ◌≡◌, ◌∙◌, ℕ, [], ap, Bool, arith}
+use Rattle.std.proofs.Common.{rules, ◌∙◌, ℕ, [], ap, Bool, arith}
 use Rattle.iddqd.specs.Store.{Store}
 use Rattle.iddqd_keys.proofs.RemovalLemmas.{limit-removed_all}
 use Rattle.iddqd_map.specs.Map.{MapMemory}

@@ -1,4 +1,4 @@
-use Rattle.std.proofs.Common.{◌≡◌, ◌∙◌, ap, arith}
+use Rattle.std.proofs.Common.{◌∙◌, ap, arith}
 use Rattle.std.specs.Fn.{TakesAt, CalledAt}
 use Rattle.iddqd.specs.Store.{Store}
 use Rattle.iddqd_keys.proofs.RemovalLemmas.{limit-removed_all}

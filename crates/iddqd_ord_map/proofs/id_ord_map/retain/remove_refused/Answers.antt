@@ -1,4 +1,4 @@
-use Rattle.std.proofs.Common.{rules, ◌≡◌, ◌∙◌, true, false, refl, ap, sym}
+use Rattle.std.proofs.Common.{rules, ◌≡◌, ◌∙◌, true, false, refl, ap}
 use Rattle.std.specs.Fn.{TakesAt, CalledAt}
 use Rattle.std.proofs.lemmas.Fn.{called_at}
 use Rattle.iddqd.specs.Store.{removed}
