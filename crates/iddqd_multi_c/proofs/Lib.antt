@@ -1,0 +1,4 @@
+mod Words
+pub mod AnswerLemmas
+pub mod FillLemmas
+pub mod InsertLemmas

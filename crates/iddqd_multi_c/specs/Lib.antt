@@ -1,0 +1,4 @@
+pub mod Parked
+pub mod Rows
+pub mod Held
+pub mod Entries

@@ -1,0 +1,28 @@
+-- What C reads of entries, and how an answer stands in a code and a row.
+use Rattle.std.specs.Prelude.{◌≡◌, ◌⊎◌, ◌≤◌, ◌<◌, ℕ, List, Option, Some, None, map, take, drop, ◌++◌, length, min}
+use Rattle.iddqd_multi_c.specs.declared.code.TheConstants.{OK, MISSING, SMALL}
+use Rattle.iddqd_multi_c.specs.declared.entry.Entry.{Entry}
+use Rattle.iddqd_multi_c.specs.declared.entry.Row.{Row}
+
+-- the row of an entry at an index
+abbrev pub row_of : ℕ → Entry → Row
+row_of ix entry = record { second = entry.second; value = entry.value; index = ix }
+
+-- the code and the row say which entry is at the index: `OK` and its row, or `MISSING` for none
+abbrev pub SaysRow : ℕ → Row → ℕ → Option Entry → Type 0
+SaysRow code row ix (Some entry) = (code ≡ OK) × (row ≡ row_of ix entry)
+SaysRow code row ix None = code ≡ MISSING
+
+-- The rows of the first of these entries stand in a buffer, as many as it has places for, and the places behind them
+-- are as they were.
+pub record FillsRows (pairs : List (ℕ × Entry)) (count : ℕ) (was rows : List Row) : Type 0 where
+  pub counted : count ≡ min (length was) (length pairs)
+  pub filled : rows ≡ map (λ (p : ℕ × Entry). row_of p.0 p.1) (take count pairs) ++ drop count was
+
+-- Bytes stand at the start of a buffer, if it has places for all of them, and the places behind them stay. Otherwise
+-- the code is `SMALL`. Their number is written in any case.
+abbrev pub CopiesBytes : List ℕ → ℕ → ℕ → List ℕ → List ℕ → Type 0
+CopiesBytes bytes code count was buffer =
+    (count ≡ length bytes)
+    × ((code ≡ OK) × (length bytes ≤ length was) × (buffer ≡ bytes ++ drop (length bytes) was)
+    ⊎ (code ≡ SMALL) × (length was < length bytes))

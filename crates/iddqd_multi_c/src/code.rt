@@ -1,0 +1,23 @@
+//! What the functions return. The numbers are those of `iddqd_c`, which is no library that a crate can stand on.
+
+/// It is done.
+pub const OK: u32 = 0;
+
+/// No item has the key, or the index isn't live. Nothing changed.
+pub const MISSING: u32 = 1;
+
+/// An item has the byte key of the new one. Nothing changed.
+pub const DUPLICATE: u32 = 2;
+
+/// There are as many items as there can be. Nothing changed.
+pub const FULL: u32 = 3;
+
+/// Memory ran out. No item changed.
+pub const MEMORY: u32 = 4;
+
+/// The handle holds no table, or one of another library; of the function that makes a table: the handle isn't zero.
+/// Nothing changed.
+pub const HANDLE: u32 = 5;
+
+/// The buffer is too short. Nothing was written to it, and nothing changed.
+pub const SMALL: u32 = 6;
