@@ -1,8 +1,8 @@
 -- What look-ups and removals answer, from what the calls of the map answer.
-use Rattle.std.proofs.Common.{◌≡◌, ℕ, Bool, Option, Some, None, IsSome, inl, refl, sym, subst}
-use Rattle.iddqd.specs.Store.{Store, get}
+use Rattle.std.proofs.Common.{◌≡◌, ◌∙◌, ℕ, List, Bool, Option, Some, None, inl, refl, sym, subst}
+use Rattle.iddqd.specs.Store.{get}
 use Rattle.iddqd_keys.specs.Scan.{AnswersScan}
-use Rattle.iddqd_map.specs.Map.{IsOnly, RemovesHit}
+use Rattle.iddqd_map.specs.Map.{RemovesHit}
 use Rattle.iddqd_multi_c.specs.Entries.{FindsKey, RemovesIndex, RemovesKey, has_key}
 use Rattle.iddqd_multi_c.specs.Held.{Items}
 use Rattle.iddqd_multi_c.specs.Rows.{SaysRow}
@@ -31,8 +31,8 @@ module _ (bytes : List ℕ) (ix code : ℕ) (row : Row) where
       let hit : RemovesHit old (has_key bytes) entry new = record {
         ix = ix;
         hit = record { live = removes.0; only = scan };
-        left = removes.1.0;
-        memory = removes.1.1;
+        left = removes.1;
+        memory = removes.2;
       } in
       inl (says.0, (entry, (hit, says.1)))
   removes_key old new scan (None, says, removes) =

@@ -61,11 +61,9 @@ fn report(entries: &Entries, ix: ItemIndex, row: &mut Row) -> u32
     ensures gets { GetsRow ix result row.new entries.now }
     ensures kept { result ≢ OK → row.new ≡ row.old }
 {
-    match entries.get_at(ix) {
-        Some(entry) => {
-            *row = Row::of(ix, entry);
-            OK
-        }
-        None => MISSING,
-    }
+    let Some(entry) = entries.get_at(ix) else {
+        return MISSING;
+    };
+    *row = Row::of(ix, entry);
+    OK
 }

@@ -85,12 +85,8 @@ pub extern "C" fn iddqd_multi_group(
 fn group(entries: &Entries, second: u64, index: u32, rows: &mut [Row]) -> usize
     ensures { WritesGroup second index OK result rows.old rows.new entries.now }
 {
-    fill(
-        entries.group_by::<BySecond, _>(&second),
-        second,
-        index,
-        rows,
-    )
+    let group = entries.group_by::<BySecond, _>(&second);
+    fill(group, second, index, rows)
 }
 
 // Writes the rows of the first entries of a range that lie at the place or behind it, as many as there is room for, and
@@ -117,7 +113,7 @@ fn next_from<'a>(
         ≡ (next.0, next.1.now) ∷ filter (lies_from second index) range.new) }
     ensures none { IfNone result (filter (lies_from second index) range.old ≡ []) }
 {
-    while let Some((ix, entry)) = range.next() {
+    'passing: while let Some((ix, entry)) = range.next() {
         if lies_from(ix, entry, second, index) {
             return Some((ix, entry));
         }

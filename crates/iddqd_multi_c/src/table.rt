@@ -1,8 +1,28 @@
 //! What a handle may hold.
-use crate::entry::Entries;
+ghost use Rattle.std.specs.Prelude.{◌≡◌};
 
-/// A table. It is a struct of its own, so that the proofs of the handle needn't name the map's parameters.
+use crate::entry::Entries;
+use std::hash::DefaultHasher;
+use std::marker::PhantomData;
+
+/// A table.
+///
+/// It names the hasher that a `RandomState` makes: the check of functions that move a table has to know that type, and
+/// finds it in no parameter of the map.
 #[derive(Drop)]
 pub struct Table {
     pub entries: Entries,
+    of: PhantomData<DefaultHasher>,
+}
+
+impl Table {
+    /// A table of these entries.
+    pub fn of(entries: Entries) -> Table
+        ensures { result.entries ≡ entries }
+    {
+        Table {
+            entries,
+            of: PhantomData,
+        }
+    }
 }

@@ -31,7 +31,7 @@ pub extern "C" fn iddqd_multi_new(t: &mut CTable, alloc: Global, seed1: u64, see
         return if t.state == 0 { MEMORY } else { HANDLE };
     };
     let entries = Map::with_hasher(alloc, hasher);
-    make(t, alloc, Table { entries })
+    make(t, alloc, Table::of(entries))
 }
 
 // The seed as the source of random bytes that a `RandomState` asks for.
