@@ -1,12 +1,11 @@
 -- What look-ups and removals answer, from what the calls of the map answer.
-use Rattle.std.proofs.Common.{◌≡◌, ◌∙◌, ℕ, List, Bool, Option, Some, None, inl, refl, sym, subst}
+use Rattle.std.proofs.Common.{◌≡◌, ◌∙◌, ℕ, List, Some, None, inl, refl, sym, subst}
 use Rattle.iddqd.specs.Store.{get}
 use Rattle.iddqd_keys.specs.Scan.{AnswersScan}
 use Rattle.iddqd_map.specs.Map.{RemovesHit}
 use Rattle.iddqd_multi_c.specs.Entries.{FindsKey, RemovesIndex, RemovesKey, has_key}
 use Rattle.iddqd_multi_c.specs.Held.{Items}
 use Rattle.iddqd_multi_c.specs.Rows.{SaysRow}
-use Rattle.iddqd_multi_c.specs.declared.entry.Entry.{Entry}
 use Rattle.iddqd_multi_c.specs.declared.entry.Row.{Row}
 
 module _ (bytes : List ℕ) (ix code : ℕ) (row : Row) where

@@ -1,12 +1,8 @@
 -- A buffer that a loop fills from its start.
-use Rattle.std.proofs.Common.{◌≡◌, ◌∙◌, ◌+◌, ◌<◌, ◌≤◌, inl, inr, ℕ, List, [], ◌∷◌, ◌++◌, length, get_or, slice_set, Bool, refl, sym, ap, subst, arith}
-use Rattle.std.specs.Prelude.{◌==◌, map, filter, take, drop}
+use Rattle.std.proofs.Common.{◌≡◌, ◌∙◌, ◌+◌, ◌<◌, ℕ, List, [], ◌∷◌, ◌++◌, length, get_or, slice_set, refl, sym, ap, subst}
+use Rattle.std.specs.Prelude.{map, take, drop}
 use Rattle.std.proofs.Math.Seq.{set-append_seam}
-use Rattle.std.proofs.lemmas.Bool.{cases_lt}
-use Rattle.std.proofs.Math.ListN.{drop_of_length-le}
-use Rattle.std.proofs.lemmas.List.Sums.{count_by-le-length, length-filter}
-use Rattle.std.proofs.lemmas.List.{append-nil, append_assoc, drop_more, length-append, length-map, length_push, map_push, take-append-le, take_all, take_at}
-use Rattle.iddqd_hash.specs.HashTable.{under}
+use Rattle.std.proofs.lemmas.List.{append_assoc, drop_more, length-map, length_push, map_push, take_at}
 
 module _ {X Y : Type 0} (f : X → Y) where
   -- The first `at` places have what `f` gives of the first of these items, and `rest` are the others. The places behind

@@ -1,5 +1,5 @@
 -- What memory an insert takes, from what the map answers.
-use Rattle.std.proofs.Common.{◌≡◌, ◌+◌, ℕ, refl, sym, subst, arith}
+use Rattle.std.proofs.Common.{◌≡◌, ◌+◌, refl, sym, subst, arith}
 use Rattle.iddqd_hash.specs.Sizes.{most_cells}
 use Rattle.iddqd_map.specs.Memory.{MakesRoom}
 use Rattle.iddqd_multi_c.specs.Entries.{TakesMemory}

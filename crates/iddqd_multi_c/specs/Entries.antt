@@ -1,19 +1,20 @@
 -- What the functions answer and leave, by the relations of the map.
-use Rattle.std.specs.Prelude.{◌≡◌, ◌⊎◌, ◌≤◌, ◌<◌, ◌+◌, ◌==◌, ◌&&◌, ◌||◌, ℕ, Bool, List, Option, None, Some, Ok, Err, Result, filter, nat_le, nat_lt}
+use Rattle.std.specs.Prelude.{◌≡◌, ◌⊎◌, ◌+◌, ◌==◌, ◌&&◌, ◌||◌, ℕ, Bool, List, Option, None, Some, Ok, Err, Result, filter, nat_le, nat_lt}
 use Rattle.std.specs.Ordering.{nat_cmp, eq_by_cmp}
 use Rattle.std.specs.Str.{bytes_eq}
 use Rattle.std.specs.declared.alloc.AllocError.{AllocError}
 use Rattle.std.specs.declared.cmp.Ordering.{Ordering}
 use Rattle.std.specs.declared.ops.Bound.TheVariants.{Included, Unbounded}
-use Rattle.iddqd.specs.Store.{Store, IsFull, get, live_count, next_index, inserted, cleared}
+use Rattle.iddqd.specs.Store.{IsFull, get, live_count, next_index, inserted, cleared}
 use Rattle.iddqd_hash.specs.Sizes.{most_cells}
 use Rattle.iddqd_keys.specs.OrderedQuery.{is_within}
 use Rattle.iddqd_keys.specs.Scan.{HasNoHit, AnswersScan}
 use Rattle.iddqd_map.specs.Groups.{CountsHits}
-use Rattle.iddqd_map.specs.Map.{MapState, IsOnly, RemovesAt, RemovesHit}
+use Rattle.iddqd_map.specs.Map.{IsOnly, RemovesAt, RemovesHit}
 use Rattle.iddqd_map.specs.Memory.{MakesRoom, ReservesItems}
 use Rattle.iddqd_map.specs.Ranges.{LeavesOthers}
 use Rattle.iddqd_ord_map.specs.InOrder.{IteratesInOrder}
+use Rattle.iddqd_ord_map.specs.OrderedSteps.{most_cells as most_ordered}
 use Rattle.iddqd_multi_c.specs.Held.{Items}
 use Rattle.iddqd_multi_c.specs.Rows.{CopiesBytes, FillsRows, SaysRow, row_of}
 use Rattle.iddqd_multi_c.specs.declared.code.TheConstants.{OK, MISSING, DUPLICATE, FULL, MEMORY}
@@ -135,3 +136,15 @@ pub record RemovesGroup (second code count : ℕ) (old new : Items) : Type 0 whe
 -- what a clear answers and leaves
 abbrev pub Clears : ℕ → Items → Items → Type 0
 Clears code old new = (code ≡ OK) × (new.store ≡ cleared old.store) × (new.memory ≡ old.memory)
+
+-- whether memory ran out, as a code
+abbrev pub SaysDone : {A E : Type 0} → ℕ → Result A E → Type 0
+SaysDone code (Ok done) = code ≡ OK
+SaysDone code (Err refused) = code ≡ MEMORY
+
+-- what a reserve answers and leaves: what the map promises, whose two tables have at most so many cells
+abbrev pub Reserves : ℕ → ℕ → Items → Items → Type 0
+Reserves additional code old new =
+    (result : Result (Unit {0}) AllocError)
+    × SaysDone code result
+    × ReservesItems (λ count. most_cells count + most_ordered count) additional old result new

@@ -1,8 +1,8 @@
-//! The table as a whole: made, counted and cleared.
+//! The table as a whole: made, counted, cleared and given memory.
 ghost use Rattle.std.specs.Prelude.{◌≡◌, ◌≢◌, ◌⊎◌, ◌↔◌};
 ghost use Rattle.iddqd_map.specs.Map.{empty_map};
 ghost use Rattle.iddqd_multi_c.specs.declared.code.TheConstants.{OK, MEMORY, HANDLE};
-ghost use Rattle.iddqd_multi_c.specs.Entries.{Clears, Counts};
+ghost use Rattle.iddqd_multi_c.specs.Entries.{Clears, Counts, Reserves};
 ghost use Rattle.iddqd_multi_c.specs.Held.{Changes, Holds, Reads};
 
 use crate::code::{HANDLE, MEMORY, OK};
@@ -10,7 +10,7 @@ use crate::entry::Entries;
 use crate::handle::{CTable, make, put, take};
 use crate::table::Table;
 use iddqd_map::map::Map;
-use std::alloc::Global;
+use std::alloc::{AllocError, Global};
 use std::hash::RandomState;
 use std::io;
 use std::random::RandomSource;
@@ -89,4 +89,30 @@ fn clear(entries: &mut Entries)
     ensures { Clears OK entries.old entries.new }
 {
     entries.clear();
+}
+
+/// Makes room in the table for so many more items, or for as many as there can be. Memory for their byte keys isn't
+/// taken.
+#[unsafe(no_mangle)]
+pub extern "C" fn iddqd_multi_reserve(t: &mut CTable, alloc: Global, additional: usize) -> u32
+    ensures reserves { Changes (Reserves additional result) t.old.handle.value result t.new.handle.value }
+    ensures state { t.new.state ≡ t.old.state }
+    ensures closed { t.old.state ≢ 2 → t.new ≡ t.old }
+{
+    if t.state != 2 {
+        return HANDLE;
+    }
+    let mut table = take(t, alloc);
+    let answer = reserve(&mut table.as_mut().entries, additional);
+    put(t, table);
+    answer
+}
+
+fn reserve(entries: &mut Entries, additional: usize) -> u32
+    ensures { Reserves additional result entries.old entries.new }
+{
+    match entries.reserve(additional) {
+        Ok(()) => OK,
+        Err(AllocError) => MEMORY,
+    }
 }
