@@ -42,6 +42,10 @@ uint32_t iddqd_multi_len(iddqd_multi *table, size_t *count);
 /* Forgets all items, and keeps the memory of the table. The next index is 0. OK. */
 uint32_t iddqd_multi_clear(iddqd_multi *table);
 
+/* Makes room in the table for so many more items, or for as many as there can be. OK. MEMORY: the items stay. With room
+ * for n items the next n inserts need memory for the copies of their byte keys alone. */
+uint32_t iddqd_multi_reserve(iddqd_multi *table, size_t additional);
+
 /* Inserts an item, with a copy of the key. OK: *at is its index. DUPLICATE: *at is the index of the item that has the
  * byte key. FULL. MEMORY. Neither DUPLICATE nor FULL needs memory. */
 uint32_t iddqd_multi_insert(iddqd_multi *table, const uint8_t *key, size_t len, uint64_t second, uint64_t value,

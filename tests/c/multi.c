@@ -54,6 +54,7 @@ static void check_no_table(iddqd_multi *table) {
     CHECK(iddqd_multi_count(table, 1, &count) == IDDQD_HANDLE);
     CHECK(iddqd_multi_remove_group(table, 1, &count) == IDDQD_HANDLE);
     CHECK(iddqd_multi_len(table, &count) == IDDQD_HANDLE && iddqd_multi_clear(table) == IDDQD_HANDLE);
+    CHECK(iddqd_multi_reserve(table, 1) == IDDQD_HANDLE);
     CHECK(index == 77 && count == 77 && is_no_row(&row) && is_no_row(&rows[0]) && is_no_row(&rows[1]));
     CHECK(table->state == was.state && table->at == was.at);
 }
@@ -142,7 +143,7 @@ static void check_group(void) {
     iddqd_row row = NO_ROW;
     uint32_t index;
     size_t count;
-    CHECK(iddqd_multi_new(&table, 1, 2) == IDDQD_OK);
+    CHECK(iddqd_multi_new(&table, 1, 2) == IDDQD_OK && iddqd_multi_reserve(&table, GROUP) == IDDQD_OK);
     for (uint32_t i = 0; i < GROUP + OTHERS; i++) {
         CHECK(insert(&table, i, i % 3 == 2 ? 6 + 2 * (i % 2) : 7, 10 * (uint64_t)i, &index) == IDDQD_OK);
         CHECK(index == i);
