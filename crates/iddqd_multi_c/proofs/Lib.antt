@@ -1,4 +1,5 @@
 mod Words
 pub mod AnswerLemmas
+pub mod CallLemmas
 pub mod FillLemmas
 pub mod InsertLemmas

@@ -11,6 +11,7 @@
 #![tactic(auto)]
 
 mod bytes;
+mod calls;
 mod code;
 mod entry;
 mod finds;
