@@ -1,5 +1,5 @@
 //! Callers of the maps and of keyed items, a module each. All are proved. The program prints what those answer that
-//! have a `line`; `board`, `depot`, `diary`, `hall`, `intake` and `lockers` are proved only.
+//! have a `line`; `board`, `diary`, `hall`, `intake` and `lockers` are proved only.
 #![tactic(auto)]
 
 mod appointments;
@@ -7,7 +7,6 @@ mod artifacts;
 mod badges;
 mod board;
 mod calendar;
-mod depot;
 mod devices;
 mod diary;
 mod guests;

@@ -1,17 +1,26 @@
-//! Refusals, by what they mean to a caller: a duplicate is merged, and where room was taken ahead memory isn't refused.
-ghost use Rattle.std.specs.Prelude.{◌≡◌, ◌≤◌, ◌==◌, ◌⊎◌, ℕ, Some, length, IsOk, IfOk, IfErr, IfSome, OnOk, OnErr};
+//! A stock of parts in an `IdHashMap`, an item for each kind. A duplicate is merged, parts are taken and exchanged, and
+//! memory isn't refused where room was reserved ahead.
+ghost use Rattle.std.specs.Prelude.{◌≡◌, ◌⊎◌, ◌≤◌, ◌==◌, ◌↔◌, ℕ, false, true, length, min, Some, IsOk, IfOk, IfErr, IfSome, OnOk, OnErr};
 ghost use Rattle.std.specs.Bool.{OnTrue, OnFalse};
-ghost use Rattle.iddqd_maps.specs.Map.{FindsItem, IsOnly, room};
+ghost use Rattle.iddqd_maps.specs.Bulk.{inserted_all};
+ghost use Rattle.iddqd_maps.specs.Compaction.{compacted};
+ghost use Rattle.iddqd_maps.specs.LiveItems.{live_items, live_pairs};
+ghost use Rattle.iddqd_maps.specs.Map.{FindsItem, IsOnly, RemovesAt, empty_map, room};
+ghost use Rattle.iddqd_maps.specs.OneKey.{IsTaken};
 ghost use Rattle.iddqd_maps.specs.Scan.{HasNoHit, IsHit};
-ghost use Rattle.iddqd_maps.specs.Store.{IsFull, get, inserted, next_index, rebound};
+ghost use Rattle.iddqd_maps.specs.Sizes.{insertable};
+ghost use Rattle.iddqd_maps.specs.Store.{IsFull, cleared, empty, empty_within, get, inserted, live_count, next_index, rebound, slot_limit};
 ghost use Rattle.iddqd_maps.specs.Validation.{Tells, Validates, not_compact_text};
-ghost use Rattle.uses.specs.Exchanges.{Exchanges};
-ghost use Rattle.uses.specs.Stock.{has_kind, same_kind, sum_of, with_one_less};
+ghost use Rattle.uses.specs.Exchanges.{Exchanges, IsWhyNot, IsWhyNotAt, IsWhyNotTakenOver, TakesOverOne};
+ghost use Rattle.uses.specs.Stock.{has_kind, same_kind, sum_of, with_count, with_one_less};
+ghost use Rattle.uses.specs.Updates.{UpdatesAt};
 ghost use Rattle.uses.specs.declared.stock.Part.{Part};
 
+use crate::hashers::Base31;
+use iddqd_maps::item_set::{IntoValues, Iter, Values};
 use iddqd_maps::{
-    Here, IdHashItem, IdHashMap, InsertRefusal, ItemIndex, ValidateCompact, ValidateRefusal,
-    ValidationError,
+    Here, IdHashItem, IdHashMap, InsertRefusal, ItemIndex, OverwriteRefusal, ReplaceRefusal,
+    ValidateCompact, ValidateRefusal, ValidationError,
 };
 use std::alloc::{AllocError, Global};
 
@@ -32,9 +41,54 @@ impl IdHashItem for Part {
     }
 }
 
+type Stock = IdHashMap<Part>;
+
+/// An empty stock with room for so many kinds, or for as many as there are indexes.
+pub fn with_room(alloc: Global, kinds: usize) -> Result<Stock, AllocError>
+    ensures none { IfOk result (λ stock. stock.store ≡ empty) }
+    ensures room { IfOk result (λ stock. min kinds slot_limit ≤ room stock) }
+{
+    IdHashMap::with_capacity(alloc, kinds)
+}
+
+/// An empty stock for at most so many kinds, with room for some of them.
+pub fn within_with_room(alloc: Global, limit: u32, kinds: usize) -> Result<Stock, AllocError>
+    ensures none { IfOk result (λ stock. stock.store ≡ empty_within limit) }
+    ensures room { IfOk result (λ stock. min kinds limit ≤ room stock) }
+{
+    IdHashMap::with_limit_and_capacity(alloc, limit, kinds)
+}
+
+/// A stock of two parts, unless they are of one kind.
+pub fn of_two(alloc: Global, parts: [Part; 2]) -> Result<Stock, InsertRefusal<Part, ItemIndex>>
+    ensures parts { IfOk result (λ stock. stock.store ≡ inserted_all empty parts) }
+    ensures count { IfOk result (λ stock. live_count stock.store ≡ 2) }
+{
+    IdHashMap::from_array(alloc, parts)
+}
+
+/// The same under a hasher of one's own.
+pub fn hashed_with_room(
+    alloc: Global,
+    kinds: usize,
+    hasher: Base31,
+) -> Result<IdHashMap<Part, Base31>, AllocError>
+    ensures none { IfOk result (λ stock. stock.store ≡ empty) }
+    ensures room { IfOk result (λ stock. min kinds slot_limit ≤ room stock) }
+{
+    IdHashMap::with_capacity_and_hasher(alloc, hasher, kinds)
+}
+
+/// A stock for at most so many kinds, under a hasher of one's own.
+pub fn hashed_within(alloc: Global, limit: u32, hasher: Base31) -> IdHashMap<Part, Base31>
+    ensures { result ≡ empty_map limit }
+{
+    IdHashMap::with_limit_and_hasher(alloc, hasher, limit)
+}
+
 /// Adds a part, or returns the index of the part of its kind. The caller has reserved room, so neither the limit nor
 /// memory refuses it.
-pub fn add(stock: &mut IdHashMap<Part>, part: Part) -> Result<ItemIndex, ItemIndex>
+pub fn add(stock: &mut Stock, part: Part) -> Result<ItemIndex, ItemIndex>
     requires { 1 ≤ room stock.old }
     ensures index { IfOk result (λ ix. ix ≡ next_index stock.old.store) }
     ensures stored { OnOk result (stock.new.store ≡ inserted stock.old.store part) }
@@ -50,7 +104,7 @@ pub fn add(stock: &mut IdHashMap<Part>, part: Part) -> Result<ItemIndex, ItemInd
 
 /// Adds a part, or as many as it has to those of its kind. The part comes back if none is of its kind, and there are as
 /// many kinds as the limit allows or there is no memory.
-pub fn merge(stock: &mut IdHashMap<Part>, part: Part) -> Result<(), Part>
+pub fn merge(stock: &mut Stock, part: Part) -> Result<(), Part>
     ensures added { HasNoHit stock.old.store (same_kind part) → OnOk result
         (stock.new.store ≡ inserted stock.old.store part) }
     ensures taken { (ix : ℕ) (was : Part) → IsOnly stock.old.store (same_kind part) ix was → IsOk result }
@@ -71,7 +125,7 @@ pub fn merge(stock: &mut IdHashMap<Part>, part: Part) -> Result<(), Part>
 }
 
 /// The part of a kind, which has that kind; none exactly where there is none.
-pub fn part_of_kind(stock: &IdHashMap<Part>, kind: u32) -> Option<Part>
+pub fn part_of_kind(stock: &Stock, kind: u32) -> Option<Part>
     ensures found { FindsItem stock.now.store (λ part. kind == part.kind) result }
     ensures kind { IfSome result (λ part. part.kind ≡ kind) }
 {
@@ -79,7 +133,7 @@ pub fn part_of_kind(stock: &IdHashMap<Part>, kind: u32) -> Option<Part>
 }
 
 /// Takes one part of a kind, and returns whether there was one.
-pub fn take_one(stock: &mut IdHashMap<Part>, kind: u32) -> bool
+pub fn take_one(stock: &mut Stock, kind: u32) -> bool
     ensures taken { OnTrue result ((was : Part) × (1 ≤ was.count)
         × Exchanges same_kind (has_kind kind) (with_one_less was) stock.old was stock.new) }
     ensures none { OnFalse result ((ix : ℕ) (part : Part) →
@@ -104,14 +158,135 @@ pub fn take_one(stock: &mut IdHashMap<Part>, kind: u32) -> bool
 }
 
 /// Whether the parts stand under the indexes from 0 on, or why not.
-pub fn check(stock: &IdHashMap<Part>) -> Result<(), ValidateRefusal<ValidationError>>
+pub fn check(stock: &Stock) -> Result<(), ValidateRefusal<ValidationError>>
     ensures dense { Validates (length stock.now.store.free ≡ 0) result }
     ensures message { IfErr result (Tells (not_compact_text (length stock.now.store.free))) }
 {
     stock.validate(ValidateCompact::Compact)
 }
 
-fn script(alloc: Global, stock: &mut IdHashMap<Part>) -> Result<String, AllocError> {
+/// Makes room for so many more kinds, and tells how many can come without memory.
+pub fn make_room(stock: &mut Stock, more: usize) -> Result<usize, AllocError>
+    ensures room { IfOk result (λ count. min more (insertable stock.old.store) ≤ count) }
+    ensures unchanged { stock.new.store ≡ stock.old.store }
+{
+    stock.reserve(more)?;
+    Ok(stock.room())
+}
+
+/// Closes the gaps, and gives back all memory that the parts don't need. If memory runs out for it, the parts stay as
+/// they were, or the gaps are closed already.
+pub fn pack(stock: &mut Stock) -> Result<(), AllocError>
+    ensures parts { OnOk result (stock.new.store ≡ compacted stock.old.store) }
+    ensures memory { OnOk result (room stock.new ≡ 0) }
+    ensures refused { OnErr result
+        ((stock.new ≡ stock.old) ⊎ (stock.new.store ≡ compacted stock.old.store)) }
+{
+    stock.compact()?;
+    stock.shrink_to_fit()
+}
+
+/// Forgets all parts, and tells that none is left.
+pub fn clear_out(stock: &mut Stock) -> bool
+    ensures parts { stock.new.store ≡ cleared stock.old.store }
+    ensures memory { room stock.old ≤ room stock.new }
+    ensures empty { result ≡ true }
+{
+    stock.clear();
+    stock.is_empty()
+}
+
+/// Whether the stock has an item of this kind, even if its count is 0.
+pub fn has_kind(stock: &Stock, kind: u32) -> bool
+    ensures { (result ≡ false) ↔ HasNoHit stock.now.store (λ part. kind == part.kind) }
+{
+    stock.contains_key(&kind)
+}
+
+/// The part at an index.
+pub fn part_at(stock: &Stock, ix: ItemIndex) -> Option<Part>
+    ensures { result ≡ get stock.now.store ix }
+{
+    stock.get_at(ix).copied()
+}
+
+/// Sets how many parts of a kind there are, and hands back what there were.
+pub fn set(
+    stock: &mut Stock,
+    part: Part,
+) -> Result<(ItemIndex, Option<Part>), OverwriteRefusal<Part>>
+    ensures set { IfOk result (λ set. TakesOverOne same_kind part stock.old set.0 set.1 stock.new) }
+    ensures refused { IfErr result (IsWhyNotTakenOver same_kind part stock.old) }
+    ensures unchanged { OnErr result (stock.new.store ≡ stock.old.store) }
+{
+    stock.insert_overwrite(part)
+}
+
+/// Sets the count of the item at an index; returns `None` if and only if no item is there.
+pub fn count_at(stock: &mut Stock, ix: ItemIndex, count: u32) -> Option<()>
+    ensures { UpdatesAt stock.old ix (with_count count) result stock.new }
+{
+    stock.modify_at(ix, |part| part.count = count)
+}
+
+/// Puts a part in the place of that of a kind, which is handed back. It is refused exactly where there is none, or
+/// another part is of the new one's kind.
+pub fn exchange(
+    stock: &mut Stock,
+    kind: u32,
+    part: Part,
+) -> Result<Part, ReplaceRefusal<Part, ItemIndex>>
+    ensures exchanged { IfOk result
+        (λ was. Exchanges same_kind (has_kind kind) part stock.old was stock.new) }
+    ensures refused { IfErr result (IsWhyNot (IsTaken same_kind) false (has_kind kind) part stock.old) }
+    ensures unchanged { OnErr result (stock.new ≡ stock.old) }
+{
+    stock.replace(&kind, part)
+}
+
+/// Puts a part in the place of that at an index, in the same way.
+pub fn exchange_at(
+    stock: &mut Stock,
+    ix: ItemIndex,
+    part: Part,
+) -> Result<Part, ReplaceRefusal<Part, ItemIndex>>
+    ensures was { IfOk result (λ was. get stock.old.store ix ≡ Some was) }
+    ensures exchanged { OnOk result (stock.new.store ≡ rebound stock.old.store ix part) }
+    ensures refused { IfErr result (IsWhyNotAt (IsTaken same_kind) false ix part stock.old) }
+    ensures unchanged { OnErr result (stock.new ≡ stock.old) }
+{
+    stock.replace_at(ix, part)
+}
+
+/// Takes the part at an index, if there is one. All others stay.
+pub fn take_at(stock: &mut Stock, ix: ItemIndex) -> Option<Part>
+    ensures { RemovesAt stock.old ix result stock.new }
+{
+    stock.remove_at(ix)
+}
+
+/// The indexes with their parts.
+pub fn places(stock: &Stock) -> Iter<'_, Part>
+    ensures { result ≡ live_pairs stock.now.store }
+{
+    stock.iter()
+}
+
+/// The parts, in the order of their indexes.
+pub fn parts(stock: &Stock) -> Values<'_, Part>
+    ensures { result ≡ live_items stock.now.store }
+{
+    stock.values()
+}
+
+/// The parts by value, in the order of their indexes.
+pub fn into_parts(stock: Stock) -> IntoValues<Part>
+    ensures { result ≡ live_items stock.store }
+{
+    stock.into_values()
+}
+
+fn script(alloc: Global, stock: &mut Stock) -> Result<String, AllocError> {
     let first = merge(stock, Part { kind: 4, count: 2 });
     let second = merge(stock, Part { kind: 4, count: 3 });
     let count = part_of_kind(stock, 4);
