@@ -1,5 +1,5 @@
 //! Callers of the maps and of keyed items, a module each. All are proved. The program prints what those answer that
-//! have a `line`; `board`, `diary`, `hall`, `intake` and `lockers` are proved only.
+//! have a `line`; `board`, `diary`, `intake` and `lockers` are proved only.
 #![tactic(auto)]
 
 mod appointments;
@@ -10,7 +10,6 @@ mod calendar;
 mod devices;
 mod diary;
 mod guests;
-mod hall;
 mod handles;
 mod hashers;
 mod intake;
