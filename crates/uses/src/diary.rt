@@ -1,5 +1,5 @@
-//! A diary of appointments: further calls of keyed items, beside those of `calendar` and `guests`, and what each
-//! promises.
+//! A diary of appointments: keyed items without the ghost fields of `calendar`, so a clause that says where a look-up
+//! misses asks whether the table is in sync.
 ghost use Rattle.std.specs.Prelude.{◌≡◌, ◌↔◌, ◌≤◌, ◌+◌, IsTrue, None, IfNone, IfSome, OnSome, IfOk, OnOk, MatchOption, filter, min, nat_le};
 ghost use Rattle.std.specs.Bool.{OnTrue, OnFalse};
 ghost use Rattle.iddqd_maps.specs.LiveItems.{live_pairs};
