@@ -3,25 +3,22 @@ use Rattle.std.proofs.Common.{◌≡◌, ◌∙◌, ◌+◌, ◌<◌, ◌≤◌,
 use Rattle.std.specs.Prelude.{take, drop}
 use Rattle.std.proofs.Math.Seq.{set-append_seam}
 use Rattle.std.proofs.lemmas.List.{append_assoc, drop_more, length_push, take_all, take_more}
-use lib.Pointwise.{pointwise}
-use Rattle.std.proofs.Common.{Vec, nat_cmp}
-use Rattle.std.specs.Global.{Global}
-use Rattle.std.specs.Hash.{slice}
+use Rattle.std.proofs.Common.{nat_cmp}
 use Rattle.std.specs.contracts.prelude.DefaultHasherHasher.TheImpl as hasher
-use Rattle.std.specs.contracts.prelude.U8Hash.TheImpl as hash
-use Rattle.std.specs.contracts.prelude.U8PartialEq.TheImpl as equality
 use Rattle.std.specs.contracts.random_state.RandomStateBuildHasher.TheImpl as builder
 use Rattle.std.specs.declared.random_state.RandomState.{RandomState}
 use Rattle.iddqd_driver.specs.Keys.{Keys, keys_of}
 use Rattle.iddqd_c.specs.Rows.{AreAlike}
 use Rattle.iddqd_c.specs.contracts.entry.EntryKeyedItem.TheImpl as entry
+use Rattle.iddqd_c.specs.contracts.key.KeyHash.TheImpl as hash
+use Rattle.iddqd_c.specs.contracts.key.KeyPartialEq.TheImpl as equality
 use Rattle.iddqd_c.specs.declared.entry.Entry.{Entry}
+use Rattle.iddqd_c.specs.declared.key.Key.{Key}
 
 -- the keys of entries, as clauses name them
-abbrev pub entry_keys : Keys Entry (Vec ℕ Global) ℕ RandomState
+abbrev pub entry_keys : Keys Entry Key ℕ RandomState
 entry_keys =
-    keys_of entry.ghosts (λ x y. pointwise equality.ghosts.eq x.items y.items)
-    (λ v. slice hash.ghosts.hash_input v.items) nat_cmp builder.ghosts hasher.ghosts
+    keys_of entry.ghosts equality.ghosts.eq hash.ghosts.hash_input nat_cmp builder.ghosts hasher.ghosts
 
 module _ {X Y : Type 0} (P : X → Y → Type 0) where
   AreAlike-push :

@@ -1,8 +1,6 @@
 -- What a replacement answers, from what the calls that it makes answer.
-use Rattle.std.proofs.Common.{◌≡◌, ◌∙◌, ℕ, Bool, List, Option, Some, None, Err, inl, inr, sym, ap, subst}
-use Rattle.std.specs.Hash.{slice}
+use Rattle.std.proofs.Common.{◌≡◌, ◌∙◌, ℕ, Bool, List, [], ◌∷◌, Option, Some, None, Err, inl, inr, sym, ap, subst}
 use Rattle.std.specs.contracts.prelude.DefaultHasherHasher.TheImpl as hasher
-use Rattle.std.specs.contracts.prelude.U8Hash.TheImpl as hash
 use Rattle.std.specs.contracts.random_state.RandomStateBuildHasher.TheImpl as builder
 use Rattle.std.specs.declared.random_state.RandomState.{RandomState}
 use Rattle.iddqd.specs.MapHash.{hash_one}
@@ -57,7 +55,7 @@ module _ {S K1 : Type 0} (keys : Keys Entry K1 ℕ S) where
   -- entries whose first keys have the same bytes have the same hash in this state
   abbrev pub HashesBytes : State Entry S → Type 0
   HashesBytes s =
-      (x y : Entry) → x.first.items ≡ y.first.items → hash_in keys s (keys.first x) ≡ hash_in keys s (keys.first y)
+      (x y : Entry) → x.first.bytes.items ≡ y.first.bytes.items → hash_in keys s (keys.first x) ≡ hash_in keys s (keys.first y)
 
   module _ (s : State Entry S) (ix : ℕ) (bytes : List ℕ) (second : ℕ) (test : K1 → Bool)
       (stands : StandsForBytes keys bytes test) (live : IsLive s.store ix) where
@@ -113,4 +111,4 @@ module _ {S K1 : Type 0} (keys : Keys Entry K1 ℕ S) where
 -- a first key's hash is that of its bytes
 pub hashes_bytes : (s : State Entry RandomState) → HashesBytes entry_keys s
 hashes_bytes s x y same =
-    ap (λ bytes. hash_one builder.ghosts hasher.ghosts s.hasher (slice hash.ghosts.hash_input bytes)) same
+    ap (λ bytes. hash_one builder.ghosts hasher.ghosts s.hasher (bytes ∷ [])) same

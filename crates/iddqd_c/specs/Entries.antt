@@ -27,7 +27,7 @@ use Rattle.iddqd_c.specs.Rows.{AreAlike, CopiesBytes, SaysRow, ReportsRow, entry
 
 -- the entry's first key has these bytes
 abbrev pub HasBytes : List ℕ → Entry → Type 0
-HasBytes bytes entry = entry.first.items ≡ bytes
+HasBytes bytes entry = entry.first.bytes.items ≡ bytes
 
 -- the entry has these keys and this value
 pub record IsEntry (bytes : List ℕ) (second value : ℕ) (entry : Entry) : Type 0 where
@@ -204,7 +204,7 @@ Counts code count k = (code ≡ OK) × (count ≡ live_count k.state.store)
 
 -- the bytes of an entry's first key in a buffer, if there is an entry
 abbrev pub CopiesKey : Option Entry → ℕ → ℕ → List ℕ → List ℕ → Type 0
-CopiesKey (Some entry) code count was buffer = CopiesBytes entry.first.items code count was buffer
+CopiesKey (Some entry) code count was buffer = CopiesBytes entry.first.bytes.items code count was buffer
 CopiesKey None code count was buffer = code ≡ MISSING
 
 -- what a read of a first key answers

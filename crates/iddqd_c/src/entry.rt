@@ -2,6 +2,7 @@
 ghost use Rattle.std.specs.Prelude.{◌≡◌};
 ghost use Rattle.iddqd_c.specs.Rows.{row_of};
 
+use crate::key::Key;
 use iddqd::item_index::ItemIndex;
 use iddqd_driver::keyed_item::KeyedItem;
 use iddqd_driver::keyed_items::KeyedItems;
@@ -11,13 +12,13 @@ use std::hash::RandomState;
 /// order.
 #[derive(Drop)]
 pub struct Entry {
-    pub first: Vec<u8>,
+    pub first: Key,
     pub second: u64,
     pub value: u64,
 }
 
 impl KeyedItem for Entry {
-    type Key1 = Vec<u8>;
+    type Key1 = Key;
 
     type Key2 = u64;
 
@@ -25,7 +26,7 @@ impl KeyedItem for Entry {
 
     ghost second_key = { λ entry. entry.second };
 
-    fn key1(&self) -> &Vec<u8> {
+    fn key1(&self) -> &Key {
         &self.first
     }
 

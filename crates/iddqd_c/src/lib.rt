@@ -16,5 +16,6 @@ mod code;
 mod entry;
 mod handle;
 mod index;
+mod key;
 mod keyed;
 mod table;

@@ -44,7 +44,7 @@ fn key_at(table: &Table, index: u32, key: &mut [u8], len: &mut usize) -> u32
 {
     match table {
         Table::Keyed(items) => match items.get(ItemIndex::new(index)) {
-            Some(entry) => copy(entry.first.as_slice(), key, len),
+            Some(entry) => copy(entry.first.bytes.as_slice(), key, len),
             None => MISSING,
         },
         Table::Index(_) => HANDLE,

@@ -11,6 +11,7 @@ ghost use Rattle.iddqd_c.specs.Rows.{number_of};
 use crate::code::{DUPLICATE, FULL, HANDLE, MEMORY, OK};
 use crate::entry::{Conflict, Entries, Entry};
 use crate::handle::{CTable, put, take};
+use crate::key::{Key, KeyQuery};
 use crate::table::Table;
 use iddqd::item_index::ItemIndex;
 use iddqd_driver::keyed_items::{InsertRefusal, Keyed};
@@ -82,16 +83,19 @@ fn store(
     ensures at_kept { result ≢ OK → at.new ≡ at.old }
     ensures found_kept { result ≢ DUPLICATE → found.new ≡ found.old }
 {
-    let (found1, found2) = (items.find1_by(key), items.find2(&second));
+    let (found1, found2) = (
+        items.find1_by(KeyQuery { bytes: key }),
+        items.find2(&second),
+    );
     if found1.is_some() || found2.is_some() {
         *found = conflict_of(found1, found2);
         return DUPLICATE;
     }
-    let Ok(first) = Vec::from_slice(alloc, key) else {
+    let Ok(bytes) = Vec::from_slice(alloc, key) else {
         return MEMORY;
     };
     match items.insert(Entry {
-        first,
+        first: Key { bytes },
         second,
         value,
     }) {

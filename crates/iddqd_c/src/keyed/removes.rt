@@ -8,6 +8,7 @@ ghost use Rattle.iddqd_c.specs.Rows.{SaysRow};
 use crate::code::{HANDLE, MISSING, OK};
 use crate::entry::{Entries, Entry, Row};
 use crate::handle::{CTable, put, take};
+use crate::key::KeyQuery;
 use crate::table::Table;
 use iddqd::item_index::ItemIndex;
 use iddqd_driver::keyed_items::Keyed;
@@ -85,7 +86,7 @@ fn remove1(table: &mut Table, key: &[u8], row: &mut Row) -> u32
     ensures kept { result ≢ OK → row.new ≡ row.old }
 {
     match table {
-        Table::Keyed(items) => report(items.remove1_by(key), row),
+        Table::Keyed(items) => report(items.remove1_by(KeyQuery { bytes: key }), row),
         Table::Index(_) => HANDLE,
     }
 }

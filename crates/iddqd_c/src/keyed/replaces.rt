@@ -12,6 +12,7 @@ use super::inserts::conflict_of;
 use crate::code::{DUPLICATE, HANDLE, MEMORY, MISSING, OK};
 use crate::entry::{Conflict, Entries, Entry};
 use crate::handle::{CTable, put, take};
+use crate::key::{Key, KeyQuery};
 use crate::table::Table;
 use iddqd::item_index::ItemIndex;
 use iddqd_driver::keyed_items::{Keyed, ReplaceRefusal};
@@ -88,17 +89,17 @@ fn rebind(
     if items.get(ix).is_none() {
         return MISSING;
     }
-    let first_at = other_than(ix, items.find1_by(key));
+    let first_at = other_than(ix, items.find1_by(KeyQuery { bytes: key }));
     let second_at = other_than(ix, items.find2(&second));
     if first_at.is_some() || second_at.is_some() {
         *found = conflict_of(first_at, second_at);
         return DUPLICATE;
     }
-    let Ok(first) = Vec::from_slice(alloc, key) else {
+    let Ok(bytes) = Vec::from_slice(alloc, key) else {
         return MEMORY;
     };
     let new = Entry {
-        first,
+        first: Key { bytes },
         second,
         value,
     };

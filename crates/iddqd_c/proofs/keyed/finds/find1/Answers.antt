@@ -13,6 +13,6 @@ returns-in-Keyed-clause-finds c =
       says = c.report.ensures.says;
       live = hit_lives c.in-Keyed.items.state.store _ _ looked.hit;
       step = λ entry has.
-          Step-found1 _ _ entry.first ((bytes_decides _ _).1 (sym has)) (λ i key. bytes_eq (sym has i) key.items) _ _
+          Step-found1 _ _ entry.first ((bytes_decides _ _).1 (sym has)) (λ i key. bytes_eq (sym has i) key.bytes.items) _ _
           c.len-count.ensures.paired looked;
     })

@@ -17,7 +17,7 @@ returns-then-is_some-clause-inserts c =
     in
     let each =
     refuses_each _ c.args.items.now.state c.find2-found2.ensures.paired c.args.key.now c.args.second c.args.value _
-    (record { passes = λ entry has. (bytes_decides _ _).1 (sym has); alike = λ entry has i key. bytes_eq (sym has i) key.items })
+    (record { passes = λ entry has. (bytes_decides _ _).1 (sym has); alike = λ entry has i key. bytes_eq (sym has i) key.bytes.items })
     (λ _. refl) _ _ (λ entry. Duplicate entry _ _) c.find1_by-found1.ensures c.find2-found2.ensures.found (λ _. refl)
     (λ _. (refl, found))
     in
@@ -30,7 +30,7 @@ returns-in_default-clause-inserts c =
     inr (inr (inr (
       refl,
       runs_out _ c.args.items.now.state c.find2-found2.ensures.paired c.args.key.now c.args.second c.args.value _
-          (record { passes = λ entry has. (bytes_decides _ _).1 (sym has); alike = λ entry has i key. bytes_eq (sym has i) key.items })
+          (record { passes = λ entry has. (bytes_decides _ _).1 (sym has); alike = λ entry has i key. bytes_eq (sym has i) key.bytes.items })
           (λ _. refl) looked1 looked2,
     )))
 
@@ -40,7 +40,7 @@ returns-in-Ok-insert-clause-inserts c =
     inl (
       refl,
       (
-        record { first = c.in-Ok.first; second = c.args.second; value = c.args.value },
+        record { first = record { bytes = c.in-Ok.bytes }; second = c.args.second; value = c.args.value },
         record { has_bytes = c.in-Ok.ensures.items; has_second = refl; has_value = refl },
         Step-keeping _ _ _ _ _ out.keeps out.inserts out.tells.first out.tells.second,
       ),
@@ -52,7 +52,7 @@ returns-in-Err-clause-inserts c =
     let looked2 = rw (none_of _ (sym c.if-is_some-2.ensures)) at c.find2-found2.ensures.found in
     let out = c.in-Err.ensures in
     refused_by _ c.args.items.now.state c.find2-found2.ensures.paired c.args.key.now c.args.second c.args.value _
-    (record { passes = λ entry has. (bytes_decides _ _).1 (sym has); alike = λ entry has i key. bytes_eq (sym has i) key.items })
-    (λ _. refl) (record { first = c.in-Ok.first; second = c.args.second; value = c.args.value })
+    (record { passes = λ entry has. (bytes_decides _ _).1 (sym has); alike = λ entry has i key. bytes_eq (sym has i) key.bytes.items })
+    (λ _. refl) (record { first = record { bytes = c.in-Ok.bytes }; second = c.args.second; value = c.args.value })
     (record { has_bytes = c.in-Ok.ensures.items; has_second = refl; has_value = refl }) looked1 looked2
     _ c.insert.new.self _ _ _ _ c.report.ensures.says out.inserts out.tells out.memory.refused_early

@@ -11,7 +11,7 @@ returns-in-Keyed-clause-removes c =
       removed = c.remove1_by.result;
       says = c.report.ensures.says;
       step = λ entry has.
-          Step-removed1 _ _ entry.first ((bytes_decides _ _).1 (sym has)) (λ i key. bytes_eq (sym has i) key.items) _ _ _
+          Step-removed1 _ _ entry.first ((bytes_decides _ _).1 (sym has)) (λ i key. bytes_eq (sym has i) key.bytes.items) _ _ _
           out.keeps out.removes;
       memory = out.memory;
     })

@@ -18,7 +18,7 @@ returns-then-is_some-clause-replaces c =
     ]
     in
     let hits = hits_others entry_keys c.args.items.now.state c.args.index c.args.key.now c.args.second _
-    (record { passes = λ entry has. (bytes_decides _ _).1 (sym has); alike = λ entry has i key. bytes_eq (sym has i) key.items })
+    (record { passes = λ entry has. (bytes_decides _ _).1 (sym has); alike = λ entry has i key. bytes_eq (sym has i) key.bytes.items })
     live _ _ _ _ c.find1_by.ensures c.find2.ensures.found (rw c.new-ix.ensures at c.other_than-first_at.ensures)
     (rw c.new-ix.ensures at c.other_than-second_at.ensures)
     in
@@ -30,7 +30,7 @@ returns-in_default-clause-replaces c =
     let reports1 = rw (c.new-ix.ensures, none_of _ (sym c.if-is_some.ensures)) at c.other_than-first_at.ensures in
     let reports2 = rw (c.new-ix.ensures, none_of _ (sym c.if-is_some-2.ensures)) at c.other_than-second_at.ensures in
     let hits = hits_others entry_keys c.args.items.now.state c.args.index c.args.key.now c.args.second _
-    (record { passes = λ entry has. (bytes_decides _ _).1 (sym has); alike = λ entry has i key. bytes_eq (sym has i) key.items })
+    (record { passes = λ entry has. (bytes_decides _ _).1 (sym has); alike = λ entry has i key. bytes_eq (sym has i) key.bytes.items })
     live _ _ None None c.find1_by.ensures c.find2.ensures.found reports1 reports2
     in
     inr (inr (inr (refl, hits, refl)))
@@ -41,7 +41,7 @@ returns-in-Ok-replace-clause-replaces c =
     let reports1 = rw (c.new-ix.ensures, none_of _ (sym c.if-is_some.ensures)) at c.other_than-first_at.ensures in
     let reports2 = rw (c.new-ix.ensures, none_of _ (sym c.if-is_some-2.ensures)) at c.other_than-second_at.ensures in
     let hits = hits_others entry_keys c.args.items.now.state c.args.index c.args.key.now c.args.second _
-    (record { passes = λ entry has. (bytes_decides _ _).1 (sym has); alike = λ entry has i key. bytes_eq (sym has i) key.items })
+    (record { passes = λ entry has. (bytes_decides _ _).1 (sym has); alike = λ entry has i key. bytes_eq (sym has i) key.bytes.items })
     live _ _ None None c.find1_by.ensures c.find2.ensures.found reports1 reports2
     in
     let out = rw c.new-ix.ensures at c.in-Ok-replace.ensures in
@@ -49,7 +49,7 @@ returns-in-Ok-replace-clause-replaces c =
       refl,
       hits,
       (
-        record { first = c.in-Ok.first; second = c.args.second; value = c.args.value },
+        record { first = record { bytes = c.in-Ok.bytes }; second = c.args.second; value = c.args.value },
         c.in-Ok-replace._was,
         record { has_bytes = c.in-Ok.ensures.items; has_second = refl; has_value = refl },
         out.replaces.replaced,
@@ -63,12 +63,12 @@ returns-in-Err-clause-replaces c =
     let reports1 = rw (c.new-ix.ensures, none_of _ (sym c.if-is_some.ensures)) at c.other_than-first_at.ensures in
     let reports2 = rw (c.new-ix.ensures, none_of _ (sym c.if-is_some-2.ensures)) at c.other_than-second_at.ensures in
     let stands : StandsForBytes entry_keys c.args.key.now _ =
-    record { passes = λ entry has. (bytes_decides _ _).1 (sym has); alike = λ entry has i key. bytes_eq (sym has i) key.items } in
+    record { passes = λ entry has. (bytes_decides _ _).1 (sym has); alike = λ entry has i key. bytes_eq (sym has i) key.bytes.items } in
     let hits = hits_others entry_keys c.args.items.now.state c.args.index c.args.key.now c.args.second _ stands
     live _ _ None None c.find1_by.ensures c.find2.ensures.found reports1 reports2
     in
     let out = rw c.new-ix.ensures at c.in-Err.ensures in
     refused entry_keys c.args.items.now.state c.args.index c.args.key.now c.args.second _ stands live c.args.value
-    (record { first = c.in-Ok.first; second = c.args.second; value = c.args.value }) _ _ _ c.args.items.now c.replace.new.self
+    (record { first = record { bytes = c.in-Ok.bytes }; second = c.args.second; value = c.args.value }) _ _ _ c.args.items.now c.replace.new.self
     refl (record { has_bytes = c.in-Ok.ensures.items; has_second = refl; has_value = refl }) (hashes_bytes c.args.items.now.state) (λ _. refl) hits
     c.report.ensures.says out.replaces (λ i. record { state = out.replaces.unchanged i; memory = out.memory i })

@@ -1,0 +1,85 @@
+//! First keys, and what they are looked up by.
+//!
+//! Both pass all bytes to the hasher in one call. The `Hash` of a `Vec<u8>` passes each byte in a call of its own, and
+//! takes five times the instructions for 16 bytes.
+ghost use Rattle.std.specs.Prelude.{◌≡◌, [], ◌∷◌};
+ghost use Rattle.std.proofs.Common.{ap};
+ghost use Rattle.std.specs.Cmp.{on_equiv, partial_equiv_from_equiv};
+ghost use Rattle.std.specs.Cmp.Lexicographic.{bytes_decides, nat_list_eq_equiv};
+ghost use Rattle.std.specs.Str.{bytes_eq};
+
+use iddqd_keys::hash_query::HashQuery;
+use std::hash::{Hash, Hasher};
+
+/// The first key of an entry: any bytes.
+#[derive(Drop)]
+pub struct Key {
+    pub bytes: Vec<u8>,
+}
+
+impl PartialEq for Key {
+    ghost eq = { λ x y. bytes_eq x.bytes.items y.bytes.items };
+
+    ghost laws = { partial_equiv_from_equiv (on_equiv (λ key. key.bytes.items) nat_list_eq_equiv) };
+
+    fn eq(&self, other: &Key) -> bool {
+        self.bytes.as_slice() == other.bytes.as_slice()
+    }
+}
+
+impl Eq for Key {
+    ghost laws = { on_equiv (λ key. key.bytes.items) nat_list_eq_equiv };
+}
+
+impl Hash for Key {
+    ghost hash_input = { λ key. key.bytes.items ∷ [] };
+
+    ghost respects_eq = { λ x y same. ap (λ bytes. bytes ∷ []) ((bytes_decides x.bytes.items y.bytes.items).0 same) };
+
+    fn hash<H: Hasher>(&self, state: &mut H) {
+        state.write(self.bytes.as_slice());
+    }
+}
+
+/// Stands for the key with these bytes, in a buffer of the caller's.
+#[derive(Clone, Copy)]
+pub struct KeyQuery<'a> {
+    pub bytes: &'a [u8],
+}
+
+impl PartialEq for KeyQuery<'_> {
+    ghost eq = { λ x y. bytes_eq x.bytes.now y.bytes.now };
+
+    ghost laws = { partial_equiv_from_equiv (on_equiv (λ query. query.bytes.now) nat_list_eq_equiv) };
+
+    fn eq(&self, other: &Self) -> bool {
+        self.bytes == other.bytes
+    }
+}
+
+impl Eq for KeyQuery<'_> {
+    ghost laws = { on_equiv (λ query. query.bytes.now) nat_list_eq_equiv };
+}
+
+impl Hash for KeyQuery<'_> {
+    ghost hash_input = { λ query. query.bytes.now ∷ [] };
+
+    ghost respects_eq = { λ x y same. ap (λ bytes. bytes ∷ []) ((bytes_decides x.bytes.now y.bytes.now).0 same) };
+
+    fn hash<H: Hasher>(&self, state: &mut H) {
+        state.write(self.bytes);
+    }
+}
+
+impl HashQuery<Key> for KeyQuery<'_> {
+    ghost stands_for = { λ query key. bytes_eq query.bytes.now key.bytes.items };
+
+    ghost same_hash = { λ query key same.
+        ap (λ bytes. bytes ∷ []) ((bytes_decides query.bytes.now key.bytes.items).0 same) };
+
+    ghost same_key = { λ query x y. nat_list_eq_equiv.congr query.bytes.now x.bytes.items y.bytes.items };
+
+    fn stands_for(&self, key: &Key) -> bool {
+        self.bytes == key.bytes.as_slice()
+    }
+}
