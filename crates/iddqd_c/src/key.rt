@@ -2,7 +2,7 @@
 //!
 //! Both pass all bytes to the hasher in one call. The `Hash` of a `Vec<u8>` passes each byte in a call of its own, and
 //! takes five times the instructions for 16 bytes.
-ghost use Rattle.std.specs.Prelude.{◌≡◌, [], ◌∷◌};
+ghost use Rattle.std.specs.Prelude.{[], ◌∷◌};
 ghost use Rattle.std.proofs.Common.{ap};
 ghost use Rattle.std.specs.Cmp.{on_equiv, partial_equiv_from_equiv};
 ghost use Rattle.std.specs.Cmp.Lexicographic.{bytes_decides, nat_list_eq_equiv};
