@@ -59,8 +59,8 @@ void iddqd_free(iddqd_table *table);
  * and a value. No two items share a first key, and no two share a second key. The table has copies of the first keys.
  *
  * An item keeps its index until it is removed, or the table is compacted or cleared. Indexes are below IDDQD_SENTINEL,
- * and one that is free is used again. Since it was made, compacted or cleared, a table has a slot for each index that it
- * has used: the slots are 0, 1 and so on, and one whose item was removed is vacant.
+ * and one that is free is used again. A table has a slot for each index that it has used since it was made, or last
+ * compacted or cleared: the slots are 0, 1 and so on, and one whose item was removed is vacant.
  */
 
 /* What the functions report of an item. */
@@ -139,8 +139,8 @@ uint32_t iddqd_keyed_len(iddqd_table *table, size_t *count);
 /* Moves the items down in the order of their indexes, so that these are 0, 1 and so on, and no slot is vacant. OK:
  * indexes[i] is the new index of the item that had the index i, or IDDQD_SENTINEL if that slot was vacant; *count is the
  * number of the slots that there were, and the places behind them stay. If no slot was vacant, each index is as it was.
- * SMALL: the buffer of `len` numbers has fewer places than there are slots, of which *count is the number. MEMORY: for a
- * list of the new indexes, which no table without a vacant slot needs; nothing changed. */
+ * SMALL: there are *count slots, and the buffer of `len` numbers has fewer places. MEMORY: there is none for a list of
+ * the new indexes, which a table without a vacant slot doesn't need; nothing changed. */
 uint32_t iddqd_keyed_compact(iddqd_table *table, uint32_t *indexes, size_t len, size_t *count);
 
 /* Forgets all items, and keeps the memory of the table. The next index is 0. OK. */

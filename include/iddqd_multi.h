@@ -8,8 +8,8 @@
  *
  * A table lives behind a handle of two words, `iddqd_multi`. A handle begins as IDDQD_NONE; `iddqd_multi_new` opens it,
  * and `iddqd_multi_free` closes it. Every other function on a handle that is closed returns IDDQD_HANDLE and does
- * nothing. So does a function of this header on an `iddqd_table`, and one of iddqd.h on an `iddqd_multi`, if the
- * pointer was cast.
+ * nothing. So does a function of this header on an open `iddqd_table`, and one of iddqd.h on an open `iddqd_multi`, if
+ * the pointer was cast.
  *
  * A function writes through a pointer that it got for an answer only where its comment says so; with any other code the
  * memory there stays as it was. A caller owes what the head of iddqd.h lists. The codes are those of iddqd.h.
@@ -65,14 +65,14 @@ uint32_t iddqd_multi_remove_key(iddqd_multi *table, const uint8_t *key, size_t l
 
 /* The items with a second key, in the order of their indexes, from `index` on, as many as the buffer of `len` rows has
  * places for. OK: *count is how many were written, and the places behind them stay as they were. Begin with the index
- * 0. To go on, call it again with the index of the last row and 1. An item with that second key and a lesser index
+ * 0. To go on, call it again with the index of the last row plus 1. An item with that second key and a lesser index
  * costs a step in each call. */
 uint32_t iddqd_multi_group(iddqd_multi *table, uint64_t second, uint32_t index, iddqd_row *rows, size_t len,
                            size_t *count);
 
 /* The items in the order of their second keys, and of their indexes where these are equal, from a second key and an
  * index on; otherwise as iddqd_multi_group. Begin with 0 and 0 for all items. To go on, call it again with the second
- * key of the last row, and with its index and 1. */
+ * key of the last row, and with its index plus 1. */
 uint32_t iddqd_multi_range(iddqd_multi *table, uint64_t second, uint32_t index, iddqd_row *rows, size_t len,
                            size_t *count);
 

@@ -5,8 +5,9 @@ use crate::OutOfMemory;
 use std::error::Error;
 use std::fmt;
 
-/// How many rows a range reads at first, so that a short one costs little, and then at a time.
+/// How many rows a range reads at first: few, so that a short range costs little.
 const FIRST_ROWS: usize = 16;
+/// How many rows it reads at a time from then on.
 const ROWS: usize = 64;
 
 /// Why an item was not inserted. Nothing changed.
