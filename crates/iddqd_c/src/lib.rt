@@ -3,8 +3,8 @@
 //! A static library: `include/iddqd.h` declares its functions, and `docs/FROM_C.md` says what of them is proved. A
 //! caller holds a table by a handle of two words ([`handle::CTable`]), which begins as zeros. Every function that uses
 //! a table takes it out of its handle, makes its calls, and puts it back, so that what the handle holds after one
-//! function is what the next one finds. None of them has a condition: a handle that is closed, or holds a table of
-//! another kind, is an error code ([`code`]).
+//! function is what the next one finds. None of them has a condition: for a handle that is closed, or holds a
+//! table of another kind, they return an error code ([`code`]).
 //!
 //! Each function is in two parts. The one that C calls takes and puts the table; the one behind it finds out the kind
 //! of the table and makes the call. They are two since what is known of the table is lost where branches join before

@@ -61,7 +61,7 @@ pub type ByHashMulti<E, K> = ByHashMultiOf<Field<E, K>>;
 
 impl<E> ByHashMultiOf<E> {
     /// The indexes whose items have the key for which the query stands, each once, in no order that a caller can rely
-    /// on, in the parts of a map that has this key: `ByHashMultiOf::group(ledger.parts().left(), &customer)`.
+    /// on, in the parts of a map that has this key: `ByHashMultiOf::group(map.parts().left(), &customer)`.
     ///
     /// It hashes the query once, and compares it with keys of the same hash alone, with none twice. It takes no memory.
     pub fn group<'a, T, S, Q>(

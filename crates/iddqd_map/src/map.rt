@@ -140,7 +140,7 @@ impl<T, X: KeyIndex<T, S>, S> Map<T, X, S> {
         self.items.get(ix)
     }
 
-    /// Borrows the parts, for look-ups that only this key index has.
+    /// Borrows the parts, for look-ups of indexes by one key index.
     pub fn parts(&self) -> Parts<'_, T, X, S>
         ensures { result ≡ self.now.store }
     {

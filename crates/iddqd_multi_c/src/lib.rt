@@ -6,8 +6,8 @@
 //!
 //! A caller holds a table by a handle of two words ([`handle::CTable`]), which begins as zeros. Every function that
 //! uses a table takes it out of its handle, makes its calls, and puts it back, so that what the handle holds after one
-//! function is what the next one finds. None of them has a condition: a handle that is closed, or is one of `iddqd_c`,
-//! is an error code ([`code`]).
+//! function is what the next one finds. None of them has a condition: for a handle that is closed, or that `iddqd_c`
+//! has opened, they return an error code ([`code`]).
 #![tactic(auto)]
 
 mod bytes;

@@ -1,7 +1,7 @@
 //! The items in the order of their second keys and then of their indexes, by buffers.
 //!
 //! No pointer into the table is held between two calls. A caller begins at a second key and the index 0, and goes on at
-//! the second key of the last row that it got, and at its index and one.
+//! the second key of the last row that it got, and at its index plus 1.
 ghost use Rattle.std.specs.Prelude.{◌≡◌, ◌≢◌, ◌∷◌, [], Some, filter, IfSome, IfNone};
 ghost use Rattle.iddqd_multi_c.specs.declared.code.TheConstants.{OK};
 ghost use Rattle.iddqd_multi_c.specs.Entries.{WritesGroup, WritesRange, lies_from};

@@ -1,7 +1,8 @@
-//! Look-ups by a key in order in the parts of a map, as `ledger.parts().right().group(&day)`.
+//! Look-ups by a key in order in the parts of a map, as `map.parts().right().group(&day)`.
 //!
-//! What they return are indexes, and it borrows the map, not the parts. Items with equal keys come by index. No memory
-//! is taken. The calls of [`crate::in_order`] give the items as well, by the place of the key.
+//! `iter`, `range` and `group` return indexes, and what they return borrows the map, not the parts. Items with equal
+//! keys come by index. No memory is taken. The calls of [`crate::in_order`] give the items as well, by the place of the
+//! key.
 ghost use Rattle.std.specs.Prelude.{◌≡◌, ◌↔◌, false};
 ghost use Rattle.iddqd_keys.specs.OrderedQuery.{is_equal, is_within};
 ghost use Rattle.iddqd_keys.specs.Scan.{HasNoHit};

@@ -59,7 +59,7 @@ pub fn with_room(alloc: Global, scores: usize) -> Result<Board, AllocError>
     IdOrdMap::with_capacity(alloc, scores)
 }
 
-/// An empty board of at most so many scores, with room for some of them.
+/// An empty board of at most so many scores, with room for so many of them.
 pub fn within_with_room(alloc: Global, limit: u32, scores: usize) -> Result<Board, AllocError>
     ensures none { IfOk result (λ board. board.store ≡ empty_within limit) }
     ensures room { IfOk result (λ board. min scores limit ≤ room board) }
@@ -67,7 +67,7 @@ pub fn within_with_room(alloc: Global, limit: u32, scores: usize) -> Result<Boar
     IdOrdMap::with_limit_and_capacity(alloc, limit, scores)
 }
 
-/// Makes room for so many more scores, and tells how many can come without memory.
+/// Makes room for so many more scores, and returns how many can come without memory.
 pub fn make_room(board: &mut Board, more: usize) -> Result<usize, AllocError>
     ensures room { IfOk result (λ count. min more (insertable board.old.store) ≤ count) }
     ensures unchanged { board.new.store ≡ board.old.store }
@@ -106,7 +106,7 @@ pub fn pack(board: &mut Board) -> Result<usize, AllocError>
     Ok(board.capacity())
 }
 
-/// Forgets all scores, and tells that none is left.
+/// Forgets all scores, and returns whether none is left.
 pub fn clear_out(board: &mut Board) -> bool
     ensures scores { board.new.store ≡ cleared board.old.store }
     ensures empty { result ≡ true }
@@ -302,8 +302,8 @@ pub fn hand_on_low<F: FnMut(Score)>(board: &mut Board, hour: u32, least: u32, go
     board.retain_range_into(Bound::Unbounded, last, |score| score.points >= least, gone)
 }
 
-/// Keeps the scores with at least so many points, passes the others to the closure, by hour, and returns how many they
-/// were. It takes no memory.
+/// Keeps the scores with at least so many points, passes the others to the closure, by hour (the clause `given` of the
+/// call says so), and returns how many they were. It takes no memory.
 pub fn keep_high<F: FnMut(Score)>(board: &mut Board, least: u32, gone: F) -> usize
     requires { (p : F) (score : Score) → TakesItem F.FnMut p score }
     ensures stay { (ix : ℕ) (score : Score) → (get board.new.store ix ≡ Some score)
@@ -371,8 +371,8 @@ pub fn add_all<I: Iterator<Item = Score>>(
     board.insert_all(scores)
 }
 
-/// Moves the scores of another board into this one, as far as there is room, and returns how many were moved. Those
-/// whose hour has a score here stay on the other board.
+/// Moves the scores of another board into this one, up to the first for which this one is full or memory runs out, and
+/// returns how many were moved. Those whose hour has a score here stay on the other board.
 pub fn take_in(board: &mut Board, other: &mut Board) -> Appended
     ensures count { live_count board.new.store ≡ live_count board.old.store + result.moved }
     ensures left { live_count other.new.store + result.moved ≡ live_count other.old.store }

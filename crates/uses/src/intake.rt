@@ -40,8 +40,8 @@ pub fn add_all<I: Iterator<Item = Order>>(
     ledger.insert_all(orders)
 }
 
-/// Moves the orders of another ledger into this one, as far as there is room, and returns how many were moved. Those
-/// whose number is taken stay in the other ledger.
+/// Moves the orders of another ledger into this one, up to the first for which this one is full or memory runs out, and
+/// returns how many were moved. Those whose number is taken stay in the other ledger.
 pub fn take_over(ledger: &mut Ledger, other: &mut Ledger) -> Appended
     ensures count { live_count ledger.new.store ≡ live_count ledger.old.store + result.moved }
     ensures left { live_count other.new.store + result.moved ≡ live_count other.old.store }

@@ -90,7 +90,7 @@ pub fn hashed_with_room(alloc: Global, count: usize, hasher: Base31) -> Result<H
     BiHashMap::with_capacity_and_hasher(alloc, hasher, count)
 }
 
-/// Makes room for so many more lockers, and tells how many can come without memory.
+/// Makes room for so many more lockers, and returns how many can come without memory.
 pub fn make_room(lockers: &mut Lockers, more: usize) -> Result<usize, AllocError>
     ensures room { IfOk result (λ count. min more (insertable lockers.old.store) ≤ count) }
     ensures unchanged { lockers.new.store ≡ lockers.old.store }
@@ -111,7 +111,7 @@ pub fn pack(lockers: &mut Lockers) -> Result<(), AllocError>
     lockers.shrink_to_fit()
 }
 
-/// Forgets all lockers, and tells that none is left.
+/// Forgets all lockers, and returns whether none is left.
 pub fn clear_out(lockers: &mut Lockers) -> bool
     ensures lockers { lockers.new.store ≡ cleared lockers.old.store }
     ensures memory { room lockers.old ≤ room lockers.new }
@@ -129,7 +129,7 @@ pub fn check(lockers: &Lockers) -> Result<(), ValidateRefusal<ValidationError>>
     lockers.validate(ValidateCompact::Compact)
 }
 
-/// Keeps the lockers whose time of opening isn't 0, and tells how many they are.
+/// Keeps the lockers whose time of opening isn't 0, and returns how many they are.
 pub fn keep_opened(lockers: &mut Lockers) -> usize
     ensures stay { live_pairs lockers.new.store
         ≡ filter (λ pair. not (pair.1.opened == 0)) (live_pairs lockers.old.store) }

@@ -99,7 +99,7 @@ pub fn hashed_with_room(alloc: Global, count: usize, hasher: Base31) -> Result<H
     TriHashMap::with_capacity_and_hasher(alloc, hasher, count)
 }
 
-/// Makes room for so many more seats, and tells how many can come without memory.
+/// Makes room for so many more seats, and returns how many can come without memory.
 pub fn make_room(seats: &mut Seats, more: usize) -> Result<usize, AllocError>
     ensures room { IfOk result (λ count. min more (insertable seats.old.store) ≤ count) }
     ensures unchanged { seats.new.store ≡ seats.old.store }
@@ -120,7 +120,7 @@ pub fn pack(seats: &mut Seats) -> Result<(), AllocError>
     seats.shrink_to_fit()
 }
 
-/// Forgets all seats, and tells that none is left.
+/// Forgets all seats, and returns whether none is left.
 pub fn clear_out(seats: &mut Seats) -> bool
     ensures left { seats.new.store ≡ cleared seats.old.store }
     ensures memory { room seats.old ≤ room seats.new }
@@ -138,7 +138,7 @@ pub fn check(seats: &Seats) -> Result<(), ValidateRefusal<ValidationError>>
     seats.validate(ValidateCompact::Compact)
 }
 
-/// Keeps the seats that are paid, and tells how many they are.
+/// Keeps the seats that are paid, and returns how many they are.
 pub fn keep_paid(seats: &mut Seats) -> usize
     ensures stay { live_pairs seats.new.store ≡ filter (λ pair. pair.1.is_paid) (live_pairs seats.old.store) }
     ensures count { result ≡ live_count seats.new.store }
@@ -278,7 +278,7 @@ pub fn exchange_at(seats: &mut Seats, ix: ItemIndex, seat: Seat) -> Result<Seat,
     seats.replace_at(ix, seat)
 }
 
-/// Gives the seat at a place to another guest, and tells what it was; none exactly where there is no such seat. It is
+/// Gives the seat at a place to another guest, and returns what it was; none exactly where there is no such seat. It is
 /// refused exactly where the guest has another seat.
 pub fn give_to(seats: &mut Seats, place: u32, guest: u32) -> Result<Option<Seat>, Refusal>
     ensures given { IfOk result
@@ -291,7 +291,7 @@ pub fn give_to(seats: &mut Seats, place: u32, guest: u32) -> Result<Option<Seat>
     seats.change1(&place, |seat| Seat { guest, ..*seat })
 }
 
-/// Gives a guest another ticket, and tells what the seat was; none exactly where the guest has no seat. It is refused
+/// Gives a guest another ticket, and returns what the seat was; none exactly where the guest has no seat. It is refused
 /// exactly where another seat has the ticket.
 pub fn reissue(seats: &mut Seats, guest: u32, ticket: u32) -> Result<Option<Seat>, Refusal>
     ensures reissued { IfOk result
@@ -304,7 +304,7 @@ pub fn reissue(seats: &mut Seats, guest: u32, ticket: u32) -> Result<Option<Seat
     seats.change2(&guest, |seat| Seat { ticket, ..*seat })
 }
 
-/// Moves the holder of a ticket to another place, and tells what the seat was; none exactly where there is no such
+/// Moves the holder of a ticket to another place, and returns what the seat was; none exactly where there is no such
 /// ticket. It is refused exactly where another seat has the place.
 pub fn move_to(seats: &mut Seats, ticket: u32, place: u32) -> Result<Option<Seat>, Refusal>
     ensures moved { IfOk result

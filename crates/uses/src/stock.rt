@@ -51,7 +51,7 @@ pub fn with_room(alloc: Global, kinds: usize) -> Result<Stock, AllocError>
     IdHashMap::with_capacity(alloc, kinds)
 }
 
-/// An empty stock for at most so many kinds, with room for some of them.
+/// An empty stock for at most so many kinds, with room for so many of them.
 pub fn within_with_room(alloc: Global, limit: u32, kinds: usize) -> Result<Stock, AllocError>
     ensures none { IfOk result (λ stock. stock.store ≡ empty_within limit) }
     ensures room { IfOk result (λ stock. min kinds limit ≤ room stock) }
@@ -59,7 +59,7 @@ pub fn within_with_room(alloc: Global, limit: u32, kinds: usize) -> Result<Stock
     IdHashMap::with_limit_and_capacity(alloc, limit, kinds)
 }
 
-/// A stock of two parts, unless they are of one kind.
+/// A stock of two parts, unless they are of one kind or memory runs out.
 pub fn of_two(alloc: Global, parts: [Part; 2]) -> Result<Stock, InsertRefusal<Part, ItemIndex>>
     ensures parts { IfOk result (λ stock. stock.store ≡ inserted_all empty parts) }
     ensures count { IfOk result (λ stock. live_count stock.store ≡ 2) }
@@ -67,7 +67,7 @@ pub fn of_two(alloc: Global, parts: [Part; 2]) -> Result<Stock, InsertRefusal<Pa
     IdHashMap::from_array(alloc, parts)
 }
 
-/// The same under a hasher of one's own.
+/// An empty stock with room for so many kinds, under a hasher of one's own.
 pub fn hashed_with_room(
     alloc: Global,
     kinds: usize,
@@ -165,7 +165,7 @@ pub fn check(stock: &Stock) -> Result<(), ValidateRefusal<ValidationError>>
     stock.validate(ValidateCompact::Compact)
 }
 
-/// Makes room for so many more kinds, and tells how many can come without memory.
+/// Makes room for so many more kinds, and returns how many can come without memory.
 pub fn make_room(stock: &mut Stock, more: usize) -> Result<usize, AllocError>
     ensures room { IfOk result (λ count. min more (insertable stock.old.store) ≤ count) }
     ensures unchanged { stock.new.store ≡ stock.old.store }
@@ -186,7 +186,7 @@ pub fn pack(stock: &mut Stock) -> Result<(), AllocError>
     stock.shrink_to_fit()
 }
 
-/// Forgets all parts, and tells that none is left.
+/// Forgets all parts, and returns whether none is left.
 pub fn clear_out(stock: &mut Stock) -> bool
     ensures parts { stock.new.store ≡ cleared stock.old.store }
     ensures memory { room stock.old ≤ room stock.new }

@@ -42,7 +42,7 @@ impl<T, X: KeyIndex<T, S>, S> Map<T, X, S> {
     }
 }
 
-/// Stores an item that shares no key with another, and inserts its index.
+/// Stores an item that shares no unique key with another, and inserts its index.
 pub(super) fn insert<T, X: KeyIndex<T, S>, S>(
     items: &mut ItemSet<T>,
     indexes: &mut X,
@@ -67,14 +67,14 @@ pub(super) fn insert<T, X: KeyIndex<T, S>, S>(
     }
 }
 
-/// Why an item isn't inserted: stored items share a key with it, or the store can't grow.
+/// Why an item isn't inserted: stored items share a unique key with it, or the map is full or memory ran out.
 pub(super) enum NotReady<C> {
     Conflict(C),
     Refused(GrowError),
 }
 
-/// Takes all memory that the insert of an item needs: how its index is to be inserted, the memory for that, and the
-/// index. The contents stay.
+/// Takes all memory that the insert of an item needs. Returns the plan by which its index is inserted, the blocks for
+/// that, and the index. The contents stay.
 #[inline(always)]
 pub(super) fn prepare<T, X: KeyIndex<T, S>, S>(
     items: &mut ItemSet<T>,
@@ -112,7 +112,7 @@ pub(super) fn prepare<T, X: KeyIndex<T, S>, S>(
     }
 }
 
-// The refusal of an item that shares no key, by the reason why the store can't grow: full, or out of memory.
+// The refusal of an item that shares no unique key, by its reason: full, or out of memory.
 fn refusal<T, C>(error: GrowError, item: T) -> InsertRefusal<T, C>
     ensures { result ≡ refusal_of error item }
 {

@@ -3,7 +3,8 @@
 //! A look-up by one key goes to the table by that key, and every other call to all three tables. A caller's proof sees
 //! three keys and not the tables, each of which would cost proof time in every function that calls the map.
 //!
-//! It is one file: impls of the traits of key indexes, of two traits one for each key, and no impl can be split.
+//! It is one file, since no impl can be split: it has an impl of each trait of key indexes, and of two of them one for
+//! each key.
 ghost use Rattle.std.specs.Prelude.{◌≡◌};
 ghost use Rattle.iddqd_map.specs.Map.{shares};
 ghost use Rattle.iddqd_map.specs.Several.{both_keys};
