@@ -8,15 +8,15 @@ use Rattle.std.specs.contracts.prelude.DefaultHasherHasher.TheImpl as hasher
 use Rattle.std.specs.contracts.random_state.RandomStateBuildHasher.TheImpl as builder
 use Rattle.std.specs.declared.random_state.RandomState.{RandomState}
 use Rattle.iddqd_driver.specs.Keys.{Keys, keys_of}
+use Rattle.iddqd_byte_keys.specs.contracts.ByteKeyHash.TheImpl as hash
+use Rattle.iddqd_byte_keys.specs.contracts.ByteKeyPartialEq.TheImpl as equality
+use Rattle.iddqd_byte_keys.specs.declared.ByteKey.{ByteKey}
 use Rattle.iddqd_c.specs.Rows.{AreAlike}
 use Rattle.iddqd_c.specs.contracts.entry.EntryKeyedItem.TheImpl as entry
-use Rattle.iddqd_c.specs.contracts.key.KeyHash.TheImpl as hash
-use Rattle.iddqd_c.specs.contracts.key.KeyPartialEq.TheImpl as equality
 use Rattle.iddqd_c.specs.declared.entry.Entry.{Entry}
-use Rattle.iddqd_c.specs.declared.key.Key.{Key}
 
 -- the keys of entries, as clauses name them
-abbrev pub entry_keys : Keys Entry Key ℕ RandomState
+abbrev pub entry_keys : Keys Entry ByteKey ℕ RandomState
 entry_keys =
     keys_of entry.ghosts equality.ghosts.eq hash.ghosts.hash_input nat_cmp builder.ghosts hasher.ghosts
 

@@ -2,8 +2,8 @@
 ghost use Rattle.std.specs.Prelude.{◌≡◌};
 ghost use Rattle.iddqd_c.specs.Rows.{row_of};
 
-use crate::key::Key;
 use iddqd::item_index::ItemIndex;
+use iddqd_byte_keys::ByteKey;
 use iddqd_driver::keyed_item::KeyedItem;
 use iddqd_driver::keyed_items::KeyedItems;
 use std::hash::RandomState;
@@ -12,13 +12,13 @@ use std::hash::RandomState;
 /// order.
 #[derive(Drop)]
 pub struct Entry {
-    pub first: Key,
+    pub first: ByteKey,
     pub second: u64,
     pub value: u64,
 }
 
 impl KeyedItem for Entry {
-    type Key1 = Key;
+    type Key1 = ByteKey;
 
     type Key2 = u64;
 
@@ -26,7 +26,7 @@ impl KeyedItem for Entry {
 
     ghost second_key = { λ entry. entry.second };
 
-    fn key1(&self) -> &Key {
+    fn key1(&self) -> &ByteKey {
         &self.first
     }
 

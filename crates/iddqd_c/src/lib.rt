@@ -16,6 +16,5 @@ mod code;
 mod entry;
 mod handle;
 mod index;
-mod key;
 mod keyed;
 mod table;

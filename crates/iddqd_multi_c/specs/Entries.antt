@@ -23,7 +23,7 @@ use Rattle.iddqd_multi_c.specs.declared.entry.Row.{Row}
 
 -- the entry's byte key has these bytes
 abbrev pub has_key : List ℕ → Entry → Bool
-has_key bytes entry = bytes_eq bytes entry.key.items
+has_key bytes entry = bytes_eq bytes entry.key.bytes.items
 
 -- the entry has this second key
 abbrev pub has_second : ℕ → Entry → Bool
@@ -43,7 +43,7 @@ lies_from second index (ix, entry) = nat_lt second entry.second || (entry.second
 
 -- the entry has these keys and this value
 pub record IsEntry (bytes : List ℕ) (second value : ℕ) (entry : Entry) : Type 0 where
-  pub has_bytes : entry.key.items ≡ bytes
+  pub has_bytes : entry.key.bytes.items ≡ bytes
   pub has_second : entry.second ≡ second
   pub has_value : entry.value ≡ value
 
@@ -97,7 +97,7 @@ RemovesKey bytes code row old new =
 
 -- the bytes of an entry's key in a buffer, if there is an entry
 abbrev pub CopiesKey : Option Entry → ℕ → ℕ → List ℕ → List ℕ → Type 0
-CopiesKey (Some entry) code count was buffer = CopiesBytes entry.key.items code count was buffer
+CopiesKey (Some entry) code count was buffer = CopiesBytes entry.key.bytes.items code count was buffer
 CopiesKey None code count was buffer = code ≡ MISSING
 
 -- what a read of a byte key answers

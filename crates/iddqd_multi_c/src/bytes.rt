@@ -43,7 +43,7 @@ fn key_at(entries: &Entries, ix: ItemIndex, key: &mut [u8], len: &mut usize) -> 
     ensures len_kept { result ≢ OK → result ≢ SMALL → len.new ≡ len.old }
 {
     match entries.get_at(ix) {
-        Some(entry) => copy(entry.key.as_slice(), key, len),
+        Some(entry) => copy(entry.key.bytes.as_slice(), key, len),
         None => MISSING,
     }
 }

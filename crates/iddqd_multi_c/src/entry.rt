@@ -3,6 +3,7 @@ ghost use Rattle.std.specs.Prelude.{◌≡◌};
 ghost use Rattle.iddqd_multi_c.specs.Rows.{row_of};
 
 use iddqd::item_index::ItemIndex;
+use iddqd_byte_keys::ByteKey;
 use iddqd_keys::key_of::KeyOf;
 use iddqd_map::by_hash::ByHash;
 use iddqd_map::key_index::{Here, Left, Right};
@@ -14,7 +15,7 @@ use std::hash::RandomState;
 /// A value under two keys: one of bytes, which no other item has, and a second one, a number that several may have.
 #[derive(Drop)]
 pub struct Entry {
-    pub key: Vec<u8>,
+    pub key: ByteKey,
     pub second: u64,
     pub value: u64,
 }
@@ -23,11 +24,11 @@ pub struct Entry {
 pub enum Key {}
 
 impl KeyOf<Entry> for Key {
-    type Key = Vec<u8>;
+    type Key = ByteKey;
 
     ghost key_of = { λ entry. entry.key };
 
-    fn key(entry: &Entry) -> &Vec<u8> {
+    fn key(entry: &Entry) -> &ByteKey {
         &entry.key
     }
 }
@@ -46,7 +47,7 @@ impl KeyOf<Entry> for Second {
 }
 
 /// The byte key by its hash, and the second key by its order.
-pub type Keys = Pair<ByHash<Key, Vec<u8>>, ByOrderMulti<Second, u64>>;
+pub type Keys = Pair<ByHash<Key, ByteKey>, ByOrderMulti<Second, u64>>;
 
 /// The place of the byte key.
 pub type ByKey = Left<Here>;

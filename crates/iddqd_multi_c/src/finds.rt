@@ -8,6 +8,7 @@ use crate::code::{HANDLE, MISSING, OK};
 use crate::entry::{ByKey, Entries, Row};
 use crate::handle::{CTable, put, take};
 use iddqd::item_index::ItemIndex;
+use iddqd_byte_keys::ByteKeyQuery;
 use std::alloc::Global;
 
 /// The row of the item whose byte key has these bytes.
@@ -32,7 +33,7 @@ fn find(entries: &Entries, key: &[u8], row: &mut Row) -> u32
     ensures finds { FindsKey key.now result row.new entries.now }
     ensures kept { result ≢ OK → row.new ≡ row.old }
 {
-    match entries.find_by::<ByKey, _>(key) {
+    match entries.find_by::<ByKey, _>(ByteKeyQuery { bytes: key }) {
         Some(ix) => report(entries, ix, row),
         None => MISSING,
     }

@@ -11,6 +11,7 @@ ghost use Rattle.iddqd_multi_c.specs.Held.{Changes};
 use crate::code::{DUPLICATE, FULL, HANDLE, MEMORY, OK};
 use crate::entry::{ByKey, Entries, Entry};
 use crate::handle::{CTable, put, take};
+use iddqd_byte_keys::{ByteKey, ByteKeyQuery};
 use std::alloc::Global;
 
 /// Inserts an item with a copy of the key, if no item has the key, and writes its index. For a duplicate it writes the
@@ -52,18 +53,18 @@ fn insert(
     ensures memory { TakesMemory entries.old entries.new }
     ensures at_kept { result ≢ OK → result ≢ DUPLICATE → at.new ≡ at.old }
 {
-    if let Some(ix) = entries.find_by::<ByKey, _>(key) {
+    if let Some(ix) = entries.find_by::<ByKey, _>(ByteKeyQuery { bytes: key }) {
         *at = ix.as_u32();
         return DUPLICATE;
     }
     if is_full(entries) {
         return FULL;
     }
-    let Ok(copy) = Vec::from_slice(alloc, key) else {
+    let Ok(bytes) = Vec::from_slice(alloc, key) else {
         return MEMORY;
     };
     let new = Entry {
-        key: copy,
+        key: ByteKey { bytes },
         second,
         value,
     };

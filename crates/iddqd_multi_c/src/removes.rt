@@ -8,6 +8,7 @@ use crate::code::{HANDLE, MISSING, OK};
 use crate::entry::{ByKey, Entries, Row};
 use crate::handle::{CTable, put, take};
 use iddqd::item_index::ItemIndex;
+use iddqd_byte_keys::ByteKeyQuery;
 use std::alloc::Global;
 
 /// Removes the item at an index, and writes its row.
@@ -73,7 +74,7 @@ fn remove_key(entries: &mut Entries, key: &[u8], row: &mut Row) -> u32
     ensures removes { RemovesKey key.now result row.new entries.old entries.new }
     ensures kept { result ≢ OK → row.new ≡ row.old }
 {
-    match entries.find_by::<ByKey, _>(key) {
+    match entries.find_by::<ByKey, _>(ByteKeyQuery { bytes: key }) {
         Some(ix) => remove(entries, ix, row),
         None => MISSING,
     }

@@ -8,9 +8,9 @@ ghost use Rattle.iddqd_c.specs.Rows.{SaysRow, entry_found};
 use crate::code::{HANDLE, MISSING, OK};
 use crate::entry::{Entries, Row};
 use crate::handle::{CTable, put, take};
-use crate::key::KeyQuery;
 use crate::table::Table;
 use iddqd::item_index::ItemIndex;
+use iddqd_byte_keys::ByteKeyQuery;
 use iddqd_driver::keyed_items::Keyed;
 use std::alloc::Global;
 
@@ -42,7 +42,7 @@ fn find1(table: &Table, key: &[u8], row: &mut Row) -> u32
         Table::Keyed(items) => {
             // Its contract has the invariant of the type, which that of the look-up lacks.
             let _count = items.len();
-            let found = items.find1_by(KeyQuery { bytes: key });
+            let found = items.find1_by(ByteKeyQuery { bytes: key });
             report(items, found, row)
         }
         Table::Index(_) => HANDLE,

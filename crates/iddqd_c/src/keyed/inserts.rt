@@ -11,9 +11,9 @@ ghost use Rattle.iddqd_c.specs.Rows.{number_of};
 use crate::code::{DUPLICATE, FULL, HANDLE, MEMORY, OK};
 use crate::entry::{Conflict, Entries, Entry};
 use crate::handle::{CTable, put, take};
-use crate::key::{Key, KeyQuery};
 use crate::table::Table;
 use iddqd::item_index::ItemIndex;
+use iddqd_byte_keys::{ByteKey, ByteKeyQuery};
 use iddqd_driver::keyed_items::{InsertRefusal, Keyed};
 use std::alloc::Global;
 
@@ -84,7 +84,7 @@ fn store(
     ensures found_kept { result ≢ DUPLICATE → found.new ≡ found.old }
 {
     let (found1, found2) = (
-        items.find1_by(KeyQuery { bytes: key }),
+        items.find1_by(ByteKeyQuery { bytes: key }),
         items.find2(&second),
     );
     if found1.is_some() || found2.is_some() {
@@ -95,7 +95,7 @@ fn store(
         return MEMORY;
     };
     match items.insert(Entry {
-        first: Key { bytes },
+        first: ByteKey { bytes },
         second,
         value,
     }) {

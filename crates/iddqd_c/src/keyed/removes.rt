@@ -8,9 +8,9 @@ ghost use Rattle.iddqd_c.specs.Rows.{SaysRow};
 use crate::code::{HANDLE, MISSING, OK};
 use crate::entry::{Entries, Entry, Row};
 use crate::handle::{CTable, put, take};
-use crate::key::KeyQuery;
 use crate::table::Table;
 use iddqd::item_index::ItemIndex;
+use iddqd_byte_keys::ByteKeyQuery;
 use iddqd_driver::keyed_items::Keyed;
 use std::alloc::Global;
 
@@ -86,7 +86,7 @@ fn remove1(table: &mut Table, key: &[u8], row: &mut Row) -> u32
     ensures kept { result ≢ OK → row.new ≡ row.old }
 {
     match table {
-        Table::Keyed(items) => report(items.remove1_by(KeyQuery { bytes: key }), row),
+        Table::Keyed(items) => report(items.remove1_by(ByteKeyQuery { bytes: key }), row),
         Table::Index(_) => HANDLE,
     }
 }

@@ -12,9 +12,9 @@ use super::inserts::conflict_of;
 use crate::code::{DUPLICATE, HANDLE, MEMORY, MISSING, OK};
 use crate::entry::{Conflict, Entries, Entry};
 use crate::handle::{CTable, put, take};
-use crate::key::{Key, KeyQuery};
 use crate::table::Table;
 use iddqd::item_index::ItemIndex;
+use iddqd_byte_keys::{ByteKey, ByteKeyQuery};
 use iddqd_driver::keyed_items::{Keyed, ReplaceRefusal};
 use std::alloc::Global;
 
@@ -89,7 +89,7 @@ fn rebind(
     if items.get(ix).is_none() {
         return MISSING;
     }
-    let first_at = other_than(ix, items.find1_by(KeyQuery { bytes: key }));
+    let first_at = other_than(ix, items.find1_by(ByteKeyQuery { bytes: key }));
     let second_at = other_than(ix, items.find2(&second));
     if first_at.is_some() || second_at.is_some() {
         *found = conflict_of(first_at, second_at);
@@ -99,7 +99,7 @@ fn rebind(
         return MEMORY;
     };
     let new = Entry {
-        first: Key { bytes },
+        first: ByteKey { bytes },
         second,
         value,
     };

@@ -13,7 +13,7 @@ returns-in-Ok-insert_unique-clause-inserts c =
     inl (
       refl,
       record {
-        entry = record { key = c.in-Ok.copy; second = c.args.second; value = c.args.value };
+        entry = record { key = record { bytes = c.in-Ok.bytes }; second = c.args.second; value = c.args.value };
         is_entry = record { has_bytes = c.in-Ok.ensures.items; has_second = refl; has_value = refl };
         no_duplicate = c.in_default.ensures;
         not_full = out.inserts.not_full;

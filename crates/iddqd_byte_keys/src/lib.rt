@@ -1,7 +1,9 @@
-//! First keys, and what they are looked up by.
+//! Keys of bytes, and what they are looked up by.
 //!
 //! Both pass all bytes to the hasher in one call. The `Hash` of a `Vec<u8>` passes each byte in a call of its own, and
 //! takes five times the instructions for 16 bytes.
+#![tactic(auto)]
+
 ghost use Rattle.std.specs.Prelude.{[], ◌∷◌};
 ghost use Rattle.std.proofs.Common.{ap};
 ghost use Rattle.std.specs.Cmp.{on_equiv, partial_equiv_from_equiv};
@@ -11,27 +13,27 @@ ghost use Rattle.std.specs.Str.{bytes_eq};
 use iddqd_keys::hash_query::HashQuery;
 use std::hash::{Hash, Hasher};
 
-/// The first key of an entry: any bytes.
+/// A key: any bytes.
 #[derive(Drop)]
-pub struct Key {
+pub struct ByteKey {
     pub bytes: Vec<u8>,
 }
 
-impl PartialEq for Key {
+impl PartialEq for ByteKey {
     ghost eq = { λ x y. bytes_eq x.bytes.items y.bytes.items };
 
     ghost laws = { partial_equiv_from_equiv (on_equiv (λ key. key.bytes.items) nat_list_eq_equiv) };
 
-    fn eq(&self, other: &Key) -> bool {
+    fn eq(&self, other: &ByteKey) -> bool {
         self.bytes.as_slice() == other.bytes.as_slice()
     }
 }
 
-impl Eq for Key {
+impl Eq for ByteKey {
     ghost laws = { on_equiv (λ key. key.bytes.items) nat_list_eq_equiv };
 }
 
-impl Hash for Key {
+impl Hash for ByteKey {
     ghost hash_input = { λ key. key.bytes.items ∷ [] };
 
     ghost respects_eq = { λ x y same. ap (λ bytes. bytes ∷ []) ((bytes_decides x.bytes.items y.bytes.items).0 same) };
@@ -43,11 +45,11 @@ impl Hash for Key {
 
 /// Stands for the key with these bytes, in a buffer of the caller's.
 #[derive(Clone, Copy)]
-pub struct KeyQuery<'a> {
+pub struct ByteKeyQuery<'a> {
     pub bytes: &'a [u8],
 }
 
-impl PartialEq for KeyQuery<'_> {
+impl PartialEq for ByteKeyQuery<'_> {
     ghost eq = { λ x y. bytes_eq x.bytes.now y.bytes.now };
 
     ghost laws = { partial_equiv_from_equiv (on_equiv (λ query. query.bytes.now) nat_list_eq_equiv) };
@@ -57,11 +59,11 @@ impl PartialEq for KeyQuery<'_> {
     }
 }
 
-impl Eq for KeyQuery<'_> {
+impl Eq for ByteKeyQuery<'_> {
     ghost laws = { on_equiv (λ query. query.bytes.now) nat_list_eq_equiv };
 }
 
-impl Hash for KeyQuery<'_> {
+impl Hash for ByteKeyQuery<'_> {
     ghost hash_input = { λ query. query.bytes.now ∷ [] };
 
     ghost respects_eq = { λ x y same. ap (λ bytes. bytes ∷ []) ((bytes_decides x.bytes.now y.bytes.now).0 same) };
@@ -71,7 +73,7 @@ impl Hash for KeyQuery<'_> {
     }
 }
 
-impl HashQuery<Key> for KeyQuery<'_> {
+impl HashQuery<ByteKey> for ByteKeyQuery<'_> {
     ghost stands_for = { λ query key. bytes_eq query.bytes.now key.bytes.items };
 
     ghost same_hash = { λ query key same.
@@ -79,7 +81,7 @@ impl HashQuery<Key> for KeyQuery<'_> {
 
     ghost same_key = { λ query x y. nat_list_eq_equiv.congr query.bytes.now x.bytes.items y.bytes.items };
 
-    fn stands_for(&self, key: &Key) -> bool {
+    fn stands_for(&self, key: &ByteKey) -> bool {
         self.bytes == key.bytes.as_slice()
     }
 }
