@@ -4,7 +4,7 @@ use Rattle.std.specs.declared.random_state.RandomState.{RandomState}
 use Rattle.iddqd_driver.specs.Keys.{Keys}
 use Rattle.iddqd_driver.specs.Run.{No_step, Next_step}
 use Rattle.iddqd_driver.proofs.RunLemmas.{Run-from_chain}
-use Rattle.iddqd_c.specs.declared.code.TheConstants.{OK}
+use Rattle.iddqd_codes.specs.declared.TheConstants.{OK}
 use Rattle.iddqd_c.specs.declared.entry.Conflict.{Conflict}
 use Rattle.iddqd_c.specs.declared.entry.Entry.{Entry}
 use Rattle.iddqd_c.specs.declared.entry.Row.{Row}

@@ -10,7 +10,7 @@ use Rattle.iddqd_driver.specs.Machine.{Step}
 use Rattle.iddqd_driver.specs.Memory.{SizedState}
 use Rattle.iddqd_driver.specs.declared.command.Command.TheVariants.{Compact}
 use Rattle.iddqd_driver.specs.declared.command.Reply.TheVariants.{Compacted, NoMemory}
-use Rattle.iddqd_c.specs.declared.code.TheConstants.{OK, MEMORY, SMALL}
+use Rattle.iddqd_codes.specs.declared.TheConstants.{OK, MEMORY, SMALL}
 use Rattle.iddqd_c.specs.declared.entry.Entry.{Entry}
 
 -- the new index of a slot by a remap, `SENTINEL` for one that isn't listed

@@ -19,7 +19,7 @@ use Rattle.iddqd_driver.specs.declared.command.Reply.{Reply}
 use Rattle.iddqd_driver.specs.declared.command.Reply.TheVariants.{Inserted, Refused, Found, Removed, Overwritten, Cleared}
 use Rattle.iddqd_driver.specs.declared.keyed_items.InsertRefusal.{InsertRefusal}
 use Rattle.iddqd_driver.specs.declared.keyed_items.InsertRefusal.TheVariants.{Duplicate, Full, Memory}
-use Rattle.iddqd_c.specs.declared.code.TheConstants.{OK, MISSING, DUPLICATE, FULL, MEMORY, SMALL, UNSOUND}
+use Rattle.iddqd_codes.specs.declared.TheConstants.{OK, MISSING, DUPLICATE, FULL, MEMORY, SMALL, UNSOUND}
 use Rattle.iddqd_c.specs.declared.entry.Conflict.{Conflict}
 use Rattle.iddqd_c.specs.declared.entry.Entry.{Entry}
 use Rattle.iddqd_c.specs.declared.entry.Row.{Row}

@@ -5,7 +5,7 @@ use Rattle.std.specs.declared.random_state.RandomState.{RandomState}
 use Rattle.iddqd_hash.specs.HashTable.{Table as Numbers}
 use Rattle.iddqd_driver.specs.Keys.{Keys}
 use Rattle.iddqd_driver.specs.Memory.{SizedState}
-use Rattle.iddqd_c.specs.declared.code.TheConstants.{HANDLE}
+use Rattle.iddqd_codes.specs.declared.TheConstants.{HANDLE}
 use Rattle.iddqd_c.specs.declared.entry.Entry.{Entry}
 use Rattle.iddqd_c.specs.declared.entry.Row.{Row}
 use Rattle.iddqd_c.specs.declared.table.Table.{Table}

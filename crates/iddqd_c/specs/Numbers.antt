@@ -3,7 +3,7 @@ use Rattle.std.specs.Prelude.{◌≡◌, ◌⊎◌, ◌++◌, ℕ, List, [], ◌
 use Rattle.std.specs.List.{Contains}
 use Rattle.std.specs.List.Sorted.{IsPermutation}
 use Rattle.iddqd_hash.specs.HashTable.{Table, KeepsMemory, entries, under}
-use Rattle.iddqd_c.specs.declared.code.TheConstants.{OK, MISSING, MEMORY}
+use Rattle.iddqd_codes.specs.declared.TheConstants.{OK, MISSING, MEMORY}
 
 -- an insert: one more pair, or nothing changes
 abbrev pub Files : ℕ → ℕ → ℕ → Table ℕ → Table ℕ → Type 0

@@ -9,7 +9,7 @@ use Rattle.iddqd_driver.specs.Memory.{SizedState}
 use Rattle.iddqd_driver.specs.Replacement.{Becomes, ReportsOtherIndex}
 use Rattle.iddqd_driver.specs.declared.keyed_items.replaces.ReplaceRefusal.{ReplaceRefusal}
 use Rattle.iddqd_driver.specs.declared.keyed_items.replaces.ReplaceRefusal.TheVariants.{Missing, Duplicate, Memory}
-use Rattle.iddqd_c.specs.declared.code.TheConstants.{OK, MISSING, DUPLICATE, MEMORY}
+use Rattle.iddqd_codes.specs.declared.TheConstants.{OK, MISSING, DUPLICATE, MEMORY}
 use Rattle.iddqd_c.specs.declared.entry.Conflict.{Conflict}
 use Rattle.iddqd_c.specs.declared.entry.Entry.{Entry}
 use Rattle.iddqd_c.specs.Entries.{HasBytes, IsEntry}

@@ -2,7 +2,7 @@
 use Rattle.std.specs.Prelude.{◌≡◌, ◌⊎◌, ◌≤◌, ◌<◌, ℕ, List, [], ◌∷◌, ⊤, Option, Some, None, map, take, drop, ◌++◌, length, min}
 use Rattle.std.specs.Option.{option_map}
 use Rattle.iddqd.specs.Store.{Store, get, sentinel}
-use Rattle.iddqd_c.specs.declared.code.TheConstants.{OK, MISSING, SMALL}
+use Rattle.iddqd_codes.specs.declared.TheConstants.{OK, MISSING, SMALL}
 use Rattle.iddqd_c.specs.declared.entry.Entry.{Entry}
 use Rattle.iddqd_c.specs.declared.entry.Row.{Row}
 

@@ -4,13 +4,13 @@
 //! and compares their records itself, so no function here calls back.
 ghost use Rattle.std.specs.Prelude.{◌≡◌, ◌≢◌, ◌⊎◌, ◌↔◌, ◌<◌, ◌≤◌, [], Some, length, slice_set};
 ghost use Rattle.iddqd_hash.specs.HashTable.{entries};
-ghost use Rattle.iddqd_c.specs.declared.code.TheConstants.{OK, MEMORY, HANDLE};
+ghost use Rattle.iddqd_codes.specs.declared.TheConstants.{OK, MEMORY, HANDLE};
 ghost use Rattle.iddqd_c.specs.Held.{ReadsIndex, ChangesIndex, HoldsIndex};
 ghost use Rattle.iddqd_c.specs.Numbers.{Files, Unfiles, ListsUnder, CountsPairs, ClearsPairs};
 
-use crate::code::{HANDLE, MEMORY, MISSING, OK};
 use crate::handle::{CTable, make, put, take};
 use crate::table::Table;
+use iddqd_codes::{HANDLE, MEMORY, MISSING, OK};
 use iddqd_hash::open_table::OpenHashTable;
 use std::alloc::Global;
 

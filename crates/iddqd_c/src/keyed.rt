@@ -6,7 +6,7 @@
 ghost use Rattle.std.specs.Prelude.{◌≡◌, ◌≢◌, ◌⊎◌, ◌↔◌, ⊤};
 ghost use Rattle.iddqd_driver.specs.{empty_state, live_count};
 ghost use Rattle.iddqd_driver.specs.Memory.{no_memory};
-ghost use Rattle.iddqd_c.specs.declared.code.TheConstants.{OK, MEMORY, HANDLE};
+ghost use Rattle.iddqd_codes.specs.declared.TheConstants.{OK, MEMORY, HANDLE};
 ghost use Rattle.iddqd_c.specs.Entries.{Clears, Counts};
 ghost use Rattle.iddqd_c.specs.Held.{ReadsKeyed, ChangesKeyed, HoldsKeyed};
 
@@ -22,10 +22,10 @@ mod replaces;
 mod validation;
 mod values;
 
-use crate::code::{HANDLE, MEMORY, OK};
 use crate::entry::Entries;
 use crate::handle::{CTable, make, put, take};
 use crate::table::Table;
+use iddqd_codes::{HANDLE, MEMORY, OK};
 use iddqd_driver::keyed_items::{Keyed, KeyedItems};
 use std::alloc::Global;
 use std::hash::RandomState;

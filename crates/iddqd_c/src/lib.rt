@@ -4,7 +4,7 @@
 //! caller holds a table by a handle of two words ([`handle::CTable`]), which begins as zeros. Every function that uses
 //! a table takes it out of its handle, makes its calls, and puts it back, so that what the handle holds after one
 //! function is what the next one finds. None of them has a condition: for a handle that is closed, or holds a
-//! table of another kind, they return an error code ([`code`]).
+//! table of another kind, they return an error code ([`iddqd_codes`]).
 //!
 //! Each function is in two parts. The one that C calls takes and puts the table; the one behind it finds out the kind
 //! of the table and makes the call. They are two since what is known of the table is lost where branches join before
@@ -12,7 +12,6 @@
 #![tactic(auto)]
 
 mod calls;
-mod code;
 mod entry;
 mod handle;
 mod index;

@@ -1,9 +1,9 @@
 -- What a look-up and an insert after it answer of one byte key.
 use Rattle.std.proofs.Common.{◌≡◌, ◌∙◌, ℕ, List, Option, Some, None, inl, inr, refl, sym, ap, subst, arith}
 use Rattle.iddqd_keys.specs.Scan.{IsHit}
+use Rattle.iddqd_codes.specs.declared.TheConstants.{OK, MISSING, DUPLICATE}
 use Rattle.iddqd_multi_c.specs.Entries.{FindsKey, InsertsAt, has_key}
 use Rattle.iddqd_multi_c.specs.Held.{Items, Reads, Changes}
-use Rattle.iddqd_multi_c.specs.declared.code.TheConstants.{OK, MISSING, DUPLICATE}
 use Rattle.iddqd_multi_c.specs.declared.entry.Row.{Row}
 use Rattle.iddqd_multi_c.specs.declared.table.Table.{Table}
 

@@ -15,9 +15,9 @@ use Rattle.iddqd_map.specs.Memory.{MakesRoom, ReservesItems}
 use Rattle.iddqd_map.specs.Ranges.{LeavesOthers}
 use Rattle.iddqd_ord_map.specs.InOrder.{IteratesInOrder}
 use Rattle.iddqd_ord_map.specs.OrderedSteps.{most_cells as most_ordered}
+use Rattle.iddqd_codes.specs.declared.TheConstants.{OK, MISSING, DUPLICATE, FULL, MEMORY}
 use Rattle.iddqd_multi_c.specs.Held.{Items}
 use Rattle.iddqd_multi_c.specs.Rows.{CopiesBytes, FillsRows, SaysRow, row_of}
-use Rattle.iddqd_multi_c.specs.declared.code.TheConstants.{OK, MISSING, DUPLICATE, FULL, MEMORY}
 use Rattle.iddqd_multi_c.specs.declared.entry.Entry.{Entry}
 use Rattle.iddqd_multi_c.specs.declared.entry.Row.{Row}
 

@@ -2,7 +2,7 @@
 -- holds what it held. Otherwise the function returns no `HANDLE`, which the relation `P` has to say.
 use Rattle.std.specs.Prelude.{◌≡◌, ℕ, Option, Some, None}
 use Rattle.iddqd_map.specs.Map.{MapState}
-use Rattle.iddqd_multi_c.specs.declared.code.TheConstants.{HANDLE}
+use Rattle.iddqd_codes.specs.declared.TheConstants.{HANDLE}
 use Rattle.iddqd_multi_c.specs.declared.entry.Entry.{Entry}
 use Rattle.iddqd_multi_c.specs.declared.table.Table.{Table}
 

@@ -1,6 +1,6 @@
 -- What C reads of entries, and how an answer stands in a code and a row.
 use Rattle.std.specs.Prelude.{◌≡◌, ◌⊎◌, ◌≤◌, ◌<◌, ℕ, List, Option, Some, None, map, take, drop, ◌++◌, length, min}
-use Rattle.iddqd_multi_c.specs.declared.code.TheConstants.{OK, MISSING, SMALL}
+use Rattle.iddqd_codes.specs.declared.TheConstants.{OK, MISSING, SMALL}
 use Rattle.iddqd_multi_c.specs.declared.entry.Entry.{Entry}
 use Rattle.iddqd_multi_c.specs.declared.entry.Row.{Row}
 

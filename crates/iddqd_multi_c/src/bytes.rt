@@ -1,14 +1,14 @@
 //! The byte keys, by buffers.
 ghost use Rattle.std.specs.Prelude.{◌≡◌, ◌≢◌};
-ghost use Rattle.iddqd_multi_c.specs.declared.code.TheConstants.{OK, SMALL};
+ghost use Rattle.iddqd_codes.specs.declared.TheConstants.{OK, SMALL};
 ghost use Rattle.iddqd_multi_c.specs.Entries.{WritesKey};
 ghost use Rattle.iddqd_multi_c.specs.Held.{Reads};
 ghost use Rattle.iddqd_multi_c.specs.Rows.{CopiesBytes};
 
-use crate::code::{HANDLE, MISSING, OK, SMALL};
 use crate::entry::Entries;
 use crate::handle::{CTable, put, take};
 use iddqd::item_index::ItemIndex;
+use iddqd_codes::{HANDLE, MISSING, OK, SMALL};
 use std::alloc::Global;
 
 /// Writes the byte key of the item at an index to the buffer, and how many bytes it has. If the buffer is too short, it

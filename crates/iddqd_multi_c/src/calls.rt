@@ -3,7 +3,7 @@
 //! C doesn't call this one. It stands here since no crate stands above a static library. Its contract is proved from
 //! the contracts of the two functions alone, as that of any caller could be.
 ghost use Rattle.std.specs.Prelude.{◌≡◌, ◌≢◌};
-ghost use Rattle.iddqd_multi_c.specs.declared.code.TheConstants.{OK, MISSING, DUPLICATE};
+ghost use Rattle.iddqd_codes.specs.declared.TheConstants.{OK, MISSING, DUPLICATE};
 
 use crate::entry::Row;
 use crate::finds::iddqd_multi_find;

@@ -1,14 +1,14 @@
 //! Look-ups. They copy no key and take no memory.
 ghost use Rattle.std.specs.Prelude.{◌≡◌, ◌≢◌};
-ghost use Rattle.iddqd_multi_c.specs.declared.code.TheConstants.{OK};
+ghost use Rattle.iddqd_codes.specs.declared.TheConstants.{OK};
 ghost use Rattle.iddqd_multi_c.specs.Entries.{FindsKey, GetsRow};
 ghost use Rattle.iddqd_multi_c.specs.Held.{Reads};
 
-use crate::code::{HANDLE, MISSING, OK};
 use crate::entry::{ByKey, Entries, Row};
 use crate::handle::{CTable, put, take};
 use iddqd::item_index::ItemIndex;
 use iddqd_byte_keys::ByteKeyQuery;
+use iddqd_codes::{HANDLE, MISSING, OK};
 use std::alloc::Global;
 
 /// The row of the item whose byte key has these bytes.

@@ -1,12 +1,12 @@
 //! All items with one second key.
 ghost use Rattle.std.specs.Prelude.{◌≡◌, ◌≢◌};
-ghost use Rattle.iddqd_multi_c.specs.declared.code.TheConstants.{OK};
+ghost use Rattle.iddqd_codes.specs.declared.TheConstants.{OK};
 ghost use Rattle.iddqd_multi_c.specs.Entries.{CountsGroup, RemovesGroup};
 ghost use Rattle.iddqd_multi_c.specs.Held.{Changes, Reads};
 
-use crate::code::{HANDLE, OK};
 use crate::entry::{BySecond, Entries};
 use crate::handle::{CTable, put, take};
+use iddqd_codes::{HANDLE, OK};
 use iddqd_ord_map::in_order::InOrder;
 use std::alloc::Global;
 

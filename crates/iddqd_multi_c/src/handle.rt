@@ -10,12 +10,12 @@
 ghost use Rattle.std.specs.Prelude.{◌≡◌, ◌≢◌, ◌⊎◌, ◌↔◌, Option, None, Some, IsSome};
 ghost use Rattle.std.specs.Coded.{coded_option};
 ghost use Rattle.std.proofs.Props.{props};
-ghost use Rattle.iddqd_multi_c.specs.declared.code.TheConstants.{OK, MEMORY, HANDLE};
+ghost use Rattle.iddqd_codes.specs.declared.TheConstants.{OK, MEMORY, HANDLE};
 ghost use Rattle.iddqd_multi_c.specs.declared.table.Table.{Table};
 ghost use Rattle.iddqd_multi_c.specs.contracts.table.Table as table;
 
-use crate::code::{HANDLE, MEMORY, OK};
 use crate::table::Table;
+use iddqd_codes::{HANDLE, MEMORY, OK};
 use iddqd_raw_box::RawBox;
 use std::alloc::Global;
 use std::marker::Model;

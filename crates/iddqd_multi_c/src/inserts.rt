@@ -4,14 +4,14 @@
 //! full table are reported without memory. The call that stores the item looks the key up again.
 ghost use Rattle.std.specs.Prelude.{◌≡◌, ◌≢◌, ◌↔◌, true};
 ghost use Rattle.iddqd.specs.Store.{IsFull};
-ghost use Rattle.iddqd_multi_c.specs.declared.code.TheConstants.{OK, DUPLICATE};
+ghost use Rattle.iddqd_codes.specs.declared.TheConstants.{OK, DUPLICATE};
 ghost use Rattle.iddqd_multi_c.specs.Entries.{InsertsAt, TakesMemory};
 ghost use Rattle.iddqd_multi_c.specs.Held.{Changes};
 
-use crate::code::{DUPLICATE, FULL, HANDLE, MEMORY, OK};
 use crate::entry::{ByKey, Entries, Entry};
 use crate::handle::{CTable, put, take};
 use iddqd_byte_keys::{ByteKey, ByteKeyQuery};
+use iddqd_codes::{DUPLICATE, FULL, HANDLE, MEMORY, OK};
 use std::alloc::Global;
 
 /// Inserts an item with a copy of the key, if no item has the key, and writes its index. For a duplicate it writes the

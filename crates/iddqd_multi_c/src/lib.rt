@@ -7,12 +7,11 @@
 //! A caller holds a table by a handle of two words ([`handle::CTable`]), which begins as zeros. Every function that
 //! uses a table takes it out of its handle, makes its calls, and puts it back, so that what the handle holds after one
 //! function is what the next one finds. None of them has a condition: for a handle that is closed, or that `iddqd_c`
-//! has opened, they return an error code ([`code`]).
+//! has opened, they return an error code ([`iddqd_codes`]).
 #![tactic(auto)]
 
 mod bytes;
 mod calls;
-mod code;
 mod entry;
 mod finds;
 mod groups;

@@ -3,16 +3,16 @@
 //! No pointer into the table is held between two calls. A caller begins at a second key and the index 0, and goes on at
 //! the second key of the last row that it got, and at its index plus 1.
 ghost use Rattle.std.specs.Prelude.{◌≡◌, ◌≢◌, ◌∷◌, [], Some, filter, IfSome, IfNone};
-ghost use Rattle.iddqd_multi_c.specs.declared.code.TheConstants.{OK};
+ghost use Rattle.iddqd_codes.specs.declared.TheConstants.{OK};
 ghost use Rattle.iddqd_multi_c.specs.Entries.{WritesGroup, WritesRange, lies_from};
 ghost use Rattle.iddqd_multi_c.specs.Held.{Reads};
 ghost use Rattle.iddqd_multi_c.specs.Rows.{FillsRows};
 
-use crate::code::{HANDLE, OK};
 use crate::entry::{BySecond, Entries, Entry, Row};
 use crate::handle::{CTable, put, take};
 use iddqd::item_index::ItemIndex;
 use iddqd_by_order::ordered_walk::Range;
+use iddqd_codes::{HANDLE, OK};
 use iddqd_ord_map::in_order::InOrder;
 use std::alloc::Global;
 use std::ops::Bound;

@@ -1,14 +1,14 @@
 //! Removals of one item. They copy no key and take no memory.
 ghost use Rattle.std.specs.Prelude.{◌≡◌, ◌≢◌};
-ghost use Rattle.iddqd_multi_c.specs.declared.code.TheConstants.{OK};
+ghost use Rattle.iddqd_codes.specs.declared.TheConstants.{OK};
 ghost use Rattle.iddqd_multi_c.specs.Entries.{RemovesIndex, RemovesKey};
 ghost use Rattle.iddqd_multi_c.specs.Held.{Changes};
 
-use crate::code::{HANDLE, MISSING, OK};
 use crate::entry::{ByKey, Entries, Row};
 use crate::handle::{CTable, put, take};
 use iddqd::item_index::ItemIndex;
 use iddqd_byte_keys::ByteKeyQuery;
+use iddqd_codes::{HANDLE, MISSING, OK};
 use std::alloc::Global;
 
 /// Removes the item at an index, and writes its row.

@@ -1,14 +1,14 @@
 //! The table as a whole: made, counted, cleared and given memory.
 ghost use Rattle.std.specs.Prelude.{◌≡◌, ◌≢◌, ◌⊎◌, ◌↔◌};
 ghost use Rattle.iddqd_map.specs.Map.{empty_map};
-ghost use Rattle.iddqd_multi_c.specs.declared.code.TheConstants.{OK, MEMORY, HANDLE};
+ghost use Rattle.iddqd_codes.specs.declared.TheConstants.{OK, MEMORY, HANDLE};
 ghost use Rattle.iddqd_multi_c.specs.Entries.{Clears, Counts, Reserves};
 ghost use Rattle.iddqd_multi_c.specs.Held.{Changes, Holds, Reads};
 
-use crate::code::{HANDLE, MEMORY, OK};
 use crate::entry::Entries;
 use crate::handle::{CTable, make, put, take};
 use crate::table::Table;
+use iddqd_codes::{HANDLE, MEMORY, OK};
 use iddqd_map::map::Map;
 use std::alloc::{AllocError, Global};
 use std::hash::RandomState;

@@ -1,16 +1,16 @@
 //! Compaction: afterwards no slot is vacant.
 ghost use Rattle.std.specs.Prelude.{◌≡◌, ◌≢◌, ◌≤◌, ◌++◌, Some, length, map, drop};
 ghost use Rattle.iddqd.specs.{numbers, slot_limit};
-ghost use Rattle.iddqd_c.specs.declared.code.TheConstants.{OK, SMALL};
+ghost use Rattle.iddqd_codes.specs.declared.TheConstants.{OK, SMALL};
 ghost use Rattle.iddqd_c.specs.Compacting.{CompactsInto, name_in};
 ghost use Rattle.iddqd_c.specs.Held.{ChangesKeyed};
 
-use crate::code::{HANDLE, MEMORY, OK, SMALL};
 use crate::entry::Entries;
 use crate::handle::{CTable, put, take};
 use crate::table::Table;
 use iddqd::index_remap::IndexRemap;
 use iddqd::item_index::ItemIndex;
+use iddqd_codes::{HANDLE, MEMORY, OK, SMALL};
 use iddqd_driver::keyed_items::Keyed;
 use std::alloc::{AllocError, Global};
 

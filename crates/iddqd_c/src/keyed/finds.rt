@@ -1,16 +1,16 @@
 //! Look-ups. They copy no key and take no memory.
 ghost use Rattle.std.specs.Prelude.{◌≡◌, ◌≢◌, Some};
-ghost use Rattle.iddqd_c.specs.declared.code.TheConstants.{OK};
+ghost use Rattle.iddqd_codes.specs.declared.TheConstants.{OK};
 ghost use Rattle.iddqd_c.specs.Entries.{FindsFirst, FindsSecond, GetsRow};
 ghost use Rattle.iddqd_c.specs.Held.{ReadsKeyed};
 ghost use Rattle.iddqd_c.specs.Rows.{SaysRow, entry_found};
 
-use crate::code::{HANDLE, MISSING, OK};
 use crate::entry::{Entries, Row};
 use crate::handle::{CTable, put, take};
 use crate::table::Table;
 use iddqd::item_index::ItemIndex;
 use iddqd_byte_keys::ByteKeyQuery;
+use iddqd_codes::{HANDLE, MISSING, OK};
 use iddqd_driver::keyed_items::Keyed;
 use std::alloc::Global;
 

@@ -3,17 +3,17 @@
 //! It looks both keys up before it copies the first one, so a duplicate is reported without memory. The call that
 //! stores the item looks them up again.
 ghost use Rattle.std.specs.Prelude.{◌≡◌, ◌≢◌, Some};
-ghost use Rattle.iddqd_c.specs.declared.code.TheConstants.{OK, DUPLICATE};
+ghost use Rattle.iddqd_codes.specs.declared.TheConstants.{OK, DUPLICATE};
 ghost use Rattle.iddqd_c.specs.Entries.{InsertsAt, SaysRefusal, TakesMemory};
 ghost use Rattle.iddqd_c.specs.Held.{ChangesKeyed};
 ghost use Rattle.iddqd_c.specs.Rows.{number_of};
 
-use crate::code::{DUPLICATE, FULL, HANDLE, MEMORY, OK};
 use crate::entry::{Conflict, Entries, Entry};
 use crate::handle::{CTable, put, take};
 use crate::table::Table;
 use iddqd::item_index::ItemIndex;
 use iddqd_byte_keys::{ByteKey, ByteKeyQuery};
+use iddqd_codes::{DUPLICATE, FULL, HANDLE, MEMORY, OK};
 use iddqd_driver::keyed_items::{InsertRefusal, Keyed};
 use std::alloc::Global;
 

@@ -1,15 +1,15 @@
 //! Look-ups of many second keys in one call.
 ghost use Rattle.std.specs.Prelude.{◌≡◌, ◌≢◌, ◌≤◌, Some, length};
-ghost use Rattle.iddqd_c.specs.declared.code.TheConstants.{OK};
+ghost use Rattle.iddqd_codes.specs.declared.TheConstants.{OK};
 ghost use Rattle.iddqd_c.specs.Entries.{AnswersSecond, FindsMany, FillsAnswers};
 ghost use Rattle.iddqd_c.specs.Held.{ReadsKeyed};
 
 use super::finds::report;
-use crate::code::{HANDLE, OK, SMALL};
 use crate::entry::{Entries, Row};
 use crate::handle::{CTable, put, take};
 use crate::table::Table;
 use iddqd::item_index::ItemIndex;
+use iddqd_codes::{HANDLE, OK, SMALL};
 use iddqd_driver::keyed_items::Keyed;
 use std::alloc::Global;
 

@@ -1,12 +1,12 @@
 //! Memory that is taken before it is needed.
 ghost use Rattle.std.specs.Prelude.{◌≡◌, ◌≢◌, Some};
-ghost use Rattle.iddqd_c.specs.declared.code.TheConstants.{OK};
+ghost use Rattle.iddqd_codes.specs.declared.TheConstants.{OK};
 ghost use Rattle.iddqd_c.specs.Entries.{CountsRoom, Reserves};
 ghost use Rattle.iddqd_c.specs.Held.{ChangesKeyed, ReadsKeyed};
 
-use crate::code::{HANDLE, MEMORY, OK};
 use crate::handle::{CTable, put, take};
 use crate::table::Table;
+use iddqd_codes::{HANDLE, MEMORY, OK};
 use std::alloc::{AllocError, Global};
 
 /// Makes room in the table for so many more items, or for as many as there can be. Memory for their first keys isn't

@@ -3,15 +3,15 @@
 //! No pointer into the table is held between two calls. A caller goes on from the number after the last second key that
 //! it got: no two items share one.
 ghost use Rattle.std.specs.Prelude.{◌≡◌, ◌≢◌, Some};
-ghost use Rattle.iddqd_c.specs.declared.code.TheConstants.{OK};
+ghost use Rattle.iddqd_codes.specs.declared.TheConstants.{OK};
 ghost use Rattle.iddqd_c.specs.Entries.{WritesRange};
 ghost use Rattle.iddqd_c.specs.Held.{ReadsKeyed};
 ghost use Rattle.iddqd_c.specs.Rows.{FillsRows};
 
-use crate::code::{HANDLE, OK};
 use crate::entry::{Entries, Entry, Row};
 use crate::handle::{CTable, put, take};
 use crate::table::Table;
+use iddqd_codes::{HANDLE, OK};
 use iddqd_driver::keyed_items::{Keyed, Range};
 use std::alloc::Global;
 use std::ops::Bound;

@@ -1,16 +1,16 @@
 //! Removals. They copy no key and take no memory.
 ghost use Rattle.std.specs.Prelude.{◌≡◌, ◌≢◌, Some};
-ghost use Rattle.iddqd_c.specs.declared.code.TheConstants.{OK};
+ghost use Rattle.iddqd_codes.specs.declared.TheConstants.{OK};
 ghost use Rattle.iddqd_c.specs.Entries.{RemovesFirst, RemovesSecond, RemovesIndex};
 ghost use Rattle.iddqd_c.specs.Held.{ChangesKeyed};
 ghost use Rattle.iddqd_c.specs.Rows.{SaysRow};
 
-use crate::code::{HANDLE, MISSING, OK};
 use crate::entry::{Entries, Entry, Row};
 use crate::handle::{CTable, put, take};
 use crate::table::Table;
 use iddqd::item_index::ItemIndex;
 use iddqd_byte_keys::ByteKeyQuery;
+use iddqd_codes::{HANDLE, MISSING, OK};
 use iddqd_driver::keyed_items::Keyed;
 use std::alloc::Global;
 

@@ -4,17 +4,17 @@
 //! replaces the item looks them up again.
 ghost use Rattle.std.specs.Prelude.{◌≡◌, ◌≢◌, Some};
 ghost use Rattle.iddqd_driver.specs.Replacement.{ReportsOtherIndex};
-ghost use Rattle.iddqd_c.specs.declared.code.TheConstants.{DUPLICATE};
+ghost use Rattle.iddqd_codes.specs.declared.TheConstants.{DUPLICATE};
 ghost use Rattle.iddqd_c.specs.Held.{ChangesKeyed};
 ghost use Rattle.iddqd_c.specs.Replacing.{KeepsTables, Replaces, SaysReplaceRefusal};
 
 use super::inserts::conflict_of;
-use crate::code::{DUPLICATE, HANDLE, MEMORY, MISSING, OK};
 use crate::entry::{Conflict, Entries, Entry};
 use crate::handle::{CTable, put, take};
 use crate::table::Table;
 use iddqd::item_index::ItemIndex;
 use iddqd_byte_keys::{ByteKey, ByteKeyQuery};
+use iddqd_codes::{DUPLICATE, HANDLE, MEMORY, MISSING, OK};
 use iddqd_driver::keyed_items::{Keyed, ReplaceRefusal};
 use std::alloc::Global;
 

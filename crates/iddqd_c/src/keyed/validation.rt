@@ -3,11 +3,11 @@ ghost use Rattle.std.specs.Prelude.{◌≡◌, ◌≢◌, Some};
 ghost use Rattle.iddqd_c.specs.Entries.{SaysSound};
 ghost use Rattle.iddqd_c.specs.Held.{ReadsKeyed};
 
-use crate::code::{HANDLE, MEMORY, OK, UNSOUND};
 use crate::entry::Entries;
 use crate::handle::{CTable, put, take};
 use crate::table::Table;
 use iddqd::internal::{ValidateChaos, ValidateCompact, ValidateRefusal};
+use iddqd_codes::{HANDLE, MEMORY, OK, UNSOUND};
 use iddqd_driver::keyed_items::Keyed;
 use std::alloc::Global;
 

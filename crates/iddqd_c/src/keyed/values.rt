@@ -3,11 +3,11 @@ ghost use Rattle.std.specs.Prelude.{◌≡◌, ◌≢◌, Some};
 ghost use Rattle.iddqd_c.specs.Entries.{SetsValue, with_value};
 ghost use Rattle.iddqd_c.specs.Held.{ChangesKeyed};
 
-use crate::code::{HANDLE, MISSING, OK};
 use crate::entry::{Entries, Entry};
 use crate::handle::{CTable, put, take};
 use crate::table::Table;
 use iddqd::item_index::ItemIndex;
+use iddqd_codes::{HANDLE, MISSING, OK};
 use iddqd_driver::keyed_items::Keyed;
 use std::alloc::Global;
 

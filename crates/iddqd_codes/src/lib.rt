@@ -1,4 +1,5 @@
-//! What the functions return.
+//! What the functions for C return, those of `iddqd_c` and those of `iddqd_multi_c`.
+#![tactic(auto)]
 
 /// It is done.
 pub const OK: u32 = 0;
@@ -6,7 +7,7 @@ pub const OK: u32 = 0;
 /// No item has the key, or the index isn't live. Nothing changed.
 pub const MISSING: u32 = 1;
 
-/// An item has a key of the new one. Nothing changed.
+/// An item has a key of the new one that no two items may have. Nothing changed.
 pub const DUPLICATE: u32 = 2;
 
 /// There are as many items as there can be. Nothing changed.
@@ -15,8 +16,8 @@ pub const FULL: u32 = 3;
 /// Memory ran out. No item changed.
 pub const MEMORY: u32 = 4;
 
-/// The handle holds no table, or one of another kind; of a function that makes a table: the handle isn't zero. Nothing
-/// changed.
+/// The handle holds no table, or one of another kind or of another library; of a function that makes a table: the
+/// handle isn't zero. Nothing changed.
 pub const HANDLE: u32 = 5;
 
 /// The buffer is too short. Nothing was written to it, and nothing changed.
