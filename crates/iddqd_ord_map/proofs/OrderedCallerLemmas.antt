@@ -139,8 +139,8 @@ module _ {T : Type 0} (order : T → T → Ordering) (s : Store T) where
   FindsFirst-least total ix item (others, first) =
       let scan : IsSortedScan itself order s first.indexes = all_listed first.indexes first.listed in
       let live : AreLive s first.indexes = λ i here.
-          let (x, is, passes) = (first.listed.hits.each i).0 here in
-          live_at s i x is in
+      let (x, is, passes) = (first.listed.hits.each i).0 here in
+      live_at s i x is in
       let (at, is) = first_pair s first.indexes ix item others live first.with_items in
       let (x, there, least) = HasLeastKey-first s first.indexes scan.holds itself order total scan.placed ix at in
       let same : x ≡ item = cc in
