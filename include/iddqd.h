@@ -99,6 +99,13 @@ uint32_t iddqd_keyed_get(iddqd_table *table, uint32_t index, iddqd_row *row);
  * item has that key; the places behind them stay. SMALL: `size`, the number of places of the buffer, is less than len. */
 uint32_t iddqd_keyed_find_many(iddqd_table *table, const uint64_t *seconds, size_t len, iddqd_row *rows, size_t size);
 
+/* Look up `len` first keys in one call. Their bytes stand one after the other in a buffer of `total` bytes: key i ends
+ * at the offset ends[i] and begins where the key before it ends, key 0 at 0. OK: rows[i] is the item with key i, or has
+ * the index IDDQD_SENTINEL if no item has that key, or if the key ends before it begins or past the buffer; the places
+ * behind them stay. SMALL: `size`, the number of places for rows, is less than len. */
+uint32_t iddqd_keyed_find_many1(iddqd_table *table, const uint8_t *bytes, size_t total, const size_t *ends, size_t len,
+                                iddqd_row *rows, size_t size);
+
 /* Remove by the first key, by the second key, or by the index. OK: *row was the item. MISSING. */
 uint32_t iddqd_keyed_remove1(iddqd_table *table, const uint8_t *key, size_t len, iddqd_row *row);
 uint32_t iddqd_keyed_remove2(iddqd_table *table, uint64_t second, iddqd_row *row);

@@ -108,6 +108,21 @@ impl Keyed {
         row_of(|row| unsafe { raw::iddqd_keyed_find2(self.0.get(), second, row) })
     }
 
+    /// The item with each of these first keys, looked up in one call. It copies the keys into one buffer.
+    pub fn find_many1<K: AsRef<[u8]>>(&self, firsts: &[K]) -> Vec<Option<Row>> {
+        let (mut bytes, mut ends) = (Vec::new(), Vec::with_capacity(firsts.len()));
+        for first in firsts {
+            bytes.extend_from_slice(first.as_ref());
+            ends.push(bytes.len());
+        }
+        let mut rows = vec![Row { index: SENTINEL, ..Row::default() }; ends.len()];
+        let (keys, total, to, size) = (bytes.as_ptr(), bytes.len(), rows.as_mut_ptr(), rows.len());
+        // SAFETY: the pointers are to `total` bytes, to as many ends as there are keys, and to `size` rows that nothing
+        // else uses.
+        unsafe { raw::iddqd_keyed_find_many1(self.0.get(), keys, total, ends.as_ptr(), ends.len(), to, size) };
+        rows.into_iter().map(|row| index_of(row.index).map(|_| row)).collect()
+    }
+
     /// The item at an index.
     pub fn get(&self, index: u32) -> Option<Row> {
         // SAFETY: the pointer is to a row that nothing else uses.

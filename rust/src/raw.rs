@@ -77,6 +77,15 @@ unsafe extern "C" {
     ) -> u32;
     pub(crate) fn iddqd_keyed_find1(table: *mut Table, key: *const u8, len: usize, row: *mut Row) -> u32;
     pub(crate) fn iddqd_keyed_find2(table: *mut Table, second: u64, row: *mut Row) -> u32;
+    pub(crate) fn iddqd_keyed_find_many1(
+        table: *mut Table,
+        bytes: *const u8,
+        total: usize,
+        ends: *const usize,
+        len: usize,
+        rows: *mut Row,
+        size: usize,
+    ) -> u32;
     pub(crate) fn iddqd_keyed_get(table: *mut Table, index: u32, row: *mut Row) -> u32;
     pub(crate) fn iddqd_keyed_remove1(table: *mut Table, key: *const u8, len: usize, row: *mut Row) -> u32;
     pub(crate) fn iddqd_keyed_remove2(table: *mut Table, second: u64, row: *mut Row) -> u32;

@@ -88,6 +88,19 @@ fn an_item_gets_other_keys() {
 }
 
 #[test]
+fn first_keys_are_found_in_one_call() {
+    let mut items = Keyed::new(1, 2).unwrap();
+    for number in 0..100u64 {
+        items.insert(&b"x".repeat(number as usize), number, number).unwrap();
+    }
+    let firsts: Vec<_> = (0..200).rev().map(|number| b"x".repeat(number)).collect();
+    let rows = items.find_many1(&firsts);
+    assert_eq!(rows, firsts.iter().map(|first| items.find1(first)).collect::<Vec<_>>());
+    assert_eq!(rows.iter().flatten().count(), 100);
+    assert_eq!(items.find_many1::<&[u8]>(&[]), []);
+}
+
+#[test]
 fn a_compaction_returns_the_new_index_of_each_old_one() {
     let mut items = Keyed::new(1, 2).unwrap();
     assert_eq!(items.compact(), Ok(vec![]));

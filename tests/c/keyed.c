@@ -41,6 +41,7 @@ static void check_no_table(iddqd_table *table) {
     CHECK(iddqd_keyed_find2(table, 1, &row) == IDDQD_HANDLE);
     CHECK(iddqd_keyed_get(table, 0, &row) == IDDQD_HANDLE);
     CHECK(iddqd_keyed_find_many(table, &(uint64_t){ 1 }, 1, rows, 2) == IDDQD_HANDLE);
+    CHECK(iddqd_keyed_find_many1(table, bytes("a"), 1, &(size_t){ 1 }, 1, rows, 2) == IDDQD_HANDLE);
     CHECK(iddqd_keyed_remove1(table, bytes("a"), 1, &row) == IDDQD_HANDLE);
     CHECK(iddqd_keyed_remove2(table, 1, &row) == IDDQD_HANDLE);
     CHECK(iddqd_keyed_remove(table, 0, &row) == IDDQD_HANDLE);
@@ -189,6 +190,30 @@ static void check_keys_at_once(void) {
     CHECK(rows[1].index == IDDQD_SENTINEL);
     CHECK(rows[2].index == 1 && rows[2].second == 10 && rows[2].value == 1 && same_row(&rows[3], &NO_ROW));
     CHECK(iddqd_keyed_find_many(&table, seconds, 0, rows, 0) == IDDQD_OK);
+    iddqd_free(&table);
+}
+
+/* First keys in one call: "ada", "bo", the empty one, a missing one, one that ends before it begins, "bo", and one that
+ * ends past the bytes. */
+static void check_first_keys_at_once(void) {
+    static const size_t ends[] = { 3, 5, 5, 6, 3, 5, SIZE_MAX };
+    static const uint32_t found[] = { 0, 1, 2, IDDQD_SENTINEL, IDDQD_SENTINEL, 1, IDDQD_SENTINEL };
+    const uint8_t *keys = bytes("adabox");
+    iddqd_table table = IDDQD_NONE;
+    iddqd_conflict conflict;
+    iddqd_row rows[] = { NO_ROW, NO_ROW, NO_ROW, NO_ROW, NO_ROW, NO_ROW, NO_ROW, NO_ROW };
+    uint32_t index;
+    CHECK(iddqd_keyed_new(&table, 9, 10) == IDDQD_OK);
+    CHECK(iddqd_keyed_insert(&table, bytes("ada"), 3, 70, 100, &index, &conflict) == IDDQD_OK);
+    CHECK(iddqd_keyed_insert(&table, bytes("bo"), 2, 71, 101, &index, &conflict) == IDDQD_OK);
+    CHECK(iddqd_keyed_insert(&table, bytes(""), 0, 72, 102, &index, &conflict) == IDDQD_OK);
+    CHECK(iddqd_keyed_find_many1(&table, keys, 6, ends, 7, rows, 6) == IDDQD_SMALL && same_row(&rows[0], &NO_ROW));
+    CHECK(iddqd_keyed_find_many1(&table, keys, 6, ends, 7, rows, 8) == IDDQD_OK && same_row(&rows[7], &NO_ROW));
+    for (size_t i = 0; i < 7; i++) {
+        CHECK(rows[i].index == found[i]);
+        CHECK(found[i] == IDDQD_SENTINEL || (rows[i].second == 70 + found[i] && rows[i].value == 100 + found[i]));
+    }
+    CHECK(iddqd_keyed_find_many1(&table, keys, 0, ends, 0, rows, 0) == IDDQD_OK);
     iddqd_free(&table);
 }
 
@@ -403,6 +428,7 @@ int main(void) {
     check_keys();
     check_buffers();
     check_keys_at_once();
+    check_first_keys_at_once();
     check_room();
     check_compaction();
     check_many();

@@ -1,6 +1,7 @@
 -- A buffer that a loop fills with the answers for keys, one after another.
-use Rattle.std.proofs.Common.{◌≡◌, ◌∙◌, ◌+◌, ◌<◌, ◌≤◌, ℕ, List, [], ◌∷◌, ◌++◌, length, get_or, slice_set, refl, sym, ap, subst}
-use Rattle.std.specs.Prelude.{take, drop}
+use Rattle.std.proofs.Common.{◌≡◌, ◌≢◌, ◌∙◌, ◌+◌, ◌<◌, ◌≤◌, ℕ, List, [], ◌∷◌, ◌++◌, length, get_or, slice_set, suc, refl, sym, ap, subst, arith}
+use Rattle.std.specs.Prelude.{take, drop, Option, Some, None}
+use Rattle.std.proofs.lemmas.Slice.Zip.{get_or-zip, length-zip}
 use Rattle.std.proofs.Math.Seq.{set-append_seam}
 use Rattle.std.proofs.lemmas.List.{append_assoc, drop_more, length_push, take_all, take_more}
 use Rattle.std.proofs.Common.{nat_cmp}
@@ -11,14 +12,41 @@ use Rattle.iddqd_driver.specs.Keys.{Keys, keys_of}
 use Rattle.iddqd_byte_keys.specs.contracts.ByteKeyHash.TheImpl as hash
 use Rattle.iddqd_byte_keys.specs.contracts.ByteKeyPartialEq.TheImpl as equality
 use Rattle.iddqd_byte_keys.specs.declared.ByteKey.{ByteKey}
-use Rattle.iddqd_c.specs.Rows.{AreAlike}
+use Rattle.iddqd.specs.Store.{sentinel}
+use Rattle.iddqd_codes.specs.declared.TheConstants.{OK}
+use Rattle.iddqd_c.specs.Entries.{spans}
+use Rattle.iddqd_c.specs.Rows.{AreAlike, ReportsRow, SaysRow}
 use Rattle.iddqd_c.specs.contracts.entry.EntryKeyedItem.TheImpl as entry
 use Rattle.iddqd_c.specs.declared.entry.Entry.{Entry}
+use Rattle.iddqd_c.specs.declared.entry.Row.{Row}
 
 -- the keys of entries, as clauses name them
 abbrev pub entry_keys : Keys Entry ByteKey ℕ RandomState
 entry_keys =
     keys_of entry.ghosts equality.ghosts.eq hash.ghosts.hash_input nat_cmp builder.ghosts hasher.ghosts
+
+-- the code of a report and what it writes say in a row alone which entry was found, if the row said none before
+pub reported :
+    (code : ℕ) (row was : Row) (found : Option (ℕ × Entry)) → SaysRow code row found → (code ≢ OK → row ≡ was)
+    → was.index ≡ sentinel → ReportsRow row found
+reported code row was (Some (ix, entry)) says kept none = says.1
+reported code row was None says kept none =
+    ap (λ (r : Row). r.index) (kept (λ ok. absurd (omega (arith, ok, says)))) ∙ none
+
+pub length-spans : (ends : List ℕ) → length (spans ends) ≡ length ends
+length-spans ends = omega (arith, length-zip (0 ∷ ends) ends)
+
+pub next_start : (ends : List ℕ) (at : ℕ) → get_or ends at 0 ≡ get_or (0 ∷ ends) (at + 1) 0
+next_start ends at =
+    let next : suc at ≡ at + 1 = omega arith in
+    ap (λ n. get_or (0 ∷ ends) n 0) next
+
+pub span_at :
+    (ends : List ℕ) (at start : ℕ) → start ≡ get_or (0 ∷ ends) at 0 → at < length ends
+    → (start, get_or ends at 0) ≡ get_or (spans ends) at (0, 0)
+span_at ends at start is within =
+    let pair : ℕ → ℕ × ℕ = λ s. (s, get_or ends at 0) in
+    ap pair is ∙ sym (get_or-zip (0 ∷ ends) ends at (0, 0) (omega (arith, within)) within)
 
 module _ {X Y : Type 0} (P : X → Y → Type 0) where
   AreAlike-push :

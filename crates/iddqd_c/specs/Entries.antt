@@ -1,9 +1,10 @@
 -- What the functions on keyed items answer and leave, as steps of the keyed machine.
 use Rattle.std.specs.Prelude.{◌≡◌, ◌⊎◌, ◌≤◌, ◌<◌, ℕ, Bool, List, [], ◌∷◌, ◌++◌, drop, length, Option, None, IfSome, Ok, Some, Result, Err}
+use Rattle.std.specs.List.{slice_range, zip}
 use Rattle.std.specs.Ordering.{nat_cmp}
 use Rattle.std.specs.declared.ops.Bound.TheVariants.{Included, Unbounded}
 use Rattle.std.specs.declared.alloc.AllocError.{AllocError}
-use Rattle.iddqd.specs.Store.{get, live_count, IsFull}
+use Rattle.iddqd.specs.Store.{get, live_count, sentinel, IsFull}
 use Rattle.iddqd_keys.specs.OrderedQuery.{is_within}
 use Rattle.iddqd_keys.specs.Scan.{IsLive}
 use Rattle.iddqd_driver.specs.Keys.{Keys}
@@ -50,6 +51,20 @@ SaysRefusal code conflict (Memory entry) = code ≡ MEMORY
 abbrev pub is_from : ℕ → ℕ → Bool
 is_from from = is_within nat_cmp (Included from) Unbounded
 
+-- The answers for these keys stand at the start of a buffer, and the places behind them are as they were.
+pub record FillsAnswers {X : Type 0} (P : X → Row → Type 0) (asked : List X) (was rows : List Row) : Type 0 where
+  pub answers : List Row
+  pub each : AreAlike P asked answers
+  pub filled : rows ≡ answers ++ drop (length asked) was
+
+-- where keys that end at these offsets begin and end: each begins where the one before ends, and the first at 0
+abbrev pub spans : List ℕ → List (ℕ × ℕ)
+spans ends = zip (0 ∷ ends) ends
+
+-- whether bytes have a span from a start to an end
+abbrev pub HasSpan : List ℕ → ℕ → ℕ → Type 0
+HasSpan bytes start end = (start ≤ end) × (end ≤ length bytes)
+
 module _ {S K1 : Type 0} (keys : Keys Entry K1 ℕ S) where
   -- a step of the machine by the first key of each entry whose first key has these bytes
   abbrev pub StepsByBytes : List ℕ → (K1 → Command Entry K1 ℕ) → State Entry S → Reply Entry → State Entry S → Type 0
@@ -79,17 +94,32 @@ module _ {S K1 : Type 0} (keys : Keys Entry K1 ℕ S) where
     pub live : IfSome found (IsLive k.state.store)
     pub step : Step keys k.state (Find2 second) (Found found) k.state
 
-  -- The answers for these second keys stand at the start of a buffer, and the places behind them are as they were.
-  pub record FillsAnswers (k : SizedState Entry S) (seconds : List ℕ) (was rows : List Row) : Type 0 where
-    pub answers : List Row
-    pub each : AreAlike (AnswersSecond k) seconds answers
-    pub filled : rows ≡ answers ++ drop (length seconds) was
-
   -- what a look-up of many second keys answers: `SMALL`, if the buffer has fewer places than there are keys
   abbrev pub FindsMany : List ℕ → ℕ → List Row → List Row → SizedState Entry S → Type 0
   FindsMany seconds code was rows k =
-      ((code ≡ OK) × (length seconds ≤ length was) × FillsAnswers k seconds was rows)
+      ((code ≡ OK) × (length seconds ≤ length was) × FillsAnswers (AnswersSecond k) seconds was rows)
       ⊎ ((code ≡ SMALL) × (length was < length seconds) × (rows ≡ was))
+
+  -- what a look-up of many first keys answers for the one with these bytes, as a step of the machine
+  pub record AnswersFirst (k : SizedState Entry S) (bytes : List ℕ) (row : Row) : Type 0 where
+    pub found : Option ℕ
+    pub reports : ReportsRow row (entry_found k.state.store found)
+    pub live : IfSome found (IsLive k.state.store)
+    pub step : StepsByBytes bytes Find1 k.state (Found found) k.state
+
+  -- what a look-up of many first keys answers for a span of its bytes: for the key there, if the bytes have this span,
+  -- otherwise as for a missing key
+  abbrev pub AnswersSpan : SizedState Entry S → List ℕ → ℕ × ℕ → Row → Type 0
+  AnswersSpan k bytes (start, end) row =
+      (HasSpan bytes start end × AnswersFirst k (slice_range bytes start end) row)
+      ⊎ ((HasSpan bytes start end → ⊥) × (row.index ≡ sentinel))
+
+  -- What a look-up of many first keys answers, whose bytes stand one after the other and end at these offsets: `SMALL`,
+  -- if the buffer has fewer places than there are keys.
+  abbrev pub FindsManyFirst : List ℕ → List ℕ → ℕ → List Row → List Row → SizedState Entry S → Type 0
+  FindsManyFirst bytes ends code was rows k =
+      ((code ≡ OK) × (length ends ≤ length was) × FillsAnswers (AnswersSpan k bytes) (spans ends) was rows)
+      ⊎ ((code ≡ SMALL) × (length was < length ends) × (rows ≡ was))
 
   -- What a removal answers and leaves: what the machine removes, and the memory stays.
   pub record Removes

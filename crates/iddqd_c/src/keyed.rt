@@ -15,6 +15,7 @@ mod compaction;
 pub(crate) mod finds;
 pub(crate) mod inserts;
 mod many;
+mod many_first;
 mod memory;
 mod ranges;
 mod removes;

@@ -58,7 +58,7 @@ fn find_many(table: &Table, seconds: &[u64], rows: &mut [Row]) -> u32
 // Writes a row for each of the second keys.
 fn fill(items: &Entries, seconds: &[u64], rows: &mut [Row])
     requires { length seconds.now ≤ length rows.old }
-    ensures { FillsAnswers ⟦<Entries as Keyed>⟧.keys items.now seconds.now rows.old rows.new }
+    ensures { FillsAnswers (AnswersSecond ⟦<Entries as Keyed>⟧.keys items.now) seconds.now rows.old rows.new }
 {
     for at in 0..seconds.len() {
         rows[at] = answer(items, seconds[at]);
