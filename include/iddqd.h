@@ -50,6 +50,10 @@ enum {
 /* The index that no item has. */
 #define IDDQD_SENTINEL UINT32_C(4294967295)
 
+/* The version of this header, and that of the library. They differ if a program was compiled with another header. */
+#define IDDQD_VERSION UINT32_C(1)
+uint32_t iddqd_version(void);
+
 /* Frees the table, whatever its kind, and makes the handle zero. Of a handle without a table it does nothing. */
 void iddqd_free(iddqd_table *table);
 

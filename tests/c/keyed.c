@@ -424,6 +424,7 @@ static void check_many(void) {
 }
 
 int main(void) {
+    CHECK(iddqd_version() == IDDQD_VERSION);
     check_handles();
     check_keys();
     check_buffers();

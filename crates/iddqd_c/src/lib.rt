@@ -17,3 +17,4 @@ mod handle;
 mod index;
 mod keyed;
 mod table;
+mod version;
