@@ -13,12 +13,12 @@ use Rattle.iddqd_map.proofs.map.hashed_groups.remove_each.Goals as goal
 pub returns-in-None-clause-left : goal.returns-in-None-clause-left
 returns-in-None-clause-left g c =
     let test = g.X.GroupedAt.stands_for c.args.query in
-    LeavesOthers-none test c.args.items.now.store c.in-None.ensures
+    LeavesOthers-none test c.args.items.now.store c.in-None.ensures.some
 
 pub returns-in-None-clause-handed : goal.returns-in-None-clause-handed
 returns-in-None-clause-handed g c =
     let test = g.X.GroupedAt.stands_for c.args.query in
-    RemovesEach-none test (GivesItem g.F.FnMut) c.args.f.now c.args.items.now.store c.in-None.ensures
+    RemovesEach-none test (GivesItem g.F.FnMut) c.args.f.now c.args.items.now.store c.in-None.ensures.some
 
 pub give-requires-clause-can_give : goal.give-requires-clause-can_give
 give-requires-clause-can_give g c = λ item live.
