@@ -114,8 +114,3 @@ pub record IsWalk (links : List Link) (at most : ℕ) : Type 0 where
 pub record AreUnder (filed : FinMap nat_cmp ℕ) (hash : ℕ) (indexes : List ℕ) : Type 0 where
   pub each : (ix : ℕ) → Contains indexes ix ↔ (finite.get filed ix ≡ Some hash)
   pub once : IsDistinct nat_eq indexes
-
--- another index with the hash of this one; `None` if and only if there is none
-abbrev pub FindsOtherUnder : FinMap nat_cmp ℕ → ℕ → Option ℕ → Type 0
-FindsOtherUnder filed ix (Some j) = (j ≢ ix) × (finite.get filed j ≡ finite.get filed ix)
-FindsOtherUnder filed ix None = (j : ℕ) → finite.get filed j ≡ finite.get filed ix → j ≡ ix

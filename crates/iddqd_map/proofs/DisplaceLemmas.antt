@@ -1,8 +1,7 @@
 -- What calls leave that insert many items and hand over those that they displace.
-use Rattle.std.proofs.Common.{◌≡◌, ◌≢◌, ◌∙◌, ◌⊎◌, inl, inr, ◌↔◌, ◌+◌, ◌<◌, ◌≤◌, ℕ, zero, suc, Bool, true, false, cond, List, [], ◌∷◌, ◌++◌, length, map, Option, Some, None, is_some, slice_index_or, refl, sym, ap, subst, arith}
-use Rattle.std.specs.Prelude.{Result, Ok, Err}
+use Rattle.std.proofs.Common.{◌≡◌, ◌∙◌, ◌⊎◌, inl, inr, ◌↔◌, ◌+◌, ◌<◌, ◌≤◌, ℕ, suc, Bool, true, false, cond, List, [], ◌∷◌, ◌++◌, length, map, Option, Some, None, is_some, slice_index_or, refl, sym, ap, subst, arith}
 use Rattle.std.specs.Fn.{Mut}
-use Rattle.std.specs.Iterator.{Count, IsFinite, IsNearerEnd, MakesProgress, UpTo, Yields, size}
+use Rattle.std.specs.Iterator.{Count, IsFinite, MakesProgress, UpTo, Yields, size}
 use Rattle.std.specs.List.{Contains, FoldsTo, count_by}
 use Rattle.std.proofs.lemmas.Bool.{cases_eq}
 use Rattle.std.proofs.lemmas.Fn.{FoldsTo-push}
@@ -10,15 +9,15 @@ use Rattle.std.proofs.lemmas.List.{map-append, length-append, length-map, length
 use Rattle.std.proofs.lemmas.List.Sums.{sum_by-cons}
 use Rattle.std.proofs.lemmas.List.Elements.{Contains-append_cases, Contains-append_left, Contains-append_right}
 use Rattle.iddqd.specs.LiveItems.{items_in, live_items}
-use Rattle.iddqd.specs.Store.{Store, IsFull, IsValid, get, inserted, live_count, next_index, removed}
+use Rattle.iddqd.specs.Store.{Store, IsValid, get, inserted, live_count, next_index, removed}
 use Rattle.iddqd.proofs.StoreLemmas.{contains_head, contains_tail, contains_cases, contains_none}
-use Rattle.iddqd_hash.specs.Asks.{CanAsk, CanAskInTurn}
+use Rattle.iddqd_hash.specs.Asks.{CanAsk}
 use Rattle.iddqd_hash.proofs.AskLemmas.{CanAsk-asked, CanAsk-everywhere}
 use Rattle.iddqd_keys.specs.Removals.{IsIncreasing, padded, removed_all}
 use Rattle.iddqd_keys.specs.Scan.{IsLive, IsHit, HasNoHit}
 use Rattle.iddqd_keys.proofs.RemovalLemmas.{AreLiveInTurn, AreLiveInTurn-rising, IsValid-removed_all}
 use Rattle.iddqd_keys.proofs.ScanLemmas.{live_before, live_cases}
-use Rattle.iddqd_map.specs.BulkOverwrite.{CanDisplace, Displaces, DisplacesAt, DisplacesNext, HandsOver, MayDisplace, OverwritesItems, OverwritesUntil, RefusesItem}
+use Rattle.iddqd_map.specs.BulkOverwrite.{CanDisplace, DisplacesAt, DisplacesNext, HandsOver, MayDisplace, OverwritesUntil, RefusesItem}
 use Rattle.iddqd_map.specs.Calls.{InsertsAt, OverwritesAt}
 use Rattle.iddqd_map.specs.KeyIndex.{IsNextReported}
 use Rattle.iddqd_map.specs.Map.{MapState, room}
@@ -26,9 +25,10 @@ use Rattle.iddqd_map.specs.Overwrite.{GivesReported}
 use Rattle.iddqd_map.specs.Ranges.{GivesItem, TakesItem}
 use Rattle.iddqd_map.specs.declared.refusal.OverwriteRefusal.{OverwriteRefusal}
 use Rattle.iddqd_map.specs.declared.refusal.OverwriteRefusal.TheVariants.{Full, Memory}
+use Rattle.iddqd_map.proofs.GroupRetainLemmas.{CanAsk-among}
 use Rattle.iddqd_map.proofs.OverwriteLemmas.{HasNoHit-removed_all, IsAhead, IsIncreasing-push, MakesRoom-same, ahead_first, ahead_next, contains_push, get-removed_all, past_next, push_adds, push_keeps, removed_all-push, reported_first}
 use Rattle.iddqd_map.proofs.RetainLemmas.{Contains-live}
-use Rattle.iddqd_map.proofs.RoomLemmas.{full-never, memory-never, overwritten-count, overwritten-limit, overwritten-room, overwritten-stays, overwritten-valid}
+use Rattle.iddqd_map.proofs.RoomLemmas.{overwritten-count, overwritten-room, overwritten-stays, overwritten-valid}
 
 -- ---- the items that share a key are removed one after the other, and handed over
 
@@ -72,85 +72,85 @@ module _
         (HasRoom : Type 0) (left : Store T) (next : Option ℕ) (state : G)
         (w : Displacing reported old give gone HasRoom left next state)
       where
-      -- the next one is as it was, and there
-      pub displaced_was : (j : ℕ) → next ≡ Some j → get left j ≡ get old j
-      displaced_was j is =
-          ap (λ s. get s j) w.left_is
-          ∙ get-removed_all old w.done j (λ here. let less = (w.next_reported j is).1 j here in omega (arith, less))
+        -- the next one is as it was, and there
+        pub displaced_was : (j : ℕ) → next ≡ Some j → get left j ≡ get old j
+        displaced_was j is =
+            ap (λ s. get s j) w.left_is
+            ∙ get-removed_all old w.done j (λ here. let less = (w.next_reported j is).1 j here in omega (arith, less))
 
-      pub displaced_live : (j : ℕ) → next ≡ Some j → ((ix : ℕ) → reported ix → IsLive old ix) → IsLive left j
-      displaced_live j is live = rw (displaced_was j is) (live j (w.next_reported j is).0)
+        pub displaced_live : (j : ℕ) → next ≡ Some j → ((ix : ℕ) → reported ix → IsLive old ix) → IsLive left j
+        displaced_live j is live = rw (displaced_was j is) (live j (w.next_reported j is).0)
 
-      pub Displacing-next :
-          (j : ℕ) (item : T) (after : G) (left_now : Store T) (follows : Option ℕ) (HasRoomNow : Type 0)
-          → next ≡ Some j
-          → IsNextReported reported (Some j) follows
-          → get left j ≡ Some item
-          → give state item after
-          → left_now ≡ removed left j
-          → HasRoomNow
-          → Displacing reported old give gone HasRoomNow left_now follows after
-      Displacing-next j item after left_now follows HasRoomNow is following live gives less roomy =
-          let (own, below) = w.next_reported j is in
-          let was : get old j ≡ Some item = sym (displaced_was j is) ∙ live in
-          record {
-            done = w.done ++ j ∷ [];
-            rising = IsIncreasing-push w.done j w.rising below;
-            were_reported = λ ix here. elim (contains_push w.done j ix here) [
-              | inl inside ↦ w.were_reported ix inside
-              | inr same ↦ subst reported same own
-            ];
-            ahead = λ ix here. elim (subst (λ n. Contains w.done ix ⊎ IsAhead n ix) is (w.ahead ix here)) [
-              | inl inside ↦ inl (push_keeps w.done j ix inside)
-              | inr after_it ↦ elim (cases_eq j ix) [
-                | inl same ↦ inl (subst (λ k. Contains (w.done ++ j ∷ []) k) same (push_adds w.done j))
-                | inr other ↦ inr (ahead_next reported 0 old j follows following ix here (omega (arith, after_it, other)))
-              ]
-            ];
-            next_reported = λ k at.
-                let (here, past) = past_next reported 0 old j follows following k at in (
-                  here,
-                  λ ix inside. elim (contains_push w.done j ix inside) [
-                    | inl before ↦ let less_than = below ix before in omega (arith, less_than, past)
-                    | inr same ↦ omega (arith, same, past)
-                  ],
-                );
-            handed = w.handed ++ item ∷ [];
-            items =
-                map-append Some w.handed (item ∷ [])
-                ∙ ap (λ l. l ++ Some item ∷ []) w.items
-                ∙ ap (λ o. map (get old) w.done ++ o ∷ []) (sym was)
-                ∙ sym (map-append (get old) w.done (j ∷ []));
-            given = FoldsTo-push give gone w.handed state item after w.given gives;
-            left_is = less ∙ ap (λ s. removed s j) w.left_is ∙ sym (removed_all-push old w.done j);
-            roomy = λ ix here. roomy;
-          }
+        pub Displacing-next :
+            (j : ℕ) (item : T) (after : G) (left_now : Store T) (follows : Option ℕ) (HasRoomNow : Type 0)
+            → next ≡ Some j
+            → IsNextReported reported (Some j) follows
+            → get left j ≡ Some item
+            → give state item after
+            → left_now ≡ removed left j
+            → HasRoomNow
+            → Displacing reported old give gone HasRoomNow left_now follows after
+        Displacing-next j item after left_now follows HasRoomNow is following live gives less roomy =
+            let (own, below) = w.next_reported j is in
+            let was : get old j ≡ Some item = sym (displaced_was j is) ∙ live in
+            record {
+              done = w.done ++ j ∷ [];
+              rising = IsIncreasing-push w.done j w.rising below;
+              were_reported = λ ix here. elim (contains_push w.done j ix here) [
+                | inl inside ↦ w.were_reported ix inside
+                | inr same ↦ subst reported same own
+              ];
+              ahead = λ ix here. elim (subst (λ n. Contains w.done ix ⊎ IsAhead n ix) is (w.ahead ix here)) [
+                | inl inside ↦ inl (push_keeps w.done j ix inside)
+                | inr after_it ↦ elim (cases_eq j ix) [
+                  | inl same ↦ inl (subst (λ k. Contains (w.done ++ j ∷ []) k) same (push_adds w.done j))
+                  | inr other ↦ inr (ahead_next reported 0 old j follows following ix here (omega (arith, after_it, other)))
+                ]
+              ];
+              next_reported = λ k at.
+                  let (here, past) = past_next reported 0 old j follows following k at in (
+                    here,
+                    λ ix inside. elim (contains_push w.done j ix inside) [
+                      | inl before ↦ let less_than = below ix before in omega (arith, less_than, past)
+                      | inr same ↦ omega (arith, same, past)
+                    ],
+                  );
+              handed = w.handed ++ item ∷ [];
+              items =
+                  map-append Some w.handed (item ∷ [])
+                  ∙ ap (λ l. l ++ Some item ∷ []) w.items
+                  ∙ ap (λ o. map (get old) w.done ++ o ∷ []) (sym was)
+                  ∙ sym (map-append (get old) w.done (j ∷ []));
+              given = FoldsTo-push give gone w.handed state item after w.given gives;
+              left_is = less ∙ ap (λ s. removed s j) w.left_is ∙ sym (removed_all-push old w.done j);
+              roomy = λ ix here. roomy;
+            }
 
-      -- where there is no next one, all were handed over
-      pub GivesReported-all : next ≡ None → GivesReported reported give old gone left state
-      GivesReported-all none = record {
-        indexes = w.done;
-        each = λ ix. (
-          w.were_reported ix,
-          λ here. elim (subst (λ n. Contains w.done ix ⊎ IsAhead n ix) none (w.ahead ix here)) [
-            | inl inside ↦ inside
-            | inr never ↦ absurd never
-          ],
-        );
-        rising = w.rising;
-        displaced = w.handed;
-        items = w.items;
-        given = w.given;
-        left = w.left_is;
-      }
+        -- where there is no next one, all were handed over
+        pub GivesReported-all : next ≡ None → GivesReported reported give old gone left state
+        GivesReported-all none = record {
+          indexes = w.done;
+          each = λ ix. (
+            w.were_reported ix,
+            λ here. elim (subst (λ n. Contains w.done ix ⊎ IsAhead n ix) none (w.ahead ix here)) [
+              | inl inside ↦ inside
+              | inr never ↦ absurd never
+            ],
+          );
+          rising = w.rising;
+          displaced = w.handed;
+          items = w.items;
+          given = w.given;
+          left = w.left_is;
+        }
 
-      -- and where one was reported there is room
-      pub displaced_room : next ≡ None → (ix : ℕ) × reported ix → HasRoom
-      displaced_room none (ix, here) =
-          elim (subst (λ n. Contains w.done ix ⊎ IsAhead n ix) none (w.ahead ix here)) [
-            | inl inside ↦ w.roomy ix inside
-            | inr never ↦ absurd never
-          ]
+        -- and where one was reported there is room
+        pub displaced_room : next ≡ None → (ix : ℕ) × reported ix → HasRoom
+        displaced_room none (ix, here) =
+            elim (subst (λ n. Contains w.done ix ⊎ IsAhead n ix) none (w.ahead ix here)) [
+              | inl inside ↦ w.roomy ix inside
+              | inr never ↦ absurd never
+            ]
 
 -- ---- an insert that displaces
 
@@ -231,30 +231,30 @@ module _ {T : Type 0} (alike : T → T → Bool) (grown : ℕ → ℕ) where
       (hits : (ix : ℕ) → reported ix ↔ IsHit s (alike item) ix) (gone last : G) (left : Store T)
       (took : GivesReported reported give s gone left last)
     where
-    removed_hit : (ix : ℕ) → Contains took.indexes ix ↔ IsHit s (alike item) ix
-    removed_hit ix = (λ here. (hits ix).0 ((took.each ix).0 here), λ hit. (took.each ix).1 ((hits ix).1 hit))
+      removed_hit : (ix : ℕ) → Contains took.indexes ix ↔ IsHit s (alike item) ix
+      removed_hit ix = (λ here. (hits ix).0 ((took.each ix).0 here), λ hit. (took.each ix).1 ((hits ix).1 hit))
 
-    pub HasNoHit-given : HasNoHit left (alike item)
-    HasNoHit-given = rw took.left (HasNoHit-removed_all s took.indexes (alike item) took.rising removed_hit)
+      pub HasNoHit-given : HasNoHit left (alike item)
+      HasNoHit-given = rw took.left (HasNoHit-removed_all s took.indexes (alike item) took.rising removed_hit)
 
-    pub DisplacesAt-given :
-        (old new : MapState T) (ix : ℕ)
-        → old.store ≡ s
-        → (j : ℕ) × reported j
-        → ix ≡ next_index left
-        → new.store ≡ inserted left item
-        → new.memory ≡ old.memory
-        → DisplacesAt alike grown old item ix took.displaced new
-    DisplacesAt-given old new ix is some index stored same = record {
-      conflicts = took.indexes;
-      are_conflicts = rw is (record { each = removed_hit; rising = took.rising });
-      not_full = λ none full. none some.0 (rw is ((hits some.0).0 some.1));
-      items = rw is took.items;
-      index = rw (is, ← took.left) index;
-      stored = rw (is, ← took.left) stored;
-      memory = MakesRoom-same alike grown old new.memory same;
-      same_memory = λ _. same;
-    }
+      pub DisplacesAt-given :
+          (old new : MapState T) (ix : ℕ)
+          → old.store ≡ s
+          → (j : ℕ) × reported j
+          → ix ≡ next_index left
+          → new.store ≡ inserted left item
+          → new.memory ≡ old.memory
+          → DisplacesAt alike grown old item ix took.displaced new
+      DisplacesAt-given old new ix is some index stored same = record {
+        conflicts = took.indexes;
+        are_conflicts = rw is (record { each = removed_hit; rising = took.rising });
+        not_full = λ none full. none some.0 (rw is ((hits some.0).0 some.1));
+        items = rw is took.items;
+        index = rw (is, ← took.left) index;
+        stored = rw (is, ← took.left) stored;
+        memory = MakesRoom-same alike grown old new.memory same;
+        same_memory = λ _. same;
+      }
 
   module _ (old new : MapState T) (item : T) (valid : IsValid old.store) (ix : ℕ) (displaced : List T)
       (did : DisplacesAt alike grown old item ix displaced new) where
@@ -295,20 +295,8 @@ module _ {T : Type 0} (alike : T → T → Bool) (grown : ℕ → ℕ) where
 
 -- ---- many of them, one after the other
 
--- the same calls may be made with some of the items, and after calls with some
+-- calls may go on after calls with some of the items
 module _ {F T : Type 0} (takes : F → T → Type 0) (ask : F → T → Bool → F → Type 0) where
-  pub CanAsk-among :
-      (f : F) (xs ys : List T)
-      → ((y : T) → Contains ys y → Contains xs y)
-      → CanAsk takes ask f xs
-      → CanAsk takes ask f ys
-  CanAsk-among f xs ys among can = record { at = λ zs. in_turn zs f (can.at zs) }
-    where
-      in_turn : (zs : List T) (f : F) → CanAskInTurn takes ask f xs zs → CanAskInTurn takes ask f ys zs
-      in_turn [] f can = tt
-      in_turn (z ∷ zs) f can = λ here.
-          let one = can (among z here) in (one.0, λ b f' called. in_turn zs f' (one.1 b f' called))
-
   CanAsk-after :
       (f : F) (xs given : List T) (last : F)
       → ((x : T) → Contains given x → Contains xs x)
@@ -321,7 +309,10 @@ module _ {F T : Type 0} (takes : F → T → Type 0) (ask : F → T → Bool →
       (CanAsk-asked takes ask f xs x true next can (among x (contains_head x given)) called) more
 
 module _ {T : Type 0} where
-  stored_of : (slots : List (Option T)) (y : T) → Contains (items_in slots) y → (j : ℕ) × (slice_index_or slots j None ≡ Some y)
+  stored_of :
+      (slots : List (Option T)) (y : T)
+      → Contains (items_in slots) y
+      → (j : ℕ) × (slice_index_or slots j None ≡ Some y)
   stored_of [] y here = absurd (contains_none y here)
   stored_of (None ∷ rest) y here = let (j, at) = stored_of rest y here in (suc j, at)
   stored_of (Some x ∷ rest) y here = elim (contains_cases x y (items_in rest) here) [
@@ -401,111 +392,111 @@ module _
     {I G T : Type 0} (can : I → Type 0) (gives : I → Option T → I → Type 0) (remaining : I → Count)
     (g : Mut G (T × Unit {0}) (Unit {0})) (alike : T → T → Bool) (grown : ℕ → ℕ)
   where
-  abbrev pub asks : G → List T → Type 0
-  asks f xs = CanAsk (TakesItem g) (λ p x (b : Bool) q. GivesItem g p x q) f xs
+    abbrev pub asks : G → List T → Type 0
+    asks f xs = CanAsk (TakesItem g) (λ p x (b : Bool) q. GivesItem g p x q) f xs
 
-  -- the stored items may be given to the closure
-  pub can-stored : (it : I) (f : G) (s : Store T) → CanDisplace gives g it f s → asks f (live_items s)
-  can-stored it f s may =
-      CanAsk-among (TakesItem g) (λ p x (b : Bool) q. GivesItem g p x q) f (live_items s ++ []) (live_items s)
-      (λ y here. Contains-append_left (live_items s) [] y here) (may [] it refl)
+    -- the stored items may be given to the closure
+    pub can-stored : (it : I) (f : G) (s : Store T) → CanDisplace gives g it f s → asks f (live_items s)
+    can-stored it f s may =
+        CanAsk-among (TakesItem g) (λ p x (b : Bool) q. GivesItem g p x q) f (live_items s ++ []) (live_items s)
+        (λ y here. Contains-append_left (live_items s) [] y here) (may [] it refl)
 
-  pub MayDisplace-can : (it : I) (f : G) (s : Store T) → MayDisplace gives g it f s → CanDisplace gives g it f s
-  MayDisplace-can it f s may =
-      may (λ takes came then run.
-      CanAsk-everywhere (TakesItem g) (λ p x (b : Bool) q. GivesItem g p x q) f (live_items s ++ came) takes)
+    pub MayDisplace-can : (it : I) (f : G) (s : Store T) → MayDisplace gives g it f s → CanDisplace gives g it f s
+    MayDisplace-can it f s may =
+        may (λ takes came then run.
+        CanAsk-everywhere (TakesItem g) (λ p x (b : Bool) q. GivesItem g p x q) f (live_items s ++ came) takes)
 
-  -- So far each item was inserted: so many.
-  pub record Overwriting
-      (start : I) (old : MapState T) (gone : G) (it : I) (now : MapState T) (state : G) (count : ℕ)
-      : Type 0 where
-    pub items : List T
-    pub displaced : List T
-    pub counted : count ≡ length items
-    pub came : Yields gives start items it
-    pub in_turn : FoldsTo (DisplacesNext alike grown) (old, []) items (now, displaced)
-    pub handed : FoldsTo (GivesItem g) gone displaced state
-    pub may_go_on : can it
-    pub valid : IsValid now.store
-    pub may_give : CanDisplace gives g it state now.store
-    pub nearer : IsFinite (remaining it) × (length items + size (remaining it) ≤ size (remaining start))
-    pub roomy : UpTo (remaining start) (room old) → size (remaining it) ≤ room now
+    -- So far each item was inserted: so many.
+    pub record Overwriting
+        (start : I) (old : MapState T) (gone : G) (it : I) (now : MapState T) (state : G) (count : ℕ)
+        : Type 0 where
+      pub items : List T
+      pub displaced : List T
+      pub counted : count ≡ length items
+      pub came : Yields gives start items it
+      pub in_turn : FoldsTo (DisplacesNext alike grown) (old, []) items (now, displaced)
+      pub handed : FoldsTo (GivesItem g) gone displaced state
+      pub may_go_on : can it
+      pub valid : IsValid now.store
+      pub may_give : CanDisplace gives g it state now.store
+      pub nearer : IsFinite (remaining it) × (length items + size (remaining it) ≤ size (remaining start))
+      pub roomy : UpTo (remaining start) (room old) → size (remaining it) ≤ room now
 
-  pub Overwriting-first :
-      (start : I) (old : MapState T) (gone : G)
-      → can start
-      → IsFinite (remaining start)
-      → IsValid old.store
-      → CanDisplace gives g start gone old.store
-      → Overwriting start old gone start old gone 0
-  Overwriting-first start old gone may finite valid give = record {
-    items = [];
-    displaced = [];
-    counted = refl;
-    came = refl;
-    in_turn = refl;
-    handed = refl;
-    may_go_on = may;
-    valid = valid;
-    may_give = give;
-    nearer = (finite, omega arith);
-    roomy = λ fits. fits.1;
-  }
+    pub Overwriting-first :
+        (start : I) (old : MapState T) (gone : G)
+        → can start
+        → IsFinite (remaining start)
+        → IsValid old.store
+        → CanDisplace gives g start gone old.store
+        → Overwriting start old gone start old gone 0
+    Overwriting-first start old gone may finite valid give = record {
+      items = [];
+      displaced = [];
+      counted = refl;
+      came = refl;
+      in_turn = refl;
+      handed = refl;
+      may_go_on = may;
+      valid = valid;
+      may_give = give;
+      nearer = (finite, omega arith);
+      roomy = λ fits. fits.1;
+    }
 
-  module _
-      (start it then : I) (old now : MapState T) (gone state : G) (count : ℕ) (item : T)
-      (w : Overwriting start old gone it now state count)
-      (step : gives it (Some item) then) (goes : MakesProgress can remaining it (Some item) then)
-    where
-    -- if there was room for all, there is room for this item
-    Overwriting-room : UpTo (remaining start) (room old) → 1 ≤ room now
-    Overwriting-room fits =
-        let (may, ends, less) = goes.on w.nearer.0 in
-        omega (arith, less, w.roomy fits)
+    module _
+        (start it then : I) (old now : MapState T) (gone state : G) (count : ℕ) (item : T)
+        (w : Overwriting start old gone it now state count)
+        (step : gives it (Some item) then) (goes : MakesProgress can remaining it (Some item) then)
+      where
+        -- if there was room for all, there is room for this item
+        Overwriting-room : UpTo (remaining start) (room old) → 1 ≤ room now
+        Overwriting-room fits =
+            let (may, ends, less) = goes.on w.nearer.0 in
+            omega (arith, less, w.roomy fits)
 
-    pub Overwriting-one :
-        (ix : ℕ) (new : MapState T) (last : G) (more : List T)
-        → DisplacesAt alike grown now item ix more new
-        → FoldsTo (GivesItem g) state more last
-        → Overwriting start old gone then new last (count + 1)
-    Overwriting-one ix new last more did given =
-        let (is_finite, most) = w.nearer in
-        let (may, ends, less) = goes.on is_finite in
-        let one = length_push w.items item in
-        record {
-          items = w.items ++ item ∷ [];
-          displaced = w.displaced ++ more;
-          counted = omega (arith, one, w.counted);
-          came = came_more gives start w.items it item then w.came step;
-          in_turn = FoldsTo-push (DisplacesNext alike grown) (old, []) w.items (now, w.displaced) item (new, w.displaced ++ more)
-              w.in_turn (ix, more, did, refl);
-          handed = FoldsTo-both (GivesItem g) gone w.displaced more state last w.handed given;
-          may_go_on = goes.keeps;
-          valid = displaced-valid alike grown now new item w.valid ix more did;
-          may_give = λ came rest run.
-              let whole = w.may_give (item ∷ came) rest (then, step, run) in
-              let all = live_items now.store ++ item ∷ came in
-              let after : asks last all =
-              CanAsk-after (TakesItem g) (λ p x (b : Bool) q. GivesItem g p x q) state all more last
-              (λ y here. Contains-append_left (live_items now.store) (item ∷ came) y
-              (stored_at now.store more did.conflicts did.items y here)) whole given in
-              CanAsk-among (TakesItem g) (λ p x (b : Bool) q. GivesItem g p x q) last all (live_items new.store ++ came)
-              (λ y here. elim (Contains-append_cases (live_items new.store) came y here) [
-                | inl stored ↦ elim (stored_before alike grown now new item w.valid ix more did y stored) [
-                  | inl same ↦
-                      Contains-append_right (live_items now.store) (item ∷ came) y
-                      (subst (λ z. Contains (item ∷ came) z) same (contains_head item came))
-                  | inr was ↦ Contains-append_left (live_items now.store) (item ∷ came) y was
-                ]
-                | inr later ↦
-                    Contains-append_right (live_items now.store) (item ∷ came) y (contains_tail item y came later)
-              ]) after;
-          nearer = (ends, omega (arith, one, most, less));
-          roomy = λ fits.
-              let some = Overwriting-room fits in
-              let left = displaced-room alike grown now new item w.valid ix more did some in
-              omega (arith, less, w.roomy fits, left);
-        }
+        pub Overwriting-one :
+            (ix : ℕ) (new : MapState T) (last : G) (more : List T)
+            → DisplacesAt alike grown now item ix more new
+            → FoldsTo (GivesItem g) state more last
+            → Overwriting start old gone then new last (count + 1)
+        Overwriting-one ix new last more did given =
+            let (is_finite, most) = w.nearer in
+            let (may, ends, less) = goes.on is_finite in
+            let one = length_push w.items item in
+            record {
+              items = w.items ++ item ∷ [];
+              displaced = w.displaced ++ more;
+              counted = omega (arith, one, w.counted);
+              came = came_more gives start w.items it item then w.came step;
+              in_turn = FoldsTo-push (DisplacesNext alike grown) (old, []) w.items (now, w.displaced) item (new, w.displaced ++ more)
+                  w.in_turn (ix, more, did, refl);
+              handed = FoldsTo-both (GivesItem g) gone w.displaced more state last w.handed given;
+              may_go_on = goes.keeps;
+              valid = displaced-valid alike grown now new item w.valid ix more did;
+              may_give = λ came rest run.
+                  let whole = w.may_give (item ∷ came) rest (then, step, run) in
+                  let all = live_items now.store ++ item ∷ came in
+                  let after : asks last all =
+                  CanAsk-after (TakesItem g) (λ p x (b : Bool) q. GivesItem g p x q) state all more last
+                  (λ y here. Contains-append_left (live_items now.store) (item ∷ came) y
+                  (stored_at now.store more did.conflicts did.items y here)) whole given in
+                  CanAsk-among (TakesItem g) (λ p x (b : Bool) q. GivesItem g p x q) last all (live_items new.store ++ came)
+                  (λ y here. elim (Contains-append_cases (live_items new.store) came y here) [
+                    | inl stored ↦ elim (stored_before alike grown now new item w.valid ix more did y stored) [
+                      | inl same ↦
+                          Contains-append_right (live_items now.store) (item ∷ came) y
+                          (subst (λ z. Contains (item ∷ came) z) same (contains_head item came))
+                      | inr was ↦ Contains-append_left (live_items now.store) (item ∷ came) y was
+                    ]
+                    | inr later ↦
+                        Contains-append_right (live_items now.store) (item ∷ came) y (contains_tail item y came later)
+                  ]) after;
+              nearer = (ends, omega (arith, one, most, less));
+              roomy = λ fits.
+                  let some = Overwriting-room fits in
+                  let left = displaced-room alike grown now new item w.valid ix more did some in
+                  omega (arith, less, w.roomy fits, left);
+            }
 
 -- ---- what they leave in all
 
@@ -522,8 +513,8 @@ module _ {T : Type 0} (alike : T → T → Bool) (grown : ℕ → ℕ) where
       let stores : old ≡ new = ap (λ p. p.0) same in
       let lists : before ≡ after = ap (λ p. p.1) same in (
         (let counts = ap (λ (m : MapState T). live_count m.store) stores in
-        let lengths = ap length lists in
-        omega (arith, counts, lengths)),
+            let lengths = ap length lists in
+            omega (arith, counts, lengths)),
         λ y here. subst (λ l. Contains l y) lists here,
         λ j x live. inl (subst (λ (m : MapState T). get m.store j ≡ Some x) stores live),
       )
@@ -543,45 +534,45 @@ module _ {T : Type 0} (alike : T → T → Bool) (grown : ℕ → ℕ) where
   module _
       {I G : Type 0} (gives : I → Option T → I → Type 0) (give : G → T → G → Type 0) (may_need_memory : Bool)
     where
-    store_of_refused :
-        (before new : MapState T) (item : T) (refusal : OverwriteRefusal T)
-        → RefusesItem alike grown may_need_memory before item refusal new
-        → new.store ≡ before.store
-    store_of_refused before new item (Full back) refused = ap (λ (m : MapState T). m.store) refused.unchanged
-    store_of_refused before new item (Memory back) refused = elim refused [
-      | inl none ↦ none.store_stays
-      | inr lacks ↦ ap (λ (m : MapState T). m.store) lacks.unchanged
-    ]
+      store_of_refused :
+          (before new : MapState T) (item : T) (refusal : OverwriteRefusal T)
+          → RefusesItem alike grown may_need_memory before item refusal new
+          → new.store ≡ before.store
+      store_of_refused before new item (Full back) refused = ap (λ (m : MapState T). m.store) refused.unchanged
+      store_of_refused before new item (Memory back) refused = elim refused [
+        | inl none ↦ none.store_stays
+        | inr lacks ↦ ap (λ (m : MapState T). m.store) lacks.unchanged
+      ]
 
-    -- beside a map with the same store as the one before
-    pub HandsOver-until :
-        (first : MapState T) (it rest : I) (old new : MapState T) (items displaced : List T)
-        (refusal : Option (OverwriteRefusal T)) (gone last : G)
-        → old.store ≡ first.store
-        → IsValid first.store
-        → OverwritesUntil alike grown may_need_memory gives it old items refusal rest new displaced
-        → FoldsTo give gone displaced last
-        → HandsOver give gone last first.store new.store (length items)
-    HandsOver-until first it rest old new items displaced None gone last same valid run given =
-        let (count, keeps, stays) = displaced-along items old new [] displaced (subst IsValid (sym same) valid) run.in_turn in
-        let counts = ap live_count same in
-        record {
-          displaced = displaced;
-          handed = given;
-          counted = omega (arith, count, counts);
-          kept = λ j x live. stays j x (subst (λ s. get s j ≡ Some x) (sym same) live);
-        }
-    HandsOver-until first it rest old new items displaced (Some refusal) gone last same valid (item, before, run, refused) given =
-        let (count, keeps, stays) = displaced-along items old before [] displaced (subst IsValid (sym same) valid) run.in_turn in
-        let counts = ap live_count same in
-        let store = store_of_refused before new item refusal refused in
-        let left = ap live_count store in
-        record {
-          displaced = displaced;
-          handed = given;
-          counted = omega (arith, count, counts, left);
-          kept = λ j x live. elim (stays j x (subst (λ s. get s j ≡ Some x) (sym same) live)) [
-            | inl still ↦ inl (subst (λ s. get s j ≡ Some x) (sym store) still)
-            | inr gone_by ↦ inr gone_by
-          ];
-        }
+      -- beside a map with the same store as the one before
+      pub HandsOver-until :
+          (first : MapState T) (it rest : I) (old new : MapState T) (items displaced : List T)
+          (refusal : Option (OverwriteRefusal T)) (gone last : G)
+          → old.store ≡ first.store
+          → IsValid first.store
+          → OverwritesUntil alike grown may_need_memory gives it old items refusal rest new displaced
+          → FoldsTo give gone displaced last
+          → HandsOver give gone last first.store new.store (length items)
+      HandsOver-until first it rest old new items displaced None gone last same valid run given =
+          let (count, keeps, stays) = displaced-along items old new [] displaced (subst IsValid (sym same) valid) run.in_turn in
+          let counts = ap live_count same in
+          record {
+            displaced = displaced;
+            handed = given;
+            counted = omega (arith, count, counts);
+            kept = λ j x live. stays j x (subst (λ s. get s j ≡ Some x) (sym same) live);
+          }
+      HandsOver-until first it rest old new items displaced (Some refusal) gone last same valid (item, before, run, refused) given =
+          let (count, keeps, stays) = displaced-along items old before [] displaced (subst IsValid (sym same) valid) run.in_turn in
+          let counts = ap live_count same in
+          let store = store_of_refused before new item refusal refused in
+          let left = ap live_count store in
+          record {
+            displaced = displaced;
+            handed = given;
+            counted = omega (arith, count, counts, left);
+            kept = λ j x live. elim (stays j x (subst (λ s. get s j ≡ Some x) (sym same) live)) [
+              | inl still ↦ inl (subst (λ s. get s j ≡ Some x) (sym store) still)
+              | inr gone_by ↦ inr gone_by
+            ];
+          }

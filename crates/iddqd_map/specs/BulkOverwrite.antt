@@ -63,8 +63,8 @@ module _ {T : Type 0} (alike : T → T → Bool) (grown : ℕ → ℕ) where
       (ix : ℕ) × (more : List T) × DisplacesAt before.0 item ix more after.0 × (after.1 ≡ before.1 ++ more)
 
   -- The iterator gave these items, and each was inserted before the next came. After them it gave `next`: an item, or
-  -- `None` at its end. `rest` is the iterator then, `new` the map, and `displaced` are all items that were displaced, in
-  -- this order. `gives` says what a call of `next` gives.
+  -- `None` at its end. `rest` is the iterator then, `new` the map, and `displaced` are all items that were displaced,
+  -- in this order. `gives` says what a call of `next` gives.
   pub record OverwritesItems
       {I : Type 0} (gives : I → Option T → I → Type 0) (it : I) (old : MapState T) (items : List T) (next : Option T)
       (rest : I) (new : MapState T) (displaced : List T)
@@ -78,7 +78,8 @@ module _ {T : Type 0} (alike : T → T → Bool) (grown : ℕ → ℕ) where
     abbrev pub RefusesItem : MapState T → T → OverwriteRefusal T → MapState T → Type 0
     RefusesItem old item (Full back) new = RefusesFull alike grown old item back new
     RefusesItem old item (Memory back) new =
-        RefusesMemory alike grown old item back new ⊎ RefusesToOverwrite alike grown may_need_memory old item back new
+        RefusesMemory alike grown old item back new
+        ⊎ RefusesToOverwrite alike grown may_need_memory old item back new
 
     -- If there is no refusal, these are all items of the iterator, and each was inserted. Otherwise the refusal is the
     -- answer to the next item, and the iterator has what comes after that item.
@@ -113,8 +114,8 @@ module _ {T : Type 0} (alike : T → T → Bool) (grown : ℕ → ℕ) where
         -- `most n` is the most cells that are taken for n indexes
         module _ (most : ℕ → ℕ) where
           -- Memory was reserved for no more items than the iterator can give. If it ran out, the inserts went on with
-          -- what there was. They went on until all items were inserted, or the first was refused. The closure was called
-          -- with each item that was displaced, in this order.
+          -- what there was. They went on until all items were inserted, or the first was refused. The closure was
+          -- called with each item that was displaced, in this order.
           pub record OverwritesAll
               (it : I) (old : MapState T) (gone : G) (count : ℕ) (refusal : Option (OverwriteRefusal T)) (rest : I)
               (new : MapState T) (last : G)
@@ -131,10 +132,12 @@ module _ {T : Type 0} (alike : T → T → Bool) (grown : ℕ → ℕ) where
 
           -- what a call that inserts all items of an iterator may return, and what it leaves
           abbrev pub OverwritesFrom :
-              I → MapState T → G → Result ℕ (StoppedOverwrite T I) → MapState T → G → Type 0
-          OverwritesFrom it old gone (Ok count) new last = (rest : I) × OverwritesAll it old gone count None rest new last
-          OverwritesFrom it old gone (Err stopped) new last =
-              OverwritesAll it old gone stopped.inserted (Some stopped.refusal) stopped.rest new last
+              I → MapState T → G → Result ℕ (StoppedOverwrite T I) → MapState T → Type 0
+          OverwritesFrom it old gone (Ok count) new =
+              (rest : I) × (last : G) × OverwritesAll it old gone count None rest new last
+          OverwritesFrom it old gone (Err stopped) new =
+              (last : G)
+              × OverwritesAll it old gone stopped.inserted (Some stopped.refusal) stopped.rest new last
 
 -- how many items were inserted
 abbrev pub overwritten_count : {I T : Type 0} → Result ℕ (StoppedOverwrite T I) → ℕ

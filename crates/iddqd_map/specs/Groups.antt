@@ -1,6 +1,6 @@
--- The items that pass a test, as those that share a key: one of them, a call that removes them all, and calls that ask a
--- closure about each and remove those that it rejects.
-use Rattle.std.specs.Prelude.{◌≡◌, ◌≢◌, ◌↔◌, ℕ, Bool, List, [], ◌∷◌, Option, Some, None, length, map, nat_eq}
+-- The items that pass a test, as those that share a key: one of them, a call that removes them all, and calls that ask
+-- a closure about each and remove those that it rejects.
+use Rattle.std.specs.Prelude.{◌≡◌, ◌↔◌, ℕ, Bool, List, [], ◌∷◌, Option, Some, None, length, map, nat_eq}
 use Rattle.std.specs.List.{Contains, FoldsTo, IsDistinct}
 use Rattle.iddqd.specs.Store.{Store, get}
 use Rattle.iddqd_keys.specs.KeyWalk.{pairs_at}
@@ -8,7 +8,6 @@ use Rattle.iddqd_keys.specs.Scan.{IsHit, HasNoHit}
 use Rattle.iddqd_keys.specs.Removals.{removed_all}
 use Rattle.iddqd_map.specs.Bulk.{RetainsInto}
 use Rattle.iddqd_map.specs.Retain.{removed_of}
-use Rattle.iddqd_map.specs.Several.{HasNoOther}
 
 -- the index that comes next, if one does, and those behind it
 abbrev pub listed_from : (ℕ → List ℕ) → Option ℕ → List ℕ
@@ -21,11 +20,6 @@ module _ {T : Type 0} where
   FindsSome s test (Some ix) = IsHit s test ix
   FindsSome s test None = HasNoHit s test
 
-  -- a live index other than this one whose item passes; `None` if and only if no other item does
-  abbrev pub FindsOther : Store T → (T → Bool) → ℕ → Option ℕ → Type 0
-  FindsOther s test ix (Some j) = (j ≢ ix) × IsHit s test j
-  FindsOther s test ix None = HasNoOther s test ix
-
   -- these are exactly the live indexes whose items pass, each once, in any order
   pub record AreHits (s : Store T) (test : T → Bool) (indexes : List ℕ) : Type 0 where
     pub each : (ix : ℕ) → Contains indexes ix ↔ IsHit s test ix
@@ -34,10 +28,6 @@ module _ {T : Type 0} where
   -- `count` items pass
   abbrev pub CountsHits : Store T → (T → Bool) → ℕ → Type 0
   CountsHits s test count = (indexes : List ℕ) × AreHits s test indexes × (count ≡ length indexes)
-
--- f was called with the item at the index; `give p x q` says that a call with x in the state p may leave the state q
-abbrev pub GivesAt : {F T : Type 0} → (F → T → F → Type 0) → F → Store T → ℕ → F → Type 0
-GivesAt {F} {T} give f s ix last = (item : T) × (get s ix ≡ Some item) × give f item last
 
 -- `give p x q` says that a call of f with x in the state p may leave the state q
 module _ {F T : Type 0} (test : T → Bool) (give : F → T → F → Type 0) where

@@ -15,8 +15,8 @@ pub record TakesAll
   pub items : back ≡ padded places (map (get old) indexes)
   pub left : new ≡ removed_all old indexes
 
--- The items at the indexes that were reported were removed by rising index, and the closure was called with each of them
--- in this order. `give p x q` says that a call with x in the state p may leave the state q.
+-- The items at the indexes that were reported were removed by rising index, and the closure was called with each of
+-- them in this order. `give p x q` says that a call with x in the state p may leave the state q.
 pub record GivesReported
     {G T : Type 0} (reported : ℕ → Type 0) (give : G → T → G → Type 0) (old : Store T) (gone : G) (new : Store T)
     (last : G)

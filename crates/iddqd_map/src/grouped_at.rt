@@ -4,7 +4,7 @@ ghost use Rattle.iddqd.specs.{IsValid, live_count, removed};
 ghost use Rattle.iddqd.specs.LiveItems.{live_items};
 ghost use Rattle.iddqd_hash.specs.Asks.{CanAsk};
 ghost use Rattle.iddqd_keys.specs.Scan.{IsHit};
-ghost use Rattle.iddqd_map.specs.Groups.{AreHits, FindsOther, FindsSome, listed_from};
+ghost use Rattle.iddqd_map.specs.Groups.{AreHits, FindsSome, listed_from};
 ghost use Rattle.iddqd_map.specs.ModifyMany.{MayLeave, ModifiesHits, TakesMut};
 ghost use Rattle.iddqd_map.specs.RangeRetain.{KeepsMisses};
 
@@ -27,8 +27,8 @@ pub trait GroupedAt<P, Q, T, S>: KeyIndex<T, S> {
     // The indexes of the group that come behind this index, in the order in which the steps give them.
     ghost behind: { Self → Store T → Q → ℕ → List ℕ };
 
-    /// The index of some item that has the key for which the query stands, by one look-up. It comes before all others of
-    /// the group.
+    /// The index of some item that has the key for which the query stands, by one look-up. It comes before all others
+    /// of the group.
     fn find_any(&self, items: &ItemSet<T>, state: &S, query: Q) -> Option<ItemIndex>
         requires indexed { Self.KeyIndex.indexes self.now state.now items.now.store }
         ensures some { FindsSome items.now.store (stands_for query) result }
@@ -63,21 +63,6 @@ pub trait GroupedAt<P, Q, T, S>: KeyIndex<T, S> {
         ensures indexed { Self.KeyIndex.indexes self.new state.now (removed items.now.store ix) }
         ensures capacity { Self.KeyIndex.capacity self.new ≡ Self.KeyIndex.capacity self.old }
         ensures cells { Self.KeyIndex.cells self.new ≡ Self.KeyIndex.cells self.old };
-
-    /// The index of another item that has the key for which the query stands, which the item at `ix` has; `None` if
-    /// and only if no other item has it.
-    ///
-    /// It takes no look-up, unless keys that differ have the same hash.
-    fn find_other(
-        &self,
-        items: &ItemSet<T>,
-        state: &S,
-        query: Q,
-        ix: ItemIndex,
-    ) -> Option<ItemIndex>
-        requires indexed { Self.KeyIndex.indexes self.now state.now items.now.store }
-        requires hit { IsHit items.now.store (stands_for query) ix }
-        ensures { FindsOther items.now.store (stands_for query) ix result };
 
     /// Calls the closure with a `&mut` to each item that has the key for which the query stands, once, in no particular
     /// order, and returns how many there are. The closure stays in the state that its last call leaves.
@@ -136,16 +121,6 @@ where
         self.first.take_in_group(items, state, query, ix)
     }
 
-    fn find_other(
-        &self,
-        items: &ItemSet<T>,
-        state: &S,
-        query: Q,
-        ix: ItemIndex,
-    ) -> Option<ItemIndex> {
-        self.first.find_other(items, state, query, ix)
-    }
-
     fn modify_group<F: FnMut(&mut T)>(
         &self,
         items: &mut ItemSet<T>,
@@ -189,16 +164,6 @@ where
     ) -> Option<ItemIndex> {
         self.first.remove(items, state, ix);
         self.second.take_in_group(items, state, query, ix)
-    }
-
-    fn find_other(
-        &self,
-        items: &ItemSet<T>,
-        state: &S,
-        query: Q,
-        ix: ItemIndex,
-    ) -> Option<ItemIndex> {
-        self.second.find_other(items, state, query, ix)
     }
 
     fn modify_group<F: FnMut(&mut T)>(

@@ -25,6 +25,7 @@ mod group_modify;
 mod hashed_group_retain;
 mod hashed_groups;
 mod inserts;
+mod made_with;
 mod memory;
 mod modifies;
 mod modify_each;

@@ -41,8 +41,8 @@ impl<T, X: KeyIndex<T, S>, S> Map<T, X, S> {
         requires next { I.can_next iter }
         requires fits { UpTo (I.remaining iter) usize.MAX }
         requires given { MayDisplace I.next_gives G.FnMut iter gone self.old.store }
-        ensures overwrites { (last : G) × OverwritesFrom X.alike X.grown X.may_need_memory (GivesItem G.FnMut)
-            I.next_gives I.remaining X.most iter self.old gone result self.new last }
+        ensures overwrites { OverwritesFrom X.alike X.grown X.may_need_memory (GivesItem G.FnMut) I.next_gives
+            I.remaining X.most iter self.old gone result self.new }
         ensures handed { (last : G) × HandsOver (GivesItem G.FnMut) gone last self.old.store self.new.store
             (overwritten_count result) }
         ensures not_refused { UpTo (I.remaining iter) (room self.old) → IsOk result }

@@ -1,8 +1,8 @@
 //! Calls that ask a closure about each item of a group by hash, and remove those that it rejects.
 //!
-//! The closure sees each item in place. The next index of the group is found before a rejected item is removed. So there
-//! is one look-up, no list of indexes is kept, and no memory is taken. A rejected item goes to a second closure: that of
-//! the caller, or one that drops it.
+//! The closure sees each item in place. The next index of the group is found before a rejected item is removed. So
+//! there is one look-up, no list of indexes is kept, and no memory is taken. A rejected item goes to a second closure:
+//! that of the caller, or one that drops it.
 ghost use Rattle.std.specs.Prelude.{◌≡◌, ◌≤◌, ◌+◌, Bool, true, false, filter, Some};
 ghost use Rattle.std.specs.Fn.{TakesAt, CalledAt};
 ghost use Rattle.iddqd.specs.{get, live_count, removed};
@@ -31,7 +31,11 @@ impl<T, X: KeyIndex<T, S>, S> Map<T, X, S> {
     /// The closure is called once at each of them, in no particular order. Those at which it answers false are removed;
     /// all other items stay under their indexes. No memory is taken. It costs one look-up, which compares only keys of
     /// the same hash, each once, and for each removed item a removal from each table.
-    pub fn retain_hashed_group_by<P, Q, F: FnMut(&T) -> bool>(&mut self, query: Q, mut f: F) -> usize
+    pub fn retain_hashed_group_by<P, Q, F: FnMut(&T) -> bool>(
+        &mut self,
+        query: Q,
+        mut f: F,
+    ) -> usize
     where
         T: Drop,
         X: GroupedAt<P, Q, T, S>,
@@ -92,9 +96,9 @@ impl<T, X: KeyIndex<T, S>, S> Map<T, X, S> {
     }
 }
 
-// Keeps, of the items that have the key, those at which the first closure answers true, passes the others to the second,
-// and returns how many these were. The closures stay in the states that their last calls leave.
-fn retain_counted<P, Q, T, S, X, F: FnMut(&T) -> bool, G: FnMut(T)>(
+/// Keeps, of the items that have the key, those at which the first closure answers true, passes the others to the
+/// second, and returns how many these were. The closures stay in the states that their last calls leave.
+pub(super) fn retain_counted<P, Q, T, S, X, F: FnMut(&T) -> bool, G: FnMut(T)>(
     items: &mut ItemSet<T>,
     indexes: &mut X,
     state: &S,
@@ -155,14 +159,15 @@ where
 {
     let mut next = indexes.find_any(items, state, query);
     while let Some(ix) = next {
-        let (_, then) =
-            retain_in_group::<P, Q, T, S, X, F, G>(items, indexes, state, query, ix, keep, gone);
+        let (_, then) = retain_in_group::<P, Q, T, S, X, F, G>(
+            items, indexes, state, query, ix, keep, gone,
+        );
         next = then;
     }
 }
 
-// Calls the first closure at the item at an index of the group, and removes the item if the closure answers false: it is
-// passed to the second. Returns the answer, and the next index of the group.
+// Calls the first closure at the item at an index of the group, and removes the item if the closure answers false: it
+// is passed to the second. Returns the answer, and the next index of the group.
 fn retain_in_group<P, Q, T, S, X, F: FnMut(&T) -> bool, G: FnMut(T)>(
     items: &mut ItemSet<T>,
     indexes: &mut X,

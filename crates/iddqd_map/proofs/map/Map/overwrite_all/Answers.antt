@@ -16,8 +16,9 @@ returns-in-None-clause-overwrites g c =
     let mid = c.reserve-reserved.new.self in
     let rest = c.overwrite_each-inserted.new.iter in
     let new = c.overwrite_each-inserted.new.self in (
+      rest,
       c.overwrite_each-inserted.new.gone,
-      (rest, record {
+      record {
         wanted = c.size_hint-least.result.0;
         at_most = c.size_hint-least.ensures.lower;
         roomy = mid;
@@ -27,7 +28,7 @@ returns-in-None-clause-overwrites g c =
         displaced = displaced;
         inserts = subst (λ r. OverwritesUntil g.X.KeyIndex.alike g.X.KeyIndex.grown g.X.KeyIndex.may_need_memory g.I.Iterator.next_gives c.args.iter mid items r rest new displaced) c.in-None.is until;
         handed = handed;
-      }),
+      },
     )
 
 pub returns-in-Some-clause-overwrites : goal.returns-in-Some-clause-overwrites
@@ -59,10 +60,10 @@ returns-in-None-clause-handed g c =
     let new = c.overwrite_each-inserted.new.self in (
       last,
       subst (λ n. HandsOver give c.args.gone last old.store new.store n) (sym counted)
-      (HandsOver-until g.X.KeyIndex.alike g.X.KeyIndex.grown g.I.Iterator.next_gives give g.X.KeyIndex.may_need_memory old
-      c.args.iter c.overwrite_each-inserted.new.iter c.reserve-reserved.new.self new items displaced
-      c.overwrite_each-inserted.result.1 c.args.gone last c.reserve-reserved.ensures.store c.len-items.ensures.state.valid until
-      handed),
+          (HandsOver-until g.X.KeyIndex.alike g.X.KeyIndex.grown g.I.Iterator.next_gives give g.X.KeyIndex.may_need_memory old
+          c.args.iter c.overwrite_each-inserted.new.iter c.reserve-reserved.new.self new items displaced
+          c.overwrite_each-inserted.result.1 c.args.gone last c.reserve-reserved.ensures.store c.len-items.ensures.state.valid until
+          handed),
     )
 
 pub returns-in-Some-clause-handed : goal.returns-in-Some-clause-handed
@@ -74,8 +75,8 @@ returns-in-Some-clause-handed g c =
     let new = c.overwrite_each-inserted.new.self in (
       last,
       subst (λ n. HandsOver give c.args.gone last old.store new.store n) (sym counted)
-      (HandsOver-until g.X.KeyIndex.alike g.X.KeyIndex.grown g.I.Iterator.next_gives give g.X.KeyIndex.may_need_memory old
-      c.args.iter c.overwrite_each-inserted.new.iter c.reserve-reserved.new.self new items displaced
-      c.overwrite_each-inserted.result.1 c.args.gone last c.reserve-reserved.ensures.store c.len-items.ensures.state.valid until
-      handed),
+          (HandsOver-until g.X.KeyIndex.alike g.X.KeyIndex.grown g.I.Iterator.next_gives give g.X.KeyIndex.may_need_memory old
+          c.args.iter c.overwrite_each-inserted.new.iter c.reserve-reserved.new.self new items displaced
+          c.overwrite_each-inserted.result.1 c.args.gone last c.reserve-reserved.ensures.store c.len-items.ensures.state.valid until
+          handed),
     )

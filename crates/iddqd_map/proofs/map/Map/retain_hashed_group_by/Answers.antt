@@ -1,4 +1,4 @@
-use Rattle.std.proofs.Common.{Bool, filter, rules, arith}
+use Rattle.std.proofs.Common.{filter, rules, arith}
 use Rattle.std.specs.Fn.{TakesAt, CalledAt}
 use Rattle.iddqd.specs.LiveItems.{live_items}
 use Rattle.iddqd_hash.proofs.AskLemmas.{CanAsk-everywhere}

@@ -22,7 +22,7 @@ returns-clause-displaces g c =
     let slots = ap (λ (s : SizedStore _). s.capacity) put.stored ∙ gave.slots in (
       gave.given.displaced,
       DisplacesAt-given g.X.KeyIndex.alike g.X.KeyIndex.grown (GivesItem g.G.FnMut) (g.X.KeyIndex.reports c.args.at.now) s c.args.item
-      hits _ _ _ gave.given _ _ _ refl some put.index (ap (λ (s : SizedStore _). s.store) put.stored)
-      (memory_same _ _ _ _ _ _ slots (put.capacity ∙ gave.capacity) (put.cells ∙ gave.cells)),
+          hits _ _ _ gave.given _ _ _ refl some put.index (ap (λ (s : SizedStore _). s.store) put.stored)
+          (memory_same _ _ _ _ _ _ slots (put.capacity ∙ gave.capacity) (put.cells ∙ gave.cells)),
       gave.given.given,
     )

@@ -11,7 +11,8 @@ use Rattle.iddqd_map.proofs.map.bulk_overwrites.give_reported.Given as goal
 abbrev pub invariant-loop-next : goal.invariant-loop-next
 invariant-loop-next g l = record {
   map : IsIndexed (g.X.KeyIndex.indexes l.indexes) l.state l.items.store;
-  can : CanAsk (TakesItem g.G.FnMut) (λ p x (b : Bool) q. GivesItem g.G.FnMut p x q) l.gone (live_items l.fn.items.store);
+  can : CanAsk (TakesItem g.G.FnMut) (λ p x (b : Bool) q. GivesItem g.G.FnMut p x q) l.gone
+      (live_items l.fn.items.store);
   enough : (blocks : g.row.X-Blocks.Denot) → g.X.KeyIndex.are_enough_after l.fn.indexes blocks
       → g.X.KeyIndex.are_enough_after l.indexes blocks;
   displacing : Displacing (g.X.KeyIndex.reports l.at) l.fn.items.store (GivesItem g.G.FnMut) l.fn.gone

@@ -1,4 +1,4 @@
-use Rattle.std.proofs.Common.{ℕ, Bool, ◌≡◌, ◌≢◌, ◌∙◌, ◌∷◌, Some, true, false, filter, length, nat_eq, refl, sym, ap, subst, arith}
+use Rattle.std.proofs.Common.{ℕ, Bool, ◌≡◌, ◌≢◌, ◌∙◌, ◌∷◌, true, false, filter, length, nat_eq, refl, sym, ap, subst, arith}
 use Rattle.std.specs.Fn.{TakesAt, CalledAt}
 use Rattle.std.specs.List.{Contains, IsDistinct}
 use Rattle.std.proofs.lemmas.Map.Keys.{IsDistinct-tail}

@@ -1,6 +1,5 @@
 use Rattle.std.proofs.Common.{ap, is_some}
 use Rattle.iddqd.specs.ItemSet.{SizedStore}
-use Rattle.iddqd.specs.Store.{get}
 use Rattle.iddqd_keys.specs.Scan.{IsLive}
 use Rattle.iddqd_map.proofs.MapLemmas.{IsIndexed-removed, set_left}
 use Rattle.iddqd_map.proofs.map.steps.take_out_in_group.Goals as goal
