@@ -9,7 +9,7 @@ use Rattle.iddqd.specs.Compaction.{compacted, rank}
 use Rattle.iddqd.proofs.CompactionLemmas.{slot_count-compacted, live_count-compacted}
 use Rattle.iddqd.proofs.StoreLemmas.{contains_head}
 use Rattle.iddqd_hash.specs.MapHashTable.{Renames}
-use Rattle.iddqd_keys.specs.Scan.{IsHit, passes_by}
+use Rattle.iddqd_keys.specs.Scan.{passes_by}
 use Rattle.std.specs.declared.hash.Hasher as hasher
 use Rattle.std.specs.declared.hash.BuildHasher as builder
 use Rattle.iddqd_by_hash.specs.Hashed.{Hashing, hashing_of, Holds, IsLawful, StandsForOne}

@@ -1,5 +1,5 @@
 -- What a walk over a group of indexes finds, and that a group has exactly the hits under its hash.
-use Rattle.std.proofs.Common.{◌≡◌, ◌∙◌, ◌↔◌, ⊎_elim, inl, inr, ℕ, Bool, true, false, cond, List, [], ◌∷◌, filter, nat_eq, Option, Some, None, IfSome, length, not, ◌≤◌, arith, refl, sym, ap, subst, Contains}
+use Rattle.std.proofs.Common.{◌≡◌, ◌∙◌, ◌↔◌, ⊎_elim, ℕ, Bool, true, false, cond, List, [], ◌∷◌, filter, nat_eq, Option, Some, None, IfSome, length, not, ◌≤◌, arith, refl, sym, ap, subst, Contains}
 use Rattle.std.specs.Iterator.{at_most, UpTo}
 use Rattle.std.specs.List.{IsDistinct}
 use Rattle.std.specs.Ordering.{nat_cmp}

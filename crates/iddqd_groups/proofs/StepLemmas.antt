@@ -1,14 +1,15 @@
 -- What comes behind an index under its hash, and that it stays when the index is removed.
-use Rattle.std.proofs.Common.{◌≡◌, ◌≢◌, ◌∙◌, inl, inr, ◌<◌, ℕ, zero, suc, Bool, true, false, List, [], ◌∷◌, filter, length, nat_eq, slice_index_or, Option, Some, None, IsSome, MatchOption, Contains, refl, sym, ap, subst, arith}
-use Rattle.std.specs.List.{IsDistinct, IsPermutation}
+use Rattle.std.proofs.Common.{◌≡◌, ◌≢◌, ◌∙◌, inl, inr, ◌<◌, ℕ, zero, suc, Bool, true, false, List, [], ◌∷◌, length, slice_index_or, Option, Some, None, MatchOption, Contains, refl, sym, ap, subst, arith}
+use Rattle.std.specs.List.Sorted.{IsPermutation}
 use Rattle.std.specs.Ordering.{nat_cmp}
 use Rattle.std.specs.FinMap as finite
 use Rattle.std.specs.FinMap.{FinMap}
 use Rattle.std.proofs.lemmas.Bool.{cases_eq}
-use Rattle.iddqd.specs.Store.{Store, get, removed, sentinel}
+use Rattle.std.proofs.lemmas.List.{length-map}
+use Rattle.iddqd.specs.Store.{Store, removed, sentinel}
 use Rattle.iddqd.proofs.LiveLemmas.{get-removed_other}
 use Rattle.iddqd.proofs.StoreLemmas.{contains_head, contains_tail, contains_none}
-use Rattle.iddqd_hash.proofs.MemberLemmas.{filed_at, filed_hash}
+use Rattle.iddqd_hash.proofs.MemberLemmas.{filed_at}
 use Rattle.iddqd_hash.specs.MapHashTable.{indexes_under}
 use Rattle.iddqd_by_hash.specs.Hashed.{passes}
 use Rattle.iddqd_groups.specs.HashedGroup.{hits_among, hits_behind}
@@ -16,7 +17,7 @@ use Rattle.iddqd_groups.specs.LinkedTable.{AreHeadsOf, LinkedState, behind, next
 use Rattle.iddqd_groups.specs.Links.{AreUnder, absent_link, chain, filed_by, next_of, prev_of}
 use Rattle.iddqd_groups.specs.declared.linked_table.links.Link.{Link}
 use Rattle.iddqd_groups.proofs.ChainLemmas.{AreUnder-none, EndsWithin-filed, IsStart-head, chain-go, chain-step, chain-stop, members}
-use Rattle.iddqd_groups.proofs.GroupLemmas.{was_there}
+use Rattle.iddqd_groups.proofs.GroupLemmas.{filter-passed, filter-refused, was_there}
 use Rattle.iddqd_groups.proofs.LinkLemmas.{head_under, none_under}
 use Rattle.iddqd_groups.proofs.LinksLemmas.{below-filed_by}
 use Rattle.iddqd_map.specs.Groups.{AreHits, FindsSome, listed_from}
@@ -37,12 +38,12 @@ next_read links ix = at_next links ix (absent_link ix) refl
 abbrev pub behind_by : List Link → ℕ → List ℕ
 behind_by links ix =
     let next = λ (j : ℕ). slice_index_or (nexts_of links) j sentinel in
-    chain next (length links) (next ix)
+    chain next (length (nexts_of links)) (next ix)
 
 behind_by-chain :
     (links : List Link) (ix : ℕ)
     → behind_by links ix ≡ chain (next_of links) (length links) (next_of links ix)
-behind_by-chain links ix = λ i. chain (λ j. next_read links j i) (length links) (next_read links ix i)
+behind_by-chain links ix = λ i. chain (λ j. next_read links j i) (length-map links (λ (l : Link). l.next) i) (next_read links ix i)
 
 -- a chain whose members lead on to the same indexes
 chain-same :
@@ -201,8 +202,16 @@ pub hits-removed :
 hits-removed s test ix [] apart = refl
 hits-removed s test ix (j ∷ indexes) apart =
     let other = get-removed_other s ix j (apart j (contains_head j indexes)) in
+    let same : passes (removed s ix) test j ≡ passes s test j = rw (passes, passes, other) refl in
     let rest = hits-removed s test ix indexes (λ k there. apart k (contains_tail j k indexes there)) in
-    rw (other, rest) refl
+    elim (passes s test j) as (λ b. passes s test j ≡ b → hits_among (removed s ix) test (j ∷ indexes) ≡ hits_among s test (j ∷ indexes)) [
+      | true ↦ λ is.
+          filter-passed (passes (removed s ix) test) j indexes (same ∙ is) ∙ ap (λ l. j ∷ l) rest
+          ∙ sym (filter-passed (passes s test) j indexes is)
+      | false ↦ λ is.
+          filter-refused (passes (removed s ix) test) j indexes (same ∙ is) ∙ rest
+          ∙ sym (filter-refused (passes s test) j indexes is)
+    ] refl
 
 -- what comes behind an index still does once that was removed
 pub hits_behind-removed :

@@ -41,7 +41,7 @@ nexts_of links = map (λ l. l.next) links
 abbrev pub behind : LinkedState → ℕ → List ℕ
 behind t ix =
     let next = λ (j : ℕ). slice_index_or t.nexts j sentinel in
-    chain next t.slots (next ix)
+    chain next (length t.nexts) (next ix)
 
 -- the most that a table takes for `count` indexes: cells for as many heads, and a link each
 abbrev pub most_linked : ℕ → ℕ

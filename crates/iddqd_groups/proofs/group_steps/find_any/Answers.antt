@@ -7,7 +7,7 @@ use Rattle.iddqd_groups.proofs.FilesLemmas.{AreHits-group, Files-items}
 use Rattle.iddqd_groups.proofs.GroupLemmas.{IsGroupOf-under}
 use Rattle.iddqd_groups.proofs.StepLemmas.{FindsSome-listed}
 use Rattle.iddqd_map.proofs.IndexingLemmas.{StandsForOne-query}
-use Rattle.iddqd_map.specs.Groups.{AreHits, listed_from}
+use Rattle.iddqd_map.specs.Groups.{AreHits}
 use Rattle.iddqd_groups.proofs.group_steps.find_any.Goals as goal
 use Rattle.iddqd_groups.proofs.group_steps.find_any.Goals.{After-first_from}
 

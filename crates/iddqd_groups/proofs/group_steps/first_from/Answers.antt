@@ -1,4 +1,4 @@
-use Rattle.std.proofs.Common.{◌≡◌, ◌∙◌, ◌∷◌, true, false, length, sym, ap, subst, arith, Contains, Some}
+use Rattle.std.proofs.Common.{◌≡◌, ◌∙◌, ◌∷◌, true, false, length, sym, ap, subst, arith, Contains}
 use Rattle.iddqd.proofs.StoreLemmas.{contains_head, contains_tail}
 use Rattle.iddqd_by_hash.specs.Hashed.{passes}
 use Rattle.iddqd_groups.specs.HashedGroup.{hits_among}
@@ -14,8 +14,8 @@ index-requires g c =
     c.requires.live ix
     (c.loop-at.invariant.present ix (subst (λ l. Contains l ix) (sym (ap (listed_from after) c.in-Some.is)) (contains_head ix (after ix))))
 
-pub next_under-requires : goal.next_under-requires
-next_under-requires g c =
+pub next_under-at-requires : goal.next_under-at-requires
+next_under-at-requires g c =
     let after = behind c.args.table.now in
     let ix = c.in-Some.ix in
     c.loop-at.invariant.present ix (subst (λ l. Contains l ix) (sym (ap (listed_from after) c.in-Some.is)) (contains_head ix (after ix)))
@@ -24,7 +24,7 @@ pub loop-at-smaller : goal.loop-at-smaller
 loop-at-smaller g c =
     let after = behind c.args.table.now in
     let ix = c.in-Some.ix in
-    let whole = ap (listed_from after) c.in-Some.is ∙ ap (λ l. ix ∷ l) c.next_under.ensures.next in
+    let whole = ap (listed_from after) c.in-Some.is ∙ ap (λ l. ix ∷ l) c.next_under-at.ensures.next in
     let long = ap length whole in
     omega (arith, long)
 
@@ -34,9 +34,9 @@ loop-at-preserved g c =
     let s = c.args.items.now.store in
     let test = g.Q.ItemHashQuery.stands_for_item c.args.query.now in
     let ix = c.in-Some.ix in
-    let rest = listed_from after c.next_under.result in
+    let rest = listed_from after c.next_under-at.result in
     let i = c.loop-at.invariant in
-    let whole = ap (listed_from after) c.in-Some.is ∙ ap (λ l. ix ∷ l) c.next_under.ensures.next in
+    let whole = ap (listed_from after) c.in-Some.is ∙ ap (λ l. ix ∷ l) c.next_under-at.ensures.next in
     let refused : passes s test ix ≡ false =
     rw (passes, c.index.ensures) (sym c.stands_for_item.ensures ∙ c.if-stands_for_item.false) in
     record {

@@ -1,5 +1,4 @@
-use Rattle.std.proofs.Common.{◌∙◌, sym, ap, eq-eqb, eqb-true, true, false, ◌≡◌, ◌≢◌, None, Some}
-use Rattle.iddqd.specs.Store.{sentinel}
+use Rattle.std.proofs.Common.{◌∙◌, sym, ap, eq-eqb, eqb-true, true, false, ◌≡◌, None, Some}
 use Rattle.iddqd_hash.specs.{filed}
 use Rattle.iddqd_hash.proofs.MemberLemmas.{filed_hash}
 use Rattle.iddqd_groups.specs.declared.linked_table.links.Link.{Link}

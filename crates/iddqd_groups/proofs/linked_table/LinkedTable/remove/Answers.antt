@@ -38,7 +38,7 @@ returns-clause-behind c =
     let (hash, here) = filed_hash _ present in
     rw (← c.self.view_is)
     (behind-removed (filed c.self.inside.heads) c.self.inside.links.items c.self.invariant.linked c.args.ix hash here
-    c.unlink.new.links.items c.unlink.ensures.len c.unlink.ensures.next)
+    c.unlink.new.links.items (omega (arith, c.unlink.ensures.len)) c.unlink.ensures.next)
 
 pub returns-clause-apart : goal.returns-clause-apart
 returns-clause-apart c =
