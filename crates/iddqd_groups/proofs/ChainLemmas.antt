@@ -24,7 +24,7 @@ module _ (next : ℕ → ℕ) where
   chain-stop zero ix is = refl
   chain-stop (suc most) ix is = rw (eq-eqb ix sentinel is) refl
 
-  chain-go : (most ix : ℕ) → ix ≢ sentinel → chain next (suc most) ix ≡ ix ∷ chain next most (next ix)
+  pub chain-go : (most ix : ℕ) → ix ≢ sentinel → chain next (suc most) ix ≡ ix ∷ chain next most (next ix)
   chain-go most ix there = rw (differs ix sentinel there) refl
 
   module _ (bound : ℕ) where
@@ -121,7 +121,7 @@ module _ (filed : FinMap nat_cmp ℕ) (next prev : ℕ → ℕ) (is : IsChained 
   real ix hash here = is.not_sentinel ix (filed_at _ hash here)
 
   -- the members of a chain have the hash of its first, and none has a lower depth
-  members :
+  pub members :
       (most ix hash member : ℕ)
       → finite.get filed ix ≡ Some hash
       → Contains (chain next most ix) member

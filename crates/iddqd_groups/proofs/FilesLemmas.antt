@@ -9,7 +9,7 @@ use Rattle.iddqd.specs.Compaction.{compacted, rank}
 use Rattle.iddqd.proofs.CompactionLemmas.{slot_count-compacted, live_count-compacted}
 use Rattle.iddqd.proofs.StoreLemmas.{contains_head}
 use Rattle.iddqd_hash.specs.MapHashTable.{Renames}
-use Rattle.iddqd_keys.specs.Scan.{IsHit, passes_by}
+use Rattle.iddqd_keys.specs.Scan.{passes_by}
 use Rattle.std.specs.declared.hash.Hasher as hasher
 use Rattle.std.specs.declared.hash.BuildHasher as builder
 use Rattle.iddqd_by_hash.specs.Hashed.{Hashing, hashing_of, Holds, IsLawful, StandsForOne}
@@ -18,7 +18,6 @@ use Rattle.iddqd_groups.specs.HashedGroup.{IsGroupOf}
 use Rattle.iddqd_by_hash.specs.HashedMove.{moved}
 use Rattle.iddqd_by_hash.specs.declared.hashed_move.Move.{Move}
 use Rattle.iddqd_by_hash.specs.declared.hashed_move.Move.TheVariants.{Stays, To}
-use Rattle.iddqd_groups.specs.Links.{FindsOtherUnder}
 use Rattle.iddqd_groups.specs.LinkedTable.{LinkedState}
 use Rattle.iddqd_by_hash.proofs.HashedCountLemmas.{len-held}
 use Rattle.iddqd_by_hash.proofs.HoldsLemmas.{Holds-empty, Holds-removed, Holds-inserted, Holds-compacted}
@@ -32,7 +31,6 @@ use Rattle.iddqd_map.specs.Hashed.{moves}
 use Rattle.iddqd_map.specs.KeyIndex.{PlansMove}
 use Rattle.iddqd_map.specs.Map.{shares}
 use Rattle.iddqd_map.specs.NoConflict.{never_alike, never_hit}
-use Rattle.iddqd_map.specs.Several.{HasNoOther}
 
 module _ {T : Type 0} where
   -- a next index past all slots is the number of items
@@ -107,19 +105,6 @@ module _ {T K : Type 0} (key_of : T → K) (hashing : Hashing K) where
         → AreHits s (passes_by key_of test) indexes
     AreHits-group hash test indexes one group =
         record { each = group.as_scan hashing one.hashed o.placed; once = group.once }
-
-    -- where no other index has the hash of a hit, no other item passes
-    pub HasNoOther-alone :
-        (hash : ℕ) (test : K → Bool) (ix : ℕ)
-        → StandsForOne hashing hash test
-        → IsHit s (passes_by key_of test) ix
-        → FindsOtherUnder m ix None
-        → HasNoOther s (passes_by key_of test) ix
-    HasNoOther-alone hash test ix one hit alone = λ j other.
-        let (item, live, passed) = hit in
-        let (y, there, also) = other in
-        let same = one.hashed (key_of y) also ∙ sym (one.hashed (key_of item) passed) in
-        alone j (o.placed j y there ∙ ap Some same ∙ sym (o.placed ix item live))
 
     -- a live index is given an item, as it was planned
     module _ (ix : ℕ) (item was : T) (live : get s ix ≡ Some was) where

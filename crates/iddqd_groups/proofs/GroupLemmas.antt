@@ -1,12 +1,12 @@
 -- What a walk over a group of indexes finds, and that a group has exactly the hits under its hash.
-use Rattle.std.proofs.Common.{◌≡◌, ◌∙◌, ◌↔◌, ⊎_elim, inl, inr, ℕ, Bool, true, false, cond, List, [], ◌∷◌, filter, nat_eq, Option, Some, None, IfSome, MatchOption, length, not, ◌≤◌, arith, refl, sym, ap, subst, Contains, eq-eqb}
+use Rattle.std.proofs.Common.{◌≡◌, ◌∙◌, ◌↔◌, ⊎_elim, ℕ, Bool, true, false, cond, List, [], ◌∷◌, filter, nat_eq, Option, Some, None, IfSome, length, not, ◌≤◌, arith, refl, sym, ap, subst, Contains}
 use Rattle.std.specs.Iterator.{at_most, UpTo}
 use Rattle.std.specs.List.{IsDistinct}
 use Rattle.std.specs.Ordering.{nat_cmp}
 use Rattle.std.specs.FinMap.{FinMap}
 use Rattle.std.proofs.lemmas.List.Filters.{length-filter_both}
 use Rattle.std.proofs.lemmas.List.Kept.{AllPairs-filter}
-use Rattle.std.proofs.lemmas.Map.Keys.{IsDistinct-from_apart, IsDistinct-head, apart_from_distinct}
+use Rattle.std.proofs.lemmas.Map.Keys.{IsDistinct-from_apart, apart_from_distinct}
 use Rattle.iddqd.specs.Store.{Store}
 use Rattle.iddqd.proofs.StoreLemmas.{contains_head, contains_tail, contains_cases, contains_none}
 use Rattle.iddqd_hash.proofs.MemberLemmas.{filed_at}
@@ -15,7 +15,7 @@ use Rattle.iddqd_by_hash.specs.Hashed.{AreLive, IsHitUnder, passes}
 use Rattle.iddqd_groups.specs.HashedGroup.{hits_among, IsGroupOf}
 use Rattle.iddqd_groups.specs.Links.{AreUnder}
 use Rattle.iddqd_by_hash.proofs.FindLemmas.{hit_from_passes, passes_from_hit}
-use Rattle.iddqd_map.specs.Groups.{AreHits, FindsOther, FindsSome}
+use Rattle.iddqd_map.proofs.GroupRetainLemmas.{Contains-passing}
 
 -- the members of a list that pass a test
 module _ {X : Type 0} (test : X → Bool) where
@@ -24,19 +24,6 @@ module _ {X : Type 0} (test : X → Bool) where
 
   pub filter-refused : (x : X) (xs : List X) → test x ≡ false → filter test (x ∷ xs) ≡ filter test xs
   filter-refused x xs is = rw is refl
-
-  pub kept : (xs : List X) (x : X) → Contains xs x → test x ≡ true → Contains (filter test xs) x
-  kept [] x here is = absurd (contains_none x here)
-  kept (y ∷ xs) x here is =
-      elim (test y) as (λ b. test y ≡ b → Contains (cond b (y ∷ filter test xs) (filter test xs)) x) [
-        | true ↦
-            λ _. ⊎_elim (λ same. subst (λ z. Contains (z ∷ filter test xs) x) (sym same)
-            (contains_head x (filter test xs))) (λ rest. contains_tail y x (filter test xs) (kept xs x rest is))
-            (contains_cases y x xs here)
-        | false ↦
-            λ other. ⊎_elim (λ same. absurd (let never : true ≡ false = sym is ∙ ap test (sym same) ∙ other in cc))
-            (λ rest. kept xs x rest is) (contains_cases y x xs here)
-      ] refl
 
   pub was_there : (xs : List X) (x : X) → Contains (filter test xs) x → Contains xs x × (test x ≡ true)
   was_there [] x here = absurd (contains_none x here)
@@ -96,7 +83,7 @@ module _
             filed = (under.each ix).0 there;
           },
       λ found.
-          kept (passes s (passes_by key_of test)) xs ix ((under.each ix).1 found.filed)
+          Contains-passing (passes s (passes_by key_of test)) xs ix ((under.each ix).1 found.filed)
           (passes_from_hit s (passes_by key_of test) ix found.hit),
     )
 
@@ -114,48 +101,3 @@ module _
                 }),
           );
         }
-
-module _ {T : Type 0} (test : T → Bool) where
-  -- the first of the hits is one of them, and there is none where no item passes
-  pub FindsSome-first :
-      (s : Store T) (indexes : List ℕ) (r : Option ℕ) (behind : List ℕ)
-      → AreHits s test indexes
-      → MatchOption r ((indexes ≡ []) × (behind ≡ [])) (λ ix. indexes ≡ ix ∷ behind)
-      → FindsSome s test r
-  FindsSome-first s indexes None behind hits none = λ ix hit.
-      contains_none ix (subst (λ l. Contains l ix) none.0 ((hits.each ix).1 hit))
-  FindsSome-first s indexes (Some ix) behind hits first =
-      (hits.each ix).0 (subst (λ l. Contains l ix) (sym first) (contains_head ix behind))
-
-  -- another hit than this one: the first of all hits, or the second if this is the first
-  module _ (s : Store T) (indexes : List ℕ) (hits : AreHits s test indexes) (ix : ℕ) where
-    pub FindsOther-none : indexes ≡ [] → FindsOther s test ix None
-    FindsOther-none none = λ j hit. absurd (contains_none j (subst (λ l. Contains l j) none ((hits.each j).1 hit)))
-
-    pub FindsOther-first :
-        (j : ℕ) (behind : List ℕ)
-        → indexes ≡ j ∷ behind
-        → (j ≡ ix → ⊥)
-        → FindsOther s test ix (Some j)
-    FindsOther-first j behind first other =
-        (other, (hits.each j).0 (subst (λ l. Contains l j) (sym first) (contains_head j behind)))
-
-    pub FindsOther-second :
-        (behind : List ℕ) (r : Option ℕ) (rest : List ℕ)
-        → indexes ≡ ix ∷ behind
-        → MatchOption r ((behind ≡ []) × (rest ≡ [])) (λ j. behind ≡ j ∷ rest)
-        → FindsOther s test ix r
-    FindsOther-second behind None rest first none = λ j hit.
-        elim (contains_cases ix j behind (subst (λ l. Contains l j) first ((hits.each j).1 hit))) [
-          | inl same ↦ sym same
-          | inr there ↦ absurd (contains_none j (subst (λ l. Contains l j) none.0 there))
-        ]
-    FindsOther-second behind (Some j) rest first second =
-        let both = first ∙ ap (λ l. ix ∷ l) second in
-        let apart = (IsDistinct-head nat_eq ix (j ∷ rest) (subst (λ l. IsDistinct nat_eq l) both hits.once)).0 in (
-          λ same.
-              let is : nat_eq ix j ≡ true = eq-eqb ix j (sym same) in
-              let never : true ≡ false = sym is ∙ apart in
-              cc,
-          (hits.each j).0 (subst (λ l. Contains l j) (sym both) (contains_tail ix j (j ∷ rest) (contains_head j rest))),
-        )

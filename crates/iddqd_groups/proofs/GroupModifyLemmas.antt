@@ -22,7 +22,8 @@ use Rattle.iddqd_map.proofs.AlongLemmas.{apart_first}
 use Rattle.iddqd_map.proofs.ModifyLemmas.{CallsAlong-first, CallsAlong-none, WasCalled-now}
 use Rattle.iddqd_map.proofs.RetainLemmas.{Contains-live}
 use Rattle.iddqd_groups.specs.HashedGroup.{hits_among}
-use Rattle.iddqd_groups.proofs.GroupLemmas.{filter-passed, filter-refused, kept}
+use Rattle.iddqd_groups.proofs.GroupLemmas.{filter-passed, filter-refused}
+use Rattle.iddqd_map.proofs.GroupRetainLemmas.{Contains-passing}
 
 module _
     {F T : Type 0} (g : Mut F (MutBor T × Unit {0}) (Unit {0} × (MutBor T × Unit {0}))) (test : T → Bool) (f : F)
@@ -100,7 +101,7 @@ module _
         behind j here = contains_tail ix j rest here
 
         among : (item : T) → get now ix ≡ Some item → test item ≡ true → Contains (filter test (live_items old)) item
-        among item live passed = kept test (live_items old) item (Contains-live old ix item (old_here item live)) passed
+        among item live passed = Contains-passing test (live_items old) item (Contains-live old ix item (old_here item live)) passed
 
         -- its item may be given to the closure, if it passes
         pub ModifyingHits-takes : (item : T) → get now ix ≡ Some item → test item ≡ true → TakesMut g state item

@@ -7,10 +7,10 @@ mod LinkLemmas
 mod LinkListLemmas
 mod LinkedSizeLemmas
 mod LinksLemmas
-mod NeighbourLemmas
 mod RemoveLinkLemmas
 mod RenameLinkLemmas
 mod RenamedLenLemmas
 mod RenamedTableLemmas
 mod RenamingLemmas
+mod StepLemmas
 mod UnlinkLemmas

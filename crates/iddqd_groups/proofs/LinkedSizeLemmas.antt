@@ -142,12 +142,14 @@ IsLinkedTable-kept most' was same_heads same_links roomy = rw (same_heads, same_
 pub same_linked :
     (t u : LinkedState)
     → t.filed ≡ u.filed
+    → t.nexts ≡ u.nexts
     → t.slots ≡ u.slots
     → t.capacity ≡ u.capacity
     → t.memory ≡ u.memory
     → t ≡ u
-same_linked t u filed slots capacity memory = λ i. record {
+same_linked t u filed nexts slots capacity memory = λ i. record {
   filed = filed i;
+  nexts = nexts i;
   slots = slots i;
   capacity = capacity i;
   memory = memory i;

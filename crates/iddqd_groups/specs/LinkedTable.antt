@@ -1,19 +1,21 @@
 -- What a contract sees of a table of indexes under hashes, where many indexes may share a hash.
-use Rattle.std.specs.Prelude.{◌≡◌, ◌+◌, ◌≤◌, ℕ, List, length, min, max, refl}
-use Rattle.std.specs.Coded.{Coded, code_by, coded×, coded_ℕ}
+use Rattle.std.specs.Prelude.{◌≡◌, ◌+◌, ◌≤◌, ℕ, List, length, map, min, max, refl, slice_index_or}
+use Rattle.std.specs.Coded.{Coded, code_by, coded×, coded_list, coded_ℕ}
 use Rattle.std.specs.Ordering.{nat_cmp}
 use Rattle.std.specs.FinMap as finite
 use Rattle.std.specs.FinMap.{FinMap}
 use Rattle.iddqd.specs.Store.{sentinel}
 use Rattle.iddqd_hash.specs.OpenTableSizes.{least_cells}
 use Rattle.iddqd_hash.specs.Sizes.{most_cells}
-use Rattle.iddqd_groups.specs.Links.{filed_by, next_of, prev_of, AreHeads}
+use Rattle.iddqd_groups.specs.Links.{chain, filed_by, next_of, prev_of, AreHeads}
 use Rattle.iddqd_groups.specs.declared.linked_table.links.Link.{Link}
 
 -- What a table has.
 pub record LinkedState : Type 0 where
   -- the hash of each index
   pub filed : FinMap nat_cmp ℕ
+  -- the next index of each index under the same hash, by index, or `SENTINEL` if there is none
+  pub nexts : List ℕ
   -- the length of the array of links: link i belongs to index i, whether or not that index is in the table
   pub slots : ℕ
   -- how many indexes it can hold without more memory
@@ -25,11 +27,21 @@ pub record LinkedState : Type 0 where
 abbrev pub linked_code : Coded LinkedState
 linked_code =
     code_by
-    (FinMap nat_cmp ℕ × (ℕ × (ℕ × ℕ)))
-    (coded× (finite.code coded_ℕ coded_ℕ) (coded× coded_ℕ (coded× coded_ℕ coded_ℕ)))
-    (λ t. (t.filed, (t.slots, (t.capacity, t.memory))))
-    (λ p. record { filed = p.0; slots = p.1.0; capacity = p.1.1.0; memory = p.1.1.1 })
+    (FinMap nat_cmp ℕ × (List ℕ × (ℕ × (ℕ × ℕ))))
+    (coded× (finite.code coded_ℕ coded_ℕ) (coded× (coded_list coded_ℕ) (coded× coded_ℕ (coded× coded_ℕ coded_ℕ))))
+    (λ t. (t.filed, (t.nexts, (t.slots, (t.capacity, t.memory)))))
+    (λ p. record { filed = p.0; nexts = p.1.0; slots = p.1.1.0; capacity = p.1.1.1.0; memory = p.1.1.1.1 })
     (λ _. refl)
+
+-- the next index of each index that has one of these links
+abbrev pub nexts_of : List Link → List ℕ
+nexts_of links = map (λ l. l.next) links
+
+-- the indexes that come behind an index under its hash, in the order of an iteration
+abbrev pub behind : LinkedState → ℕ → List ℕ
+behind t ix =
+    let next = λ (j : ℕ). slice_index_or t.nexts j sentinel in
+    chain next (length t.nexts) (next ix)
 
 -- the most that a table takes for `count` indexes: cells for as many heads, and a link each
 abbrev pub most_linked : ℕ → ℕ

@@ -1,6 +1,6 @@
 -- The links of the indexes of a table. A link has the hash of its index, and the next and the previous index under that
 -- hash: its neighbours.
-use Rattle.std.specs.Prelude.{◌≡◌, ◌≢◌, ◌==◌, ◌↔◌, ◌<◌, ◌≤◌, ℕ, zero, suc, List, [], ◌∷◌, Option, Some, None, if◌then◌else◌, slice_index_or, IsSome, length, nat_eq}
+use Rattle.std.specs.Prelude.{◌≡◌, ◌≢◌, ◌==◌, ◌↔◌, ◌<◌, ◌≤◌, ℕ, zero, suc, List, [], ◌∷◌, Some, if◌then◌else◌, slice_index_or, IsSome, length, nat_eq}
 use Rattle.std.specs.List.{Contains, IsDistinct}
 use Rattle.std.specs.Ordering.{nat_cmp}
 use Rattle.std.specs.FinMap as finite
@@ -114,8 +114,3 @@ pub record IsWalk (links : List Link) (at most : ℕ) : Type 0 where
 pub record AreUnder (filed : FinMap nat_cmp ℕ) (hash : ℕ) (indexes : List ℕ) : Type 0 where
   pub each : (ix : ℕ) → Contains indexes ix ↔ (finite.get filed ix ≡ Some hash)
   pub once : IsDistinct nat_eq indexes
-
--- another index with the hash of this one; `None` if and only if there is none
-abbrev pub FindsOtherUnder : FinMap nat_cmp ℕ → ℕ → Option ℕ → Type 0
-FindsOtherUnder filed ix (Some j) = (j ≢ ix) × (finite.get filed j ≡ finite.get filed ix)
-FindsOtherUnder filed ix None = (j : ℕ) → finite.get filed j ≡ finite.get filed ix → j ≡ ix

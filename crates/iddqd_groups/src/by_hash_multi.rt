@@ -21,7 +21,8 @@ ghost use Rattle.iddqd_by_hash.specs.Hashed.{hashing_of};
 ghost use Rattle.iddqd_map.specs.Groups.{AreHits};
 
 use crate::group_modify::modify_group;
-use crate::group_query::{find_any, find_other, group_by};
+use crate::group_query::group_by;
+use crate::group_steps::{find_any, next_in_group, take_in_group};
 pub use crate::hashed_group::Group;
 use crate::linked_steps;
 use crate::linked_table::LinkedTable;
@@ -333,20 +334,34 @@ where
     S: BuildHasher,
     Q: ItemHashQuery<T, E>,
 {
+    ghost use Rattle.iddqd_groups.specs.HashedGroup.{hits_behind};
+
     ghost stands_for = { Q.stands_for_item };
+
+    ghost behind = { λ x s query ix. hits_behind x.table s (Q.stands_for_item query) ix };
 
     fn find_any(&self, items: &ItemSet<T>, state: &S, query: Q) -> Option<ItemIndex> {
         find_any::<T, E, S, Q>(&self.table, items, state, query)
     }
 
-    fn find_other(
+    fn next_in_group(
         &self,
         items: &ItemSet<T>,
         state: &S,
         query: Q,
         ix: ItemIndex,
     ) -> Option<ItemIndex> {
-        find_other::<T, E, S, Q>(&self.table, items, state, query, ix)
+        next_in_group::<T, E, Q>(&self.table, items, &query, ix)
+    }
+
+    fn take_in_group(
+        &mut self,
+        items: &ItemSet<T>,
+        state: &S,
+        query: Q,
+        ix: ItemIndex,
+    ) -> Option<ItemIndex> {
+        take_in_group::<T, E, Q>(&mut self.table, items, &query, ix)
     }
 
     fn modify_group<F: FnMut(&mut T)>(

@@ -1,76 +1,17 @@
 //! Look-ups by any query in a linked table that indexes a store: several items may have the key.
 ghost use Rattle.std.specs.Prelude.{◌≡◌, length};
 ghost use Rattle.iddqd.specs.{live_count};
-ghost use Rattle.iddqd_keys.specs.Scan.{IsHit};
 ghost use Rattle.iddqd_by_hash.specs.Hashed.{hashing_of};
 ghost use Rattle.iddqd_map.specs.Files.{Files};
-ghost use Rattle.iddqd_map.specs.Groups.{AreHits, FindsOther, FindsSome};
+ghost use Rattle.iddqd_map.specs.Groups.{AreHits};
 
 use crate::hashed_group::{Group, group_of};
 use crate::linked_table::LinkedTable;
-use iddqd::item_index::ItemIndex;
 use iddqd::item_set::ItemSet;
 use iddqd_by_hash::hashed::query_hash;
 use iddqd_keys::hash_key::HashKey;
 use iddqd_keys::item_hash_query::ItemHashQuery;
 use std::hash::BuildHasher;
-
-/// The index of some item that has the key for which the query stands. Several items may have it.
-pub fn find_any<T, E, S, Q>(
-    table: &LinkedTable,
-    items: &ItemSet<T>,
-    state: &S,
-    query: Q,
-) -> Option<ItemIndex>
-where
-    E: HashKey<T>,
-    S: BuildHasher,
-    Q: ItemHashQuery<T, E>,
-    requires { Files E.key_of (hashing_of E.eq E.hash_input S.BuildHasher S.Hasher.Hasher state.now)
-        items.now.store table.now.filed }
-    ensures { FindsSome items.now.store (Q.stands_for_item query) result }
-{
-    let mut group = group_by::<T, E, S, Q>(table, items, state, query);
-    group.next()
-}
-
-/// The index of another item that has the key for which the query stands, which the item at `ix` has; `None` if and
-/// only if no other item has it.
-///
-/// It compares the query with the key at a neighbour of `ix`, and searches the hash table only if that is another key.
-pub fn find_other<T, E, S, Q>(
-    table: &LinkedTable,
-    items: &ItemSet<T>,
-    state: &S,
-    query: Q,
-    ix: ItemIndex,
-) -> Option<ItemIndex>
-where
-    E: HashKey<T>,
-    S: BuildHasher,
-    Q: ItemHashQuery<T, E>,
-    requires files { Files E.key_of (hashing_of E.eq E.hash_input S.BuildHasher S.Hasher.Hasher state.now)
-        items.now.store table.now.filed }
-    requires hit { IsHit items.now.store (Q.stands_for_item query) ix }
-    ensures { FindsOther items.now.store (Q.stands_for_item query) ix result }
-{
-    let near = match table.neighbour_of(ix) {
-        Some(near) => near,
-        None => return None,
-    };
-    if query.stands_for_item(&items[near]) {
-        return Some(near);
-    }
-    let mut group = group_by::<T, E, S, Q>(table, items, state, query);
-    match group.next() {
-        Some(first) => if first == ix {
-            group.next()
-        } else {
-            Some(first)
-        },
-        None => None,
-    }
-}
 
 /// The indexes whose items have the key for which the query stands, each once, in no order that a caller can rely on.
 ///

@@ -7,6 +7,7 @@
 pub mod by_hash_multi;
 mod group_modify;
 mod group_query;
+mod group_steps;
 pub mod hashed_group;
 pub mod in_groups;
 mod linked_steps;

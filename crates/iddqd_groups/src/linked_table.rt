@@ -14,7 +14,7 @@
 //! 3. no two heads have the same hash, so the indexes under a hash are one chain;
 //! 4. no chain is a cycle;
 //! 5. `len` counts the indexes, `heads` has the capacity for `len` entries, and the array has at most `u32::MAX` links.
-ghost use Rattle.std.specs.Prelude.{◌≡◌, ◌≢◌, ◌≤◌, ◌<◌, ◌+◌, ℕ, max, Some, None, IsSome, vec_len, vec_capacity};
+ghost use Rattle.std.specs.Prelude.{◌≡◌, ◌≢◌, ◌≤◌, ◌<◌, ◌+◌, ℕ, [], max, Some, None, IsSome, vec_len, vec_capacity};
 ghost use Rattle.std.specs.FinMap as finite;
 ghost use Rattle.iddqd.specs.Store.{sentinel};
 ghost use Rattle.iddqd_hash.specs.{filed};
@@ -25,10 +25,10 @@ ghost use Rattle.iddqd_groups.specs.Links.{filed_by, next_of, prev_of, next_behi
 mod copies;
 mod indexes;
 mod links;
-mod neighbours;
 mod removals;
 mod renames;
 mod sizes;
+mod steps;
 mod validation;
 
 use iddqd::item_index::ItemIndex;
@@ -41,8 +41,9 @@ use std::marker::Model;
 
 /// Indexes under hashes, each index once. Many may share a hash.
 ///
-/// A contract sees four things: the hash of each index (`filed`), the length of the array of links (`slots`), the
-/// capacity, and how many cells and links the memory holds (`memory`).
+/// A contract sees five things: the hash of each index (`filed`), the index that comes behind each in an iteration
+/// (`nexts`), the length of the array of links (`slots`), the capacity, and how many cells and links the memory holds
+/// (`memory`).
 #[derive(Drop)]
 pub struct LinkedTable {
     // The first index of each hash.
@@ -58,7 +59,7 @@ impl Model for LinkedTable {
     ghost use Rattle.iddqd_hash.specs.{filed};
     ghost use Rattle.iddqd_hash.specs.HashTable.{capacity, memory};
     ghost use Rattle.iddqd_groups.specs.Links.{filed_by};
-    ghost use Rattle.iddqd_groups.specs.LinkedTable.{LinkedState, linked_code, IsLinkedTable};
+    ghost use Rattle.iddqd_groups.specs.LinkedTable.{LinkedState, linked_code, nexts_of, IsLinkedTable};
 
     ghost Value = { LinkedState };
 
@@ -66,6 +67,7 @@ impl Model for LinkedTable {
 
     ghost view = { λ t. record {
       filed = filed_by t.links.items;
+      nexts = nexts_of t.links.items;
       slots = vec_len t.links;
       capacity = min (capacity t.heads) (vec_capacity t.links);
       memory = memory t.heads + vec_capacity t.links;
@@ -77,7 +79,7 @@ impl Model for LinkedTable {
 impl LinkedTable {
     /// An empty table. It takes no memory.
     pub fn new(alloc: Global) -> LinkedTable
-        ensures { result ≡ record { filed = finite.empty; slots = 0; capacity = 0; memory = 0 } }
+        ensures { result ≡ record { filed = finite.empty; nexts = []; slots = 0; capacity = 0; memory = 0 } }
     {
         LinkedTable {
             heads: MapHashTable::new(alloc),
@@ -122,7 +124,7 @@ impl LinkedTable {
 
     /// Removes every index, and keeps the memory.
     pub fn clear(&mut self)
-        ensures { self.new ≡ record self.old { filed = finite.empty; slots = 0 } }
+        ensures { self.new ≡ record self.old { filed = finite.empty; nexts = []; slots = 0 } }
     {
         self.heads.clear();
         self.links.clear();

@@ -6,10 +6,12 @@ pub mod CallerLemmas
 pub mod CloneLemmas
 pub mod ConflictLemmas
 pub mod CountLemmas
+pub mod DisplaceLemmas
 pub mod DropLemmas
 pub mod EqualityLemmas
 pub mod FoundLemmas
 pub mod GroupLemmas
+pub mod GroupRetainLemmas
 pub mod HashLemmas
 pub mod IndexingLemmas
 pub mod IntoLemmas

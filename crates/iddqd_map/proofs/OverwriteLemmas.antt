@@ -70,25 +70,25 @@ module _ where
       omega (arith, fits, e)
 
 -- a list with one more at its end
-contains_push : (l : List ℕ) (j ix : ℕ) → Contains (l ++ j ∷ []) ix → Contains l ix ⊎ (j ≡ ix)
+pub contains_push : (l : List ℕ) (j ix : ℕ) → Contains (l ++ j ∷ []) ix → Contains l ix ⊎ (j ≡ ix)
 contains_push [] j ix here = elim (contains_cases j ix [] here) [ inl same ↦ inr same | inr none ↦ absurd (contains_none ix none) ]
 contains_push (x ∷ rest) j ix here = elim (contains_cases x ix (rest ++ j ∷ []) here) [
   | inl same ↦ inl (subst (λ w. Contains (x ∷ rest) w) same (contains_head x rest))
   | inr behind ↦ elim (contains_push rest j ix behind) [ inl inside ↦ inl (contains_tail x ix rest inside) | inr same ↦ inr same ]
 ]
 
-push_keeps : (l : List ℕ) (j ix : ℕ) → Contains l ix → Contains (l ++ j ∷ []) ix
+pub push_keeps : (l : List ℕ) (j ix : ℕ) → Contains l ix → Contains (l ++ j ∷ []) ix
 push_keeps [] j ix here = absurd (contains_none ix here)
 push_keeps (x ∷ rest) j ix here = elim (contains_cases x ix rest here) [
   | inl same ↦ subst (λ w. Contains (x ∷ (rest ++ j ∷ [])) w) same (contains_head x (rest ++ j ∷ []))
   | inr behind ↦ contains_tail x ix (rest ++ j ∷ []) (push_keeps rest j ix behind)
 ]
 
-push_adds : (l : List ℕ) (j : ℕ) → Contains (l ++ j ∷ []) j
+pub push_adds : (l : List ℕ) (j : ℕ) → Contains (l ++ j ∷ []) j
 push_adds [] j = contains_head j []
 push_adds (x ∷ rest) j = contains_tail x j (rest ++ j ∷ []) (push_adds rest j)
 
-IsIncreasing-push :
+pub IsIncreasing-push :
     (l : List ℕ) (j : ℕ)
     → IsIncreasing l
     → ((ix : ℕ) → Contains l ix → ix < j)
@@ -152,18 +152,18 @@ module _ {T : Type 0} where
       hit_live : (s : Store T) (test : T → Bool) (j : ℕ) → IsHit s test j → IsLive s j
       hit_live s test j (item, is, passed) = rw is refl
 
-  get-removed_all : (s : Store T) (l : List ℕ) (j : ℕ) → (Contains l j → ⊥) → get (removed_all s l) j ≡ get s j
+  pub get-removed_all : (s : Store T) (l : List ℕ) (j : ℕ) → (Contains l j → ⊥) → get (removed_all s l) j ≡ get s j
   get-removed_all s [] j other = refl
   get-removed_all s (x ∷ rest) j other =
       get-removed_all (removed s x) rest j (λ here. other (contains_tail x j rest here))
       ∙ get-removed_other s x j (λ same. other (subst (λ w. Contains (x ∷ rest) w) (sym same) (contains_head x rest)))
 
-  removed_all-push : (s : Store T) (l : List ℕ) (j : ℕ) → removed_all s (l ++ j ∷ []) ≡ removed (removed_all s l) j
+  pub removed_all-push : (s : Store T) (l : List ℕ) (j : ℕ) → removed_all s (l ++ j ∷ []) ≡ removed (removed_all s l) j
   removed_all-push s [] j = refl
   removed_all-push s (x ∷ rest) j = removed_all-push (removed s x) rest j
 
 -- the next index, if there is one, is this or before it
-abbrev IsAhead : Option ℕ → ℕ → Type 0
+abbrev pub IsAhead : Option ℕ → ℕ → Type 0
 IsAhead None ix = ⊥
 IsAhead (Some next) ix = next ≤ ix
 
@@ -181,14 +181,14 @@ pub record Taking {T : Type 0} (reported : ℕ → Type 0) (places : ℕ) (old :
   pub left_is : left ≡ removed_all old done
 
 module _ {T : Type 0} (reported : ℕ → Type 0) (places : ℕ) (old : Store T) where
-  ahead_first : (next : Option ℕ) → IsNextReported reported None next → (ix : ℕ) → reported ix → IsAhead next ix
+  pub ahead_first : (next : Option ℕ) → IsNextReported reported None next → (ix : ℕ) → reported ix → IsAhead next ix
   ahead_first None none ix here = none ix here tt
   ahead_first (Some j) first ix here = by_less (λ less. first.2 ix here tt less)
     where
       by_less : (ix < j → ⊥) → j ≤ ix
       by_less not = omega (arith, not)
 
-  reported_first : (next : Option ℕ) → IsNextReported reported None next → (j : ℕ) → next ≡ Some j → reported j
+  pub reported_first : (next : Option ℕ) → IsNextReported reported None next → (j : ℕ) → next ≡ Some j → reported j
   reported_first None none j is = absurd (cc)
   reported_first (Some k) first j is = let same : k ≡ j = cc in subst reported same first.0
 
@@ -253,7 +253,7 @@ module _ {T : Type 0} (reported : ℕ → Type 0) (places : ℕ) (old : Store T)
       → length back ≡ places
   places_left back left next count t = ap length t.items ∙ length-padded places (map (get old) t.done)
 
-  ahead_next :
+  pub ahead_next :
       (j : ℕ) (next : Option ℕ)
       → IsNextReported reported (Some j) next
       → (ix : ℕ)
@@ -266,7 +266,7 @@ module _ {T : Type 0} (reported : ℕ → Type 0) (places : ℕ) (old : Store T)
       by_less : (ix < k → ⊥) → k ≤ ix
       by_less not = omega (arith, not)
 
-  past_next :
+  pub past_next :
       (j : ℕ) (next : Option ℕ)
       → IsNextReported reported (Some j) next
       → (k : ℕ)

@@ -1,9 +1,11 @@
 -- How many items and how much room the calls of a map leave.
-use Rattle.std.proofs.Common.{◌≡◌, ◌∙◌, inl, inr, ◌+◌, ◌≤◌, ℕ, Bool, List, [], ◌∷◌, length, Option, Some, None, is_some, refl, sym, ap, subst, arith}
+use Rattle.std.proofs.Common.{◌≡◌, ◌≢◌, ◌∙◌, inl, inr, ◌+◌, ◌≤◌, ℕ, Bool, List, [], ◌∷◌, length, Option, Some, None, is_some, refl, sym, ap, subst, arith}
 use Rattle.std.specs.Prelude.{Result, Ok, Err, OnOk, OnErr, IfErr, OnSome, IfNone, IsOk}
 use Rattle.std.specs.List.{Contains, count_by}
-use Rattle.iddqd.specs.Store.{Store, IsFull, IsValid, get, live_count, removed}
+use Rattle.iddqd.specs.Store.{Store, IsFull, IsValid, get, live_count, next_index, removed}
 use Rattle.iddqd.proofs.LiveCountLemmas.{live_count-inserted, live_count-removed}
+use Rattle.iddqd.proofs.LiveLemmas.{get-inserted_other, next_vacant}
+use Rattle.iddqd.proofs.StoreLemmas.{IsValid-inserted}
 use Rattle.iddqd_keys.specs.Removals.{removed_all}
 use Rattle.iddqd_keys.specs.Scan.{IsLive}
 use Rattle.iddqd_keys.proofs.RemovalLemmas.{AreLiveInTurn, AreLiveInTurn-rising, IsValid-removed_all, live_count-removed_all, free-removed_all, limit-removed_all, count-padded}
@@ -13,6 +15,7 @@ use Rattle.iddqd_map.specs.declared.refusal.InsertRefusal.{InsertRefusal}
 use Rattle.iddqd_map.specs.declared.refusal.InsertRefusal.TheVariants.{Duplicate, Full, Memory}
 use Rattle.iddqd_map.specs.declared.refusal.OverwriteRefusal.{OverwriteRefusal}
 use Rattle.iddqd_map.specs.declared.refusal.OverwriteRefusal.TheVariants.{Full as NoSlot, Memory as NoMemory}
+use Rattle.iddqd_map.proofs.OverwriteLemmas.{get-removed_all}
 
 -- in the same memory, within the same limit
 module _
@@ -131,7 +134,31 @@ module _
             let free = free-removed_all old.store (j ∷ rest) in
             omega (arith, free, ap length full.0)
 
-        overwritten-count : live_count new.store + count_by is_some back ≡ live_count old.store + 1
+        pub overwritten-valid : IsValid new.store
+        overwritten-valid =
+            let left = removed_all old.store did.conflicts in
+            let valid_left = IsValid-removed_all old.store did.conflicts in_turn valid in
+            subst IsValid (sym did.stored) (IsValid-inserted left item valid_left (full_without did.conflicts refl))
+
+        pub overwritten-limit : new.store.limit ≡ old.store.limit
+        overwritten-limit = ap (λ (s : Store T). s.limit) did.stored ∙ limit-removed_all old.store did.conflicts
+
+        -- what was there and shares no key is still there
+        pub overwritten-stays :
+            (j : ℕ) (x : T)
+            → get old.store j ≡ Some x
+            → (Contains did.conflicts j → ⊥)
+            → get new.store j ≡ Some x
+        overwritten-stays j x live apart =
+            let left = removed_all old.store did.conflicts in
+            let valid_left = IsValid-removed_all old.store did.conflicts in_turn valid in
+            let there : get left j ≡ Some x = get-removed_all old.store did.conflicts j apart ∙ live in
+            let other : j ≢ next_index left = λ same.
+            let none : get left j ≡ None = subst (λ k. get left k ≡ None) (sym same) (next_vacant left valid_left) in
+            absurd (cc) in
+            subst (λ s. get s j ≡ Some x) (sym did.stored) (get-inserted_other left item j other ∙ there)
+
+        pub overwritten-count : live_count new.store + count_by is_some back ≡ live_count old.store + 1
         overwritten-count =
             let left = removed_all old.store did.conflicts in
             let valid_left = IsValid-removed_all old.store did.conflicts in_turn valid in
@@ -141,7 +168,7 @@ module _
             let taken = ap (count_by is_some) did.items ∙ count-padded old.store places did.conflicts did.at_most conflict_live in
             omega (arith, fewer, one, stored, taken)
 
-        overwritten-room : 1 ≤ room old → room new + 1 ≡ room old + count_by is_some back
+        pub overwritten-room : 1 ≤ room old → room new + 1 ≡ room old + count_by is_some back
         overwritten-room some =
             room-exchanged old new (did.memory.had_room some)
             (ap (λ (s : Store T). s.limit) did.stored ∙ limit-removed_all old.store did.conflicts)

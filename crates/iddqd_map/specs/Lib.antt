@@ -1,5 +1,6 @@
 pub mod Append
 pub mod Bulk
+pub mod BulkOverwrite
 pub mod Calls
 pub mod Clones
 pub mod Drops

@@ -1,6 +1,6 @@
 -- How the items that share a key with a new one leave a map.
-use Rattle.std.specs.Prelude.{◌≡◌, ◌↔◌, ◌≤◌, ℕ, List, length, map, Option}
-use Rattle.std.specs.List.{Contains}
+use Rattle.std.specs.Prelude.{◌≡◌, ◌↔◌, ◌≤◌, ℕ, List, length, map, Option, Some}
+use Rattle.std.specs.List.{Contains, FoldsTo}
 use Rattle.iddqd.specs.Store.{Store, get}
 use Rattle.iddqd_keys.specs.Removals.{IsIncreasing, padded, removed_all}
 
@@ -13,4 +13,18 @@ pub record TakesAll
   pub rising : IsIncreasing indexes
   pub at_most : length indexes ≤ places
   pub items : back ≡ padded places (map (get old) indexes)
+  pub left : new ≡ removed_all old indexes
+
+-- The items at the indexes that were reported were removed by rising index, and the closure was called with each of
+-- them in this order. `give p x q` says that a call with x in the state p may leave the state q.
+pub record GivesReported
+    {G T : Type 0} (reported : ℕ → Type 0) (give : G → T → G → Type 0) (old : Store T) (gone : G) (new : Store T)
+    (last : G)
+    : Type 0 where
+  pub indexes : List ℕ
+  pub each : (ix : ℕ) → Contains indexes ix ↔ reported ix
+  pub rising : IsIncreasing indexes
+  pub displaced : List T
+  pub items : map Some displaced ≡ map (get old) indexes
+  pub given : FoldsTo give gone displaced last
   pub left : new ≡ removed_all old indexes

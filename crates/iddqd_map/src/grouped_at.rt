@@ -1,10 +1,10 @@
 //! A key by its hash that several items may have, at a place of a key index: the items that have one key are a group.
 ghost use Rattle.std.specs.Prelude.{◌≡◌, filter};
-ghost use Rattle.iddqd.specs.{IsValid, live_count};
+ghost use Rattle.iddqd.specs.{IsValid, live_count, removed};
 ghost use Rattle.iddqd.specs.LiveItems.{live_items};
 ghost use Rattle.iddqd_hash.specs.Asks.{CanAsk};
 ghost use Rattle.iddqd_keys.specs.Scan.{IsHit};
-ghost use Rattle.iddqd_map.specs.Groups.{FindsOther, FindsSome};
+ghost use Rattle.iddqd_map.specs.Groups.{AreHits, FindsSome, listed_from};
 ghost use Rattle.iddqd_map.specs.ModifyMany.{MayLeave, ModifiesHits, TakesMut};
 ghost use Rattle.iddqd_map.specs.RangeRetain.{KeepsMisses};
 
@@ -14,22 +14,29 @@ use iddqd::item_index::ItemIndex;
 use iddqd::item_set::ItemSet;
 
 /// A key index with a key by its hash at the place `P`, which several items may have, found by queries `Q`.
+///
+/// A call that goes along a group may remove items as it goes. So nothing is borrowed between two steps, and only
+/// `find_any` looks the key up.
 pub trait GroupedAt<P, Q, T, S>: KeyIndex<T, S> {
-    ghost use Rattle.std.specs.Prelude.{Bool};
+    ghost use Rattle.std.specs.Prelude.{ℕ, Bool, List};
+    ghost use Rattle.iddqd.specs.Store.{Store};
 
     // The query stands for the key of the item.
     ghost stands_for: { Q → T → Bool };
 
-    /// The index of some item that has the key for which the query stands, by one look-up.
+    // The indexes of the group that come behind this index, in the order in which the steps give them.
+    ghost behind: { Self → Store T → Q → ℕ → List ℕ };
+
+    /// The index of some item that has the key for which the query stands, by one look-up. It comes before all others
+    /// of the group.
     fn find_any(&self, items: &ItemSet<T>, state: &S, query: Q) -> Option<ItemIndex>
         requires indexed { Self.KeyIndex.indexes self.now state.now items.now.store }
-        ensures { FindsSome items.now.store (stands_for query) result };
+        ensures some { FindsSome items.now.store (stands_for query) result }
+        ensures group { AreHits items.now.store (stands_for query)
+            (listed_from (behind self.now items.now.store query) result) };
 
-    /// The index of another item that has the key for which the query stands, which the item at `ix` has; `None` if
-    /// and only if no other item has it.
-    ///
-    /// It takes no look-up, unless keys that differ have the same hash.
-    fn find_other(
+    /// The next index of the group behind this one.
+    fn next_in_group(
         &self,
         items: &ItemSet<T>,
         state: &S,
@@ -38,7 +45,24 @@ pub trait GroupedAt<P, Q, T, S>: KeyIndex<T, S> {
     ) -> Option<ItemIndex>
         requires indexed { Self.KeyIndex.indexes self.now state.now items.now.store }
         requires hit { IsHit items.now.store (stands_for query) ix }
-        ensures { FindsOther items.now.store (stands_for query) ix result };
+        ensures { behind self.now items.now.store query ix
+            ≡ listed_from (behind self.now items.now.store query) result };
+
+    /// Removes an index of the group, and returns the next one behind it. It takes no memory.
+    fn take_in_group(
+        &mut self,
+        items: &ItemSet<T>,
+        state: &S,
+        query: Q,
+        ix: ItemIndex,
+    ) -> Option<ItemIndex>
+        requires indexed { Self.KeyIndex.indexes self.old state.now items.now.store }
+        requires hit { IsHit items.now.store (stands_for query) ix }
+        ensures next { behind self.old items.now.store query ix
+            ≡ listed_from (behind self.new (removed items.now.store ix) query) result }
+        ensures indexed { Self.KeyIndex.indexes self.new state.now (removed items.now.store ix) }
+        ensures capacity { Self.KeyIndex.capacity self.new ≡ Self.KeyIndex.capacity self.old }
+        ensures cells { Self.KeyIndex.cells self.new ≡ Self.KeyIndex.cells self.old };
 
     /// Calls the closure with a `&mut` to each item that has the key for which the query stands, once, in no particular
     /// order, and returns how many there are. The closure stays in the state that its last call leaves.
@@ -70,18 +94,31 @@ where
 {
     ghost stands_for = { A.GroupedAt.stands_for };
 
+    ghost behind = { λ x s query ix. A.GroupedAt.behind x.first s query ix };
+
     fn find_any(&self, items: &ItemSet<T>, state: &S, query: Q) -> Option<ItemIndex> {
         self.first.find_any(items, state, query)
     }
 
-    fn find_other(
+    fn next_in_group(
         &self,
         items: &ItemSet<T>,
         state: &S,
         query: Q,
         ix: ItemIndex,
     ) -> Option<ItemIndex> {
-        self.first.find_other(items, state, query, ix)
+        self.first.next_in_group(items, state, query, ix)
+    }
+
+    fn take_in_group(
+        &mut self,
+        items: &ItemSet<T>,
+        state: &S,
+        query: Q,
+        ix: ItemIndex,
+    ) -> Option<ItemIndex> {
+        self.second.remove(items, state, ix);
+        self.first.take_in_group(items, state, query, ix)
     }
 
     fn modify_group<F: FnMut(&mut T)>(
@@ -102,18 +139,31 @@ where
 {
     ghost stands_for = { B.GroupedAt.stands_for };
 
+    ghost behind = { λ x s query ix. B.GroupedAt.behind x.second s query ix };
+
     fn find_any(&self, items: &ItemSet<T>, state: &S, query: Q) -> Option<ItemIndex> {
         self.second.find_any(items, state, query)
     }
 
-    fn find_other(
+    fn next_in_group(
         &self,
         items: &ItemSet<T>,
         state: &S,
         query: Q,
         ix: ItemIndex,
     ) -> Option<ItemIndex> {
-        self.second.find_other(items, state, query, ix)
+        self.second.next_in_group(items, state, query, ix)
+    }
+
+    fn take_in_group(
+        &mut self,
+        items: &ItemSet<T>,
+        state: &S,
+        query: Q,
+        ix: ItemIndex,
+    ) -> Option<ItemIndex> {
+        self.first.remove(items, state, ix);
+        self.second.take_in_group(items, state, query, ix)
     }
 
     fn modify_group<F: FnMut(&mut T)>(

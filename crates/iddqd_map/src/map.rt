@@ -14,6 +14,7 @@ ghost use Rattle.iddqd_map.specs.Map.{empty_map, IsMap};
 
 mod appends;
 mod bulk_inserts;
+mod bulk_overwrites;
 mod by_place;
 mod changes;
 mod checks;
@@ -21,8 +22,10 @@ mod clones;
 mod drains;
 mod equality;
 mod group_modify;
+mod hashed_group_retain;
 mod hashed_groups;
 mod inserts;
+mod made_with;
 mod memory;
 mod modifies;
 mod modify_each;

@@ -48,6 +48,17 @@ pub struct Stopped<T, C, I> {
     pub rest: I,
 }
 
+/// A refusal of one of many items by a call that overwrites, and what is left of their iterator.
+#[derive(Drop)]
+pub struct StoppedOverwrite<T, I> {
+    /// How many items were inserted.
+    pub inserted: usize,
+    /// Why the next item was not inserted. It comes back.
+    pub refusal: OverwriteRefusal<T>,
+    /// The items after that one.
+    pub rest: I,
+}
+
 impl<T, C: Drop> InsertRefusal<T, C> {
     /// The item that was not inserted.
     pub fn into_item(self) -> T

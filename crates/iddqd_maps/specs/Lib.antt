@@ -18,6 +18,7 @@ pub use Rattle.iddqd_map.specs.Map
 pub use Rattle.iddqd_map.specs.Memory
 pub use Rattle.iddqd_map.specs.Append
 pub use Rattle.iddqd_map.specs.Bulk
+pub use Rattle.iddqd_map.specs.BulkOverwrite
 pub use Rattle.iddqd_map.specs.Calls
 pub use Rattle.iddqd_map.specs.Clones
 pub use Rattle.iddqd_map.specs.Modify

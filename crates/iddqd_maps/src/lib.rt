@@ -96,6 +96,7 @@ pub use iddqd_map::refusal::InsertRefusal;
 pub use iddqd_map::refusal::OverwriteRefusal;
 pub use iddqd_map::refusal::ReplaceRefusal;
 pub use iddqd_map::refusal::Stopped;
+pub use iddqd_map::refusal::StoppedOverwrite;
 pub use iddqd_map::tri_hash_map as tri_hash_map;
 pub use iddqd_map::tri_hash_map::TriClash;
 pub use iddqd_map::tri_hash_map::TriHashItem;

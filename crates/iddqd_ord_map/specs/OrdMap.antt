@@ -5,6 +5,7 @@ use Rattle.std.specs.Iterator.{Count}
 use Rattle.std.specs.declared.cmp.Ordering.{Ordering}
 use Rattle.iddqd_map.specs.Append.{Appends}
 use Rattle.iddqd_map.specs.Bulk.{InsertsFrom, RefusesOneOf}
+use Rattle.iddqd_map.specs.BulkOverwrite.{OverwritesFrom}
 use Rattle.iddqd_map.specs.Calls.{Inserts, ReplacesIfLive, Replaces, Changes}
 use Rattle.iddqd_map.specs.Map.{MapState}
 use Rattle.iddqd_map.specs.OneKey.{IsReported, IsTaken}
@@ -14,6 +15,7 @@ use Rattle.iddqd_map.specs.declared.appended.Appended.{Appended}
 use Rattle.iddqd_map.specs.declared.refusal.InsertRefusal.{InsertRefusal}
 use Rattle.iddqd_map.specs.declared.refusal.ReplaceRefusal.{ReplaceRefusal}
 use Rattle.iddqd_map.specs.declared.refusal.Stopped.{Stopped}
+use Rattle.iddqd_map.specs.declared.refusal.StoppedOverwrite.{StoppedOverwrite}
 use Rattle.iddqd_ord_map.specs.OrderedSteps.{most_cells}
 use Rattle.iddqd_ord_map.specs.OrderedIndexing.{alike_in_order}
 
@@ -54,6 +56,15 @@ module _ {T K : Type 0} (key_of : T → K) (compare : K → K → Ordering) wher
   InsertsFromInOrder gives remaining it old result new =
       let alike = alike_in_order key_of compare in
       InsertsFrom gives alike (λ count. 0) (IsReported alike) remaining most_cells it old result new
+
+  -- The same for an insert of all items that displaces those in the way: `give p x q` says that a call of its closure
+  -- with x in the state p may leave the state q.
+  abbrev pub OverwritesFromInOrder :
+      {I G : Type 0} → (G → T → G → Type 0) → (I → Option T → I → Type 0) → (I → Count) → I → MapState T → G
+      → Result ℕ (StoppedOverwrite T I) → MapState T → Type 0
+  OverwritesFromInOrder give gives remaining it old gone result new =
+      let alike = alike_in_order key_of compare in
+      OverwritesFrom alike (λ count. 0) true give gives remaining most_cells it old gone result new
 
   -- what moving the items of one map into another may answer, and what it leaves in both
   abbrev pub AppendsInOrder : (into from : MapState T) → Appended → (new_into new_from : MapState T) → Type 0

@@ -24,6 +24,7 @@ mod clones;
 mod equality;
 mod into_values;
 mod iter;
+mod made_with;
 mod modifies;
 mod range;
 mod ranges;

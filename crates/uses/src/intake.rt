@@ -1,24 +1,29 @@
-//! Orders that come and go in many: a ledger takes them from an iterator or from another ledger, hands on the small
-//! ones, and is emptied at the end.
-ghost use Rattle.std.specs.Prelude.{◌≡◌, ◌≤◌, ◌<◌, ◌+◌, ℕ, Some, None, IfOk, IfErr, filter, nat_le};
+//! Orders that come and go in many: a ledger takes them from an iterator or from another ledger, in place of those that
+//! have their numbers or not, hands on the small ones, and is emptied at the end.
+ghost use Rattle.std.specs.Prelude.{◌≡◌, ◌≤◌, ◌<◌, ◌+◌, ℕ, Some, None, IfOk, IfErr, IsOk, filter, nat_le};
 ghost use Rattle.std.specs.Iterator.{UpTo};
 ghost use Rattle.iddqd_maps.specs.Append.{EachConflicts, KeepsOrMoves};
 ghost use Rattle.iddqd_maps.specs.Bulk.{inserted_count};
+ghost use Rattle.iddqd_maps.specs.BulkOverwrite.{HandsOver, overwritten_count};
 ghost use Rattle.iddqd_maps.specs.Calls.{IsDuplicate};
 ghost use Rattle.iddqd_maps.specs.Drops.{Drops};
 ghost use Rattle.iddqd_maps.specs.LiveItems.{live_pairs};
-ghost use Rattle.iddqd_maps.specs.Map.{room};
-ghost use Rattle.iddqd_maps.specs.Ranges.{TakesItem};
-ghost use Rattle.iddqd_maps.specs.Store.{cleared, get, live_count};
+ghost use Rattle.iddqd_maps.specs.Map.{empty_map, room};
+ghost use Rattle.iddqd_maps.specs.Ranges.{GivesItem, TakesItem};
+ghost use Rattle.iddqd_maps.specs.Store.{cleared, get, live_count, slot_limit};
 ghost use Rattle.uses.specs.Intake.{AddsAll, AddsUntil, IsHandedOnly};
 ghost use Rattle.uses.specs.Ledger.{shares_number};
 ghost use Rattle.uses.specs.declared.ledger.Order.{Order};
 
 use crate::ledger::{Ledger, Order, Taken};
 use iddqd_maps::appended::Appended;
-use iddqd_maps::refusal::Stopped;
-use iddqd_maps::{Here, Right};
+use iddqd_maps::refusal::{Stopped, StoppedOverwrite};
+use iddqd_maps::{Here, Left, Right};
+use std::alloc::Global;
+use std::default::MadeWith;
 use std::ops::Bound;
+
+type ByCustomer = Right<Left<Here>>;
 
 type ByDay = Right<Right<Here>>;
 
@@ -82,6 +87,52 @@ pub fn hand_on_small<F: FnMut(Order)>(ledger: &mut Ledger, day: u32, least: u64,
     ensures memory { ledger.new.memory ≡ ledger.old.memory }
 {
     ledger.retain_group_into_by::<ByDay, _, _, _>(&day, |order| order.amount >= least, gone)
+}
+
+/// Removes those orders of a customer that come to less than so much, passes each to the closure, and returns how many
+/// they were. It takes no memory.
+pub fn hand_on_small_of<F: FnMut(Order)>(
+    ledger: &mut Ledger,
+    customer: u32,
+    least: u64,
+    gone: F,
+) -> usize
+    requires { (p : F) (order : Order) → TakesItem F.FnMut p order }
+    ensures dropped { Drops (λ order. (order.customer ≡ customer) × (order.amount < least))
+        ledger.old.store ledger.new.store }
+    ensures handed { IsHandedOnly F.FnMut (λ order. (order.customer ≡ customer) × (order.amount < least)) gone }
+    ensures count { result + live_count ledger.new.store ≡ live_count ledger.old.store }
+    ensures memory { ledger.new.memory ≡ ledger.old.memory }
+{
+    ledger.retain_hashed_group_into_by::<ByCustomer, _, _, _>(
+        &customer,
+        |order| order.amount >= least,
+        gone,
+    )
+}
+
+/// Takes orders in turn, each in place of the one that has its number, up to the first that is refused: it comes back
+/// with the rest. The orders that were replaced go to the closure. With room for all of them none is refused.
+pub fn renew_all<I: Iterator<Item = Order>, F: FnMut(Order)>(
+    ledger: &mut Ledger,
+    orders: I,
+    gone: F,
+) -> Result<usize, StoppedOverwrite<Order, I>>
+    requires next { I.can_next orders }
+    requires fits { UpTo (I.remaining orders) usize.MAX }
+    requires given { (p : F) (order : Order) → TakesItem F.FnMut p order }
+    ensures handed { (last : F) × HandsOver (GivesItem F.FnMut) gone last ledger.old.store ledger.new.store
+        (overwritten_count result) }
+    ensures all { UpTo (I.remaining orders) (room ledger.old) → IsOk result }
+{
+    ledger.overwrite_all(orders, gone)
+}
+
+/// The ledger of a branch that has none yet: it is empty.
+pub fn blank(alloc: Global) -> Ledger
+    ensures { result ≡ empty_map slot_limit }
+{
+    MadeWith::made_with(alloc)
 }
 
 /// Removes those orders up to a day that come to less than so much, passes each to the closure, by day and then by

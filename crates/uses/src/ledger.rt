@@ -273,6 +273,17 @@ pub fn drop_small(ledger: &mut Ledger, day: u32, least: u64) -> usize
     ledger.retain_group_by::<ByDay, _, _>(&day, |order| order.amount >= least)
 }
 
+/// Removes those orders of a customer that come to less than so much, and returns how many they were. It takes no
+/// memory.
+pub fn drop_small_of(ledger: &mut Ledger, customer: u32, least: u64) -> usize
+    ensures dropped { Drops (λ order. (order.customer ≡ customer) × (order.amount < least))
+        ledger.old.store ledger.new.store }
+    ensures count { result + live_count ledger.new.store ≡ live_count ledger.old.store }
+    ensures memory { ledger.new.memory ≡ ledger.old.memory }
+{
+    ledger.retain_hashed_group_by::<ByCustomer, _, _>(&customer, |order| order.amount >= least)
+}
+
 /// Removes those orders up to a day that come to less than so much, and returns how many they were. It takes no
 /// memory.
 pub fn drop_small_until(ledger: &mut Ledger, day: u32, least: u64) -> usize

@@ -1,13 +1,19 @@
-//! A map in the order of its keys: its ends, and the items whose keys are between two bounds.
-ghost use Rattle.std.specs.Prelude.{◌≡◌, ◌<◌};
-ghost use Rattle.iddqd_maps.specs.Store.{live_count};
+//! A map in the order of its keys: its ends, the items whose keys are between two bounds, and many at once.
+ghost use Rattle.std.specs.Prelude.{◌≡◌, ◌<◌, IsOk};
+ghost use Rattle.std.specs.Iterator.{UpTo};
+ghost use Rattle.iddqd_maps.specs.BulkOverwrite.{HandsOver, overwritten_count};
+ghost use Rattle.iddqd_maps.specs.Store.{live_count, slot_limit};
 ghost use Rattle.iddqd_maps.specs.Drops.{Drops};
 ghost use Rattle.iddqd_maps.specs.KeyOrder.{IsWalkWithin};
-ghost use Rattle.iddqd_maps.specs.Ranges.{itself};
+ghost use Rattle.iddqd_maps.specs.Map.{empty_map, room};
+ghost use Rattle.iddqd_maps.specs.Ranges.{GivesItem, TakesItem, itself};
 ghost use Rattle.uses.specs.Scores.{by_hour, is_between};
+ghost use Rattle.uses.specs.declared.scores.Score.{Score};
 
 use iddqd_maps::id_ord_map::{IdOrdItem, IdOrdMap, Range};
+use iddqd_maps::refusal::StoppedOverwrite;
 use std::alloc::{AllocError, Global};
+use std::default::MadeWith;
 use std::ops::Bound;
 
 /// A score at an hour. No two are of the same hour.
@@ -51,6 +57,30 @@ pub fn forget_before(scores: &mut IdOrdMap<Score>, hour: u32) -> usize
 {
     scores.remove_range(Bound::Unbounded, Bound::Excluded(&hour), |_score| ());
     scores.len()
+}
+
+/// Enters scores in turn, each in place of the one of its hour, up to the first that is refused: it comes back with the
+/// rest. Those that were replaced go to the closure. With room for all of them none is refused.
+pub fn enter_all<I: Iterator<Item = Score>, F: FnMut(Score)>(
+    scores: &mut IdOrdMap<Score>,
+    entries: I,
+    gone: F,
+) -> Result<usize, StoppedOverwrite<Score, I>>
+    requires next { I.can_next entries }
+    requires fits { UpTo (I.remaining entries) usize.MAX }
+    requires given { (p : F) (score : Score) → TakesItem F.FnMut p score }
+    ensures handed { (last : F) × HandsOver (GivesItem F.FnMut) gone last scores.old.store scores.new.store
+        (overwritten_count result) }
+    ensures all { UpTo (I.remaining entries) (room scores.old) → IsOk result }
+{
+    scores.overwrite_all(entries, gone)
+}
+
+/// The scores of somebody who has none yet.
+pub fn none_yet(alloc: Global) -> IdOrdMap<Score>
+    ensures { result ≡ empty_map slot_limit }
+{
+    MadeWith::made_with(alloc)
 }
 
 fn script(scores: &mut IdOrdMap<Score>) -> (u32, Option<u32>, usize) {

@@ -1,10 +1,11 @@
 //! Removals from a linked table. They take no memory.
-ghost use Rattle.std.specs.Prelude.{◌≡◌, ◌<◌, ◌≤◌, ◌+◌, IsSome, Some, None, vec_len, vec_capacity};
+ghost use Rattle.std.specs.Prelude.{◌≡◌, ◌≢◌, ◌<◌, ◌≤◌, ◌+◌, ℕ, Contains, IsSome, Some, None, vec_len, vec_capacity};
 ghost use Rattle.std.specs.FinMap as finite;
 ghost use Rattle.iddqd_hash.specs.{filed};
 ghost use Rattle.iddqd_hash.specs.HashTable.{capacity, memory};
-ghost use Rattle.iddqd_groups.specs.LinkedTable.{AreHeadsOf, KeepsLinkMemory};
-ghost use Rattle.iddqd_groups.specs.Links.{filed_by, heads_after};
+ghost use Rattle.iddqd.specs.Store.{sentinel};
+ghost use Rattle.iddqd_groups.specs.LinkedTable.{AreHeadsOf, KeepsLinkMemory, behind};
+ghost use Rattle.iddqd_groups.specs.Links.{filed_by, heads_after, next_of, prev_of};
 
 use super::LinkedTable;
 use super::links::{Link, set_next_if_any, set_prev_if_any, take};
@@ -20,6 +21,8 @@ impl LinkedTable {
         ensures removed { self.new.filed ≡ finite.remove self.old.filed ix }
         ensures memory { KeepsLinkMemory self.old self.new }
         ensures slots { self.new.slots ≡ self.old.slots }
+        ensures behind { (j : ℕ) → Contains (behind self.old ix) j → behind self.new j ≡ behind self.old j }
+        ensures apart { (j : ℕ) → Contains (behind self.old ix) j → (k : ℕ) → Contains (behind self.old j) k → k ≢ ix }
         ensures one_less { finite.len self.new.filed + 1 ≡ finite.len self.old.filed }
         ensures inside { ix < self.new.slots }
         ensures holds_all { finite.len self.old.filed ≤ self.old.capacity }
@@ -35,6 +38,8 @@ fn unlink(heads: &mut MapHashTable, links: &mut Vec<Link>, ix: ItemIndex)
     requires present { IsSome (finite.get (filed_by links.old.items) ix) }
     ensures linked { AreHeadsOf (filed heads.new) links.new.items }
     ensures filed { filed_by links.new.items ≡ finite.remove (filed_by links.old.items) ix }
+    ensures next { (j : ℕ) → j ≢ sentinel → j ≢ ix → j ≢ prev_of links.old.items ix
+        → next_of links.new.items j ≡ next_of links.old.items j }
     ensures heads_capacity { capacity heads.new ≡ capacity heads.old }
     ensures heads_memory { memory heads.new ≡ memory heads.old }
     ensures len { vec_len links.new ≡ vec_len links.old }

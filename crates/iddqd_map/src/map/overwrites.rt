@@ -145,8 +145,8 @@ fn remove_reported<T, X: KeyIndex<T, S>, S>(
     }
 }
 
-// Stores an item that shares no key with another, and inserts its index. There is room for it.
-fn insert_in_room<T, X: KeyIndex<T, S>, S>(
+/// Stores an item that shares no key with another, and inserts its index. There is room for it.
+pub(super) fn insert_in_room<T, X: KeyIndex<T, S>, S>(
     items: &mut ItemSet<T>,
     indexes: &mut X,
     state: &S,

@@ -1,7 +1,7 @@
 //! The items that one closure keeps; the others go to another closure.
 ghost use Rattle.std.specs.Prelude.{◌≡◌, ◌≤◌, ◌+◌, Some};
 ghost use Rattle.std.specs.Fn.{TakesAt, CalledAt};
-ghost use Rattle.iddqd.specs.{get, live_count, removed};
+ghost use Rattle.iddqd.specs.{get, live_count, removed, room as set_room};
 ghost use Rattle.iddqd.specs.LiveItems.{live_items, live_pairs};
 ghost use Rattle.iddqd_keys.specs.Scan.{IsLive};
 ghost use Rattle.iddqd_map.specs.Bulk.{GivesRefused, GivesSome, MayGiveSome, RetainsInto};
@@ -77,8 +77,8 @@ fn retain_in<T, S, X: KeyIndex<T, S>, F: FnMut(&T) -> bool, G: FnMut(T)>(
     }
 }
 
-// Removes the item at a live index, and passes it to the closure.
-fn give_out<T, S, X: KeyIndex<T, S>, G: FnMut(T)>(
+/// Removes the item at a live index, and passes it to the closure.
+pub(super) fn give_out<T, S, X: KeyIndex<T, S>, G: FnMut(T)>(
     items: &mut ItemSet<T>,
     indexes: &mut X,
     state: &S,
@@ -91,6 +91,11 @@ fn give_out<T, S, X: KeyIndex<T, S>, G: FnMut(T)>(
     ensures map { IsIndexed (X.indexes indexes.new) state.now items.new.store }
     ensures given { (item : T) → get items.old.store ix ≡ Some item → GivesItem G.FnMut gone.old item gone.new }
     ensures removed { items.new ≡ record items.old { store = removed items.old.store ix } }
+    ensures items_room { set_room items.new ≡ set_room items.old + 1 }
+    ensures enough { (blocks : X.Blocks) → X.are_enough_after indexes.old blocks
+        → X.are_enough_after indexes.new blocks }
+    ensures roomy { (plan : X.InsertPlan) (blocks : X.Blocks) → X.are_enough_after indexes.old blocks
+        → X.has_room_for indexes.new plan blocks }
     ensures capacity { X.capacity indexes.new ≡ X.capacity indexes.old }
     ensures cells { X.cells indexes.new ≡ X.cells indexes.old }
 {

@@ -1,18 +1,20 @@
-//! Inserts the items of an iterator.
-ghost use Rattle.std.specs.Prelude.{◌≡◌, ◌+◌, ℕ, Some, IfOk, IfErr, length};
+//! Inserts the items of an iterator, or puts them in place of those that have their keys.
+ghost use Rattle.std.specs.Prelude.{◌≡◌, ◌+◌, ℕ, Some, IfOk, IfErr, IsOk, length};
 ghost use Rattle.std.specs.Array.Iter.{IntoIterFitsInMemory};
 ghost use Rattle.std.specs.Iterator.{IsFinite, IsNearerEnd, UpTo};
 ghost use Rattle.iddqd.specs.{empty, get, live_count};
 ghost use Rattle.iddqd_map.specs.Bulk.{inserted_all, inserted_count};
+ghost use Rattle.iddqd_map.specs.BulkOverwrite.{HandsOver, MayDisplace, overwritten_count};
 ghost use Rattle.iddqd_map.specs.Calls.{IsDuplicate};
 ghost use Rattle.iddqd_map.specs.Map.{room};
-ghost use Rattle.iddqd_ord_map.specs.OrdMap.{InsertsFromInOrder, RefusesOneInOrder};
+ghost use Rattle.iddqd_map.specs.Ranges.{GivesItem};
+ghost use Rattle.iddqd_ord_map.specs.OrdMap.{InsertsFromInOrder, OverwritesFromInOrder, RefusesOneInOrder};
 
 use super::OrdMapBy;
 use iddqd::item_index::ItemIndex;
 use iddqd_keys::order_key::OrdKey;
 use iddqd_map::map::Map;
-use iddqd_map::refusal::{InsertRefusal, Stopped};
+use iddqd_map::refusal::{InsertRefusal, Stopped, StoppedOverwrite};
 use std::alloc::Global;
 
 impl<T: Drop, E: OrdKey<T>> OrdMapBy<T, E> {
@@ -55,5 +57,31 @@ impl<T: Drop, E: OrdKey<T>> OrdMapBy<T, E> {
             → IfErr result (λ stopped. IsNearerEnd I.can_next I.remaining iter stopped.rest) }
     {
         self.map.insert_all(iter)
+    }
+    /// Inserts the items of an iterator in turn, up to the first that is refused, and returns how many there were.
+    ///
+    /// A stored item that has the key of an item is first removed, and passed to the closure by value. An item that was
+    /// inserted before may be displaced, too. One that displaces another is refused only if memory runs out and the
+    /// table has more indexes than its capacity, before anything is removed. Each other one is refused as by
+    /// `insert_unique`. A refusal comes back with its item, with the number of items that were inserted before it, and
+    /// with the rest of the iterator; the items that were inserted stay. If there is `room` for all that the iterator
+    /// can give, nothing is refused. Memory is reserved as by `insert_all`.
+    pub fn overwrite_all<I: Iterator<Item = T>, G: FnMut(T)>(
+        &mut self,
+        iter: I,
+        gone: G,
+    ) -> Result<usize, StoppedOverwrite<T, I>>
+        requires next { I.can_next iter }
+        requires fits { UpTo (I.remaining iter) usize.MAX }
+        requires given { MayDisplace I.next_gives G.FnMut iter gone self.old.store }
+        ensures overwrites { OverwritesFromInOrder E.key_of E.cmp (GivesItem G.FnMut) I.next_gives I.remaining iter
+            self.old gone result self.new }
+        ensures handed { (last : G) × HandsOver (GivesItem G.FnMut) gone last self.old.store self.new.store
+            (overwritten_count result) }
+        ensures not_refused { UpTo (I.remaining iter) (room self.old) → IsOk result }
+        ensures goes_on { IfErr result (λ stopped. I.can_next stopped.rest) }
+        ensures nearer { IfErr result (λ stopped. IsNearerEnd I.can_next I.remaining iter stopped.rest) }
+    {
+        self.map.overwrite_all(iter, gone)
     }
 }

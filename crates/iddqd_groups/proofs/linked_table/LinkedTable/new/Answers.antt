@@ -1,4 +1,5 @@
 use Rattle.std.proofs.Common.{◌∙◌, ap, arith}
+use Rattle.iddqd_groups.specs.LinkedTable.{nexts_of}
 use Rattle.iddqd_groups.specs.Links.{filed_by}
 use Rattle.iddqd_groups.proofs.LinksLemmas.{filed_by-none}
 use Rattle.iddqd_groups.proofs.LinkedSizeLemmas.{IsLinkedTable-none, same_linked}
@@ -11,6 +12,7 @@ pub returns : goal.returns
 returns c =
     same_linked _ _
     (ap filed_by c.new-2.ensures.items ∙ filed_by-none)
+    (ap nexts_of c.new-2.ensures.items)
     c.new-2.ensures.len
     (omega (arith, c.new-2.ensures.capacity))
     (omega (arith, c.new.ensures.memory.no_cell, c.new-2.ensures.capacity))

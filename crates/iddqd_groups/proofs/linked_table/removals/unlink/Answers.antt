@@ -2,7 +2,7 @@ use Rattle.std.proofs.Common.{◌≡◌, ◌≢◌, ◌∙◌, arith, ap, sym, S
 use Rattle.iddqd.specs.Store.{sentinel}
 use Rattle.iddqd_hash.specs.{filed}
 use Rattle.iddqd_groups.specs.Links.{prev_of}
-use Rattle.iddqd_groups.proofs.UnlinkLemmas.{prev_within, next_left, leads, follower_unled, AreHeadsOf-taken, AreHeadsOf-head_taken}
+use Rattle.iddqd_groups.proofs.UnlinkLemmas.{at_other, prev_within, next_left, leads, follower_unled, AreHeadsOf-taken, AreHeadsOf-head_taken}
 use Rattle.iddqd_groups.proofs.linked_table.removals.unlink.Goals as goal
 
 pub set_next_if_any-requires : goal.set_next_if_any-requires
@@ -55,3 +55,17 @@ returns-else-eq-clause-linked c =
     c.take-link.ensures.next_was c.take-link.ensures.prev_was c.take-link.ensures.next c.take-link.ensures.prev
     c.set_next_if_any.ensures.next c.set_next_if_any.ensures.prev c.set_prev_if_any.ensures.next
     c.set_prev_if_any.ensures.prev filed_new led
+
+pub returns-then-eq-clause-next : goal.returns-then-eq-clause-next
+returns-then-eq-clause-next c = λ j there other apart.
+    c.set_prev_if_any.ensures.next j
+    ∙ c.set_next_if_any.ensures.next j there
+    ∙ at_other j c.take-link.result.prev c.take-link.result.next _ (λ same. apart (same ∙ c.take-link.ensures.prev_was))
+    ∙ c.take-link.ensures.next j other
+
+pub returns-else-eq-clause-next : goal.returns-else-eq-clause-next
+returns-else-eq-clause-next c = λ j there other apart.
+    c.set_prev_if_any.ensures.next j
+    ∙ c.set_next_if_any.ensures.next j there
+    ∙ at_other j c.take-link.result.prev c.take-link.result.next _ (λ same. apart (same ∙ c.take-link.ensures.prev_was))
+    ∙ c.take-link.ensures.next j other

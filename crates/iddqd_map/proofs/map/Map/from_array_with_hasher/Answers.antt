@@ -1,4 +1,4 @@
-use Rattle.std.proofs.Common.{◌∙◌, sym, ap, refl}
+use Rattle.std.proofs.Common.{◌∙◌, ap}
 use Rattle.std.specs.Array.Iter.{array_into_iter_items}
 use Rattle.std.proofs.lemmas.List.{nil_from_length}
 use Rattle.iddqd_map.specs.Map.{MapState}
