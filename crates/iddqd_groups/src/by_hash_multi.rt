@@ -38,7 +38,7 @@ use iddqd_keys::item_hash_query::ItemHashQuery;
 use iddqd_keys::key_kinds::Field;
 use iddqd_map::grouped_at::GroupedAt;
 use iddqd_map::hashed_plan::move_of;
-use iddqd_map::key_index::{Here, KeyIndex};
+use iddqd_map::key_index::{Here, Inserts, KeyIndex, Moves, Upkeep};
 use iddqd_map::map::Parts;
 pub use iddqd_map::no_conflict::NoConflict;
 use std::alloc::{AllocError, Global};
@@ -203,37 +203,20 @@ where
 
     fn no_hashes() {}
 
-    fn capacity(&self) -> usize {
-        self.table.capacity()
+    fn remove(&mut self, items: &ItemSet<T>, state: &S, ix: ItemIndex) {
+        self.table.remove(ix);
     }
 
-    fn new(alloc: Global) -> ByHashMultiOf<E> {
-        ByHashMultiOf {
-            table: LinkedTable::new(alloc),
-            of: PhantomData,
-        }
+    fn is_same(item: &T, other: &T) -> bool {
+        E::is_same(item, other)
     }
+}
 
-    fn with_capacity(alloc: Global, wanted: usize) -> Result<ByHashMultiOf<E>, AllocError> {
-        Ok(ByHashMultiOf {
-            table: LinkedTable::with_capacity(alloc, wanted)?,
-            of: PhantomData,
-        })
-    }
-
-    fn reserve(
-        &mut self,
-        items: &ItemSet<T>,
-        state: &S,
-        additional: usize,
-    ) -> Result<(), AllocError> {
-        linked_steps::reserve(&mut self.table, items, additional)
-    }
-
-    fn shrink_to(&mut self, items: &ItemSet<T>, state: &S, least: usize) -> Result<(), AllocError> {
-        linked_steps::shrink_to(&mut self.table, items, least)
-    }
-
+impl<T, S, E> Inserts<T, S> for ByHashMultiOf<E>
+where
+    E: HashKey<T>,
+    S: BuildHasher,
+{
     fn hashes(state: &S, item: &T) -> MapHash {
         hash_of::<T, E, S>(state, item)
     }
@@ -267,19 +250,13 @@ where
     fn blocks_after(&self, items: &ItemSet<T>, state: &S) -> Result<(), AllocError> {
         Ok(())
     }
+}
 
-    fn remove(&mut self, items: &ItemSet<T>, state: &S, ix: ItemIndex) {
-        self.table.remove(ix);
-    }
-
-    fn clear(&mut self) {
-        self.table.clear();
-    }
-
-    fn remap(&mut self, remap: &IndexRemap) {
-        linked_steps::remap::<T>(&mut self.table, remap);
-    }
-
+impl<T, S, E> Moves<T, S> for ByHashMultiOf<E>
+where
+    E: HashKey<T>,
+    S: BuildHasher,
+{
     fn plan_move(
         &self,
         items: &ItemSet<T>,
@@ -306,16 +283,57 @@ where
     ) {
         linked_steps::commit_move(&mut self.table, items, plan, ix);
     }
+}
+
+impl<T, S, E> Upkeep<T, S> for ByHashMultiOf<E>
+where
+    E: HashKey<T>,
+    S: BuildHasher,
+{
+    fn capacity(&self) -> usize {
+        self.table.capacity()
+    }
+
+    fn new(alloc: Global) -> ByHashMultiOf<E> {
+        ByHashMultiOf {
+            table: LinkedTable::new(alloc),
+            of: PhantomData,
+        }
+    }
+
+    fn with_capacity(alloc: Global, wanted: usize) -> Result<ByHashMultiOf<E>, AllocError> {
+        Ok(ByHashMultiOf {
+            table: LinkedTable::with_capacity(alloc, wanted)?,
+            of: PhantomData,
+        })
+    }
+
+    fn reserve(
+        &mut self,
+        items: &ItemSet<T>,
+        state: &S,
+        additional: usize,
+    ) -> Result<(), AllocError> {
+        linked_steps::reserve(&mut self.table, items, additional)
+    }
+
+    fn shrink_to(&mut self, items: &ItemSet<T>, state: &S, least: usize) -> Result<(), AllocError> {
+        linked_steps::shrink_to(&mut self.table, items, least)
+    }
+
+    fn clear(&mut self) {
+        self.table.clear();
+    }
+
+    fn remap(&mut self, remap: &IndexRemap) {
+        linked_steps::remap::<T>(&mut self.table, remap);
+    }
 
     fn copied(&self) -> Result<ByHashMultiOf<E>, AllocError> {
         Ok(ByHashMultiOf {
             table: self.table.clone()?,
             of: PhantomData,
         })
-    }
-
-    fn is_same(item: &T, other: &T) -> bool {
-        E::is_same(item, other)
     }
 
     fn validate(

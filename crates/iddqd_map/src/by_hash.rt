@@ -17,7 +17,7 @@ ghost use Rattle.iddqd_map.specs.Indexing.{Indexes};
 use crate::hashed_plan::plan_move;
 use crate::hashed_query::{find_item, find_under, take_by};
 use crate::hashed_steps;
-use crate::key_index::{FindsSame, Here, KeyIndex, ReportsAt, UniqueAt};
+use crate::key_index::{FindsSame, Here, Inserts, KeyIndex, Moves, ReportsAt, UniqueAt, Upkeep};
 use iddqd::index_remap::IndexRemap;
 use iddqd::internal::{ValidateCompact, ValidateRefusal, ValidationError};
 use iddqd::item_index::ItemIndex;
@@ -167,37 +167,20 @@ where
         None
     }
 
-    fn capacity(&self) -> usize {
-        self.table.capacity()
+    fn remove(&mut self, items: &ItemSet<T>, state: &S, ix: ItemIndex) {
+        hashed_steps::remove_live::<T, E, S>(&mut self.table, items, state, ix);
     }
 
-    fn new(alloc: Global) -> ByHashOf<E> {
-        ByHashOf {
-            table: hashed_steps::new(alloc),
-            of: PhantomData,
-        }
+    fn is_same(item: &T, other: &T) -> bool {
+        E::is_same(item, other)
     }
+}
 
-    fn with_capacity(alloc: Global, wanted: usize) -> Result<ByHashOf<E>, AllocError> {
-        Ok(ByHashOf {
-            table: MapHashTable::with_capacity(alloc, wanted)?,
-            of: PhantomData,
-        })
-    }
-
-    fn reserve(
-        &mut self,
-        items: &ItemSet<T>,
-        state: &S,
-        additional: usize,
-    ) -> Result<(), AllocError> {
-        hashed_steps::reserve(&mut self.table, items, additional)
-    }
-
-    fn shrink_to(&mut self, items: &ItemSet<T>, state: &S, least: usize) -> Result<(), AllocError> {
-        hashed_steps::shrink_to(&mut self.table, items, least)
-    }
-
+impl<T, S, E> Inserts<T, S> for ByHashOf<E>
+where
+    E: HashKey<T>,
+    S: BuildHasher,
+{
     fn hashes(state: &S, item: &T) -> MapHash {
         hash_of::<T, E, S>(state, item)
     }
@@ -238,19 +221,13 @@ where
     fn blocks_after(&self, items: &ItemSet<T>, state: &S) -> Result<(), AllocError> {
         Ok(())
     }
+}
 
-    fn remove(&mut self, items: &ItemSet<T>, state: &S, ix: ItemIndex) {
-        hashed_steps::remove_live::<T, E, S>(&mut self.table, items, state, ix);
-    }
-
-    fn clear(&mut self) {
-        self.table.clear();
-    }
-
-    fn remap(&mut self, remap: &IndexRemap) {
-        hashed_steps::remap::<T>(&mut self.table, remap);
-    }
-
+impl<T, S, E> Moves<T, S> for ByHashOf<E>
+where
+    E: HashKey<T>,
+    S: BuildHasher,
+{
     fn plan_move(
         &self,
         items: &ItemSet<T>,
@@ -277,16 +254,57 @@ where
     ) {
         hashed_steps::commit_move::<T, E, S>(&mut self.table, items, state, known, plan, ix);
     }
+}
+
+impl<T, S, E> Upkeep<T, S> for ByHashOf<E>
+where
+    E: HashKey<T>,
+    S: BuildHasher,
+{
+    fn capacity(&self) -> usize {
+        self.table.capacity()
+    }
+
+    fn new(alloc: Global) -> ByHashOf<E> {
+        ByHashOf {
+            table: hashed_steps::new(alloc),
+            of: PhantomData,
+        }
+    }
+
+    fn with_capacity(alloc: Global, wanted: usize) -> Result<ByHashOf<E>, AllocError> {
+        Ok(ByHashOf {
+            table: MapHashTable::with_capacity(alloc, wanted)?,
+            of: PhantomData,
+        })
+    }
+
+    fn reserve(
+        &mut self,
+        items: &ItemSet<T>,
+        state: &S,
+        additional: usize,
+    ) -> Result<(), AllocError> {
+        hashed_steps::reserve(&mut self.table, items, additional)
+    }
+
+    fn shrink_to(&mut self, items: &ItemSet<T>, state: &S, least: usize) -> Result<(), AllocError> {
+        hashed_steps::shrink_to(&mut self.table, items, least)
+    }
+
+    fn clear(&mut self) {
+        self.table.clear();
+    }
+
+    fn remap(&mut self, remap: &IndexRemap) {
+        hashed_steps::remap::<T>(&mut self.table, remap);
+    }
 
     fn copied(&self) -> Result<ByHashOf<E>, AllocError> {
         Ok(ByHashOf {
             table: self.table.clone()?,
             of: PhantomData,
         })
-    }
-
-    fn is_same(item: &T, other: &T) -> bool {
-        E::is_same(item, other)
     }
 
     fn validate(

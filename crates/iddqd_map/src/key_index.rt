@@ -17,6 +17,10 @@
 //! one index beyond its capacity are a value of their own, which the insert or the move consumes. So beyond its
 //! capacity no key index holds memory for a call to come.
 //!
+//! What a key index is, with its laws and a removal, is the trait `KeyIndex`. What inserts, moves and the whole of a key
+//! index need besides is three more, `Inserts`, `Moves` and `Upkeep`, and look-ups stand on `KeyIndex` alone: at a pair,
+//! a caller's proof pays for each method of each trait that its bounds lead to, once for each path to it.
+//!
 //! The traits are one file, since they are read together. More than half of its lines are contracts and laws.
 ghost use Rattle.std.specs.Prelude.{◌≡◌, ◌≢◌, ◌≤◌, ◌+◌, ◌<◌, true, false, min, max, length, IsOk, IfOk, OnOk, OnErr, IfSome};
 ghost use Rattle.std.specs.Option.{option_map};
@@ -137,6 +141,214 @@ pub trait KeyIndex<T, S>: Sized + Drop {
     // They are enough for the planned move.
     ghost are_enough_for: { Self → Self.MovePlan → Self.Blocks → Type 0 };
 
+    /// The value for no hash: no look-up computed one.
+    fn no_hashes() -> Self::KnownHashes;
+
+    /// Removes a live index. It takes no memory. What was taken for an insert after a removal is still enough for it.
+    fn remove(&mut self, items: &ItemSet<T>, state: &S, ix: ItemIndex)
+        requires live { IsLive items.now.store ix }
+        requires indexed { Self.indexes self.old state.now items.now.store }
+        ensures indexed { Self.indexes self.new state.now (removed items.now.store ix) }
+        ensures capacity { Self.capacity self.new ≡ Self.capacity self.old }
+        ensures cells { Self.cells self.new ≡ Self.cells self.old }
+        ensures enough { (blocks : Self.Blocks) → are_enough_after self.old blocks → are_enough_after self.new blocks }
+        ensures roomy { (plan : Self.InsertPlan) (blocks : Self.Blocks) → are_enough_after self.old blocks
+            → has_room_for self.new plan blocks };
+
+    /// Whether the items share all keys.
+    fn is_same(item: &T, other: &T) -> bool
+        ensures { result ≡ Self.same_keys item.now other.now };
+
+    // If there are no slots and no indexes, a shrink leaves nothing.
+    ghost kept_none: { kept 0 0 ≡ 0 };
+
+    // More slots and more indexes need no fewer cells.
+    ghost needed_grows: { (slots more_slots count more : ℕ) → slots ≤ more_slots → count ≤ more
+        → needed slots count ≤ needed more_slots more };
+
+    // `same` is reflexive. Of two key indexes that are the same, the second indexes each store that the first does.
+    ghost same_as_itself: { (x : Self) → same x x };
+
+    ghost same_indexes: { (x y : Self) (state : S) (s : Store T) → same x y → indexes x state s → indexes y state s };
+
+    // No two items are alike.
+    ghost apart: { (x : Self) (state : S) (s : Store T) → indexes x state s → AreApart alike s };
+
+    // A key index still indexes its store after an item was modified and kept its keys, and it indexes any store whose
+    // items have the same keys.
+    ghost modified: { (x : Self) (state : S) (s : Store T) (ix : ℕ) (was item : T) → indexes x state s
+        → get s ix ≡ Some was → keys item ≡ keys was → indexes x state (rebound s ix item) };
+
+    ghost same_items: { (x : Self) (state : S) (s t : Store T) → HaveSameKeys same_keys s t → indexes x state s
+        → indexes x state t };
+
+    // To share all keys is an equivalence.
+    ghost equivalence: { IsEquivalence same_keys };
+
+    // A conflict reports the stored items that share a key with the item, and no others.
+    ghost reported: { (s : Store T) (item : T) (at : Self.Conflict) → conflicts s item at → (ix : ℕ)
+        → reports at ix ↔ IsHit s (alike item) ix };
+
+    // At least one is reported, and never more than there are keys.
+    ghost reported_some: { (s : Store T) (item : T) (at : Self.Conflict) → conflicts s item at
+        → (ix : ℕ) × reports at ix };
+
+    ghost few_reported: { (at : Self.Conflict) → (l : List ℕ) × (length l ≤ unique_keys)
+        × ((ix : ℕ) → reports at ix → Contains l ix) };
+
+    // What was planned by a key index is planned by one that is the same.
+    ghost same_plans: { (x y : Self) (state : S) (s : Store T) (item : T) (plan : Self.InsertPlan) → Self.same x y
+        → is_planned x state s item plan → is_planned y state s item plan };
+}
+
+/// What an insert asks of a key index: a position for the item, its memory, and then the index.
+pub trait Inserts<T, S>: KeyIndex<T, S> {
+    /// Hashes the keys of an item, each once.
+    fn hashes(state: &S, item: &T) -> Self::Hashes
+        ensures { Self.are_hashes state.now item.now result };
+
+    /// Finds the position for an item, or the items that it is alike to. It takes no memory.
+    fn look_up(
+        &self,
+        items: &ItemSet<T>,
+        state: &S,
+        hashes: Self::Hashes,
+        item: &T,
+    ) -> Result<Self::Position, Self::Conflict>
+        requires hashed { Self.are_hashes state.now item.now hashes }
+        requires indexed { Self.indexes self.now state.now items.now.store }
+        ensures { FindsPosition Self.alike (Self.is_position self.now state.now) Self.conflicts items.now.store item.now
+            result };
+
+    /// The position for an item under the next index.
+    fn plan(
+        &self,
+        items: &ItemSet<T>,
+        state: &S,
+        position: Self::Position,
+        ix: ItemIndex,
+        item: &T,
+    ) -> Self::InsertPlan
+        requires valid { IsValid items.now.store }
+        requires indexed { Self.indexes self.now state.now items.now.store }
+        requires position { Self.is_position self.now state.now items.now.store item.now position }
+        requires next { ix ≡ next_index items.now.store }
+        ensures { Self.is_planned self.now state.now items.now.store item.now result };
+
+    /// Takes the memory of a planned insert, and returns what of it isn't in the tables yet. If there is room, it takes
+    /// none.
+    fn make_room(
+        &mut self,
+        items: &ItemSet<T>,
+        state: &S,
+        plan: &Self::InsertPlan,
+    ) -> Result<Self::Blocks, AllocError>
+        requires indexed { Self.indexes self.old state.now items.now.store }
+        ensures contents { Self.same self.old self.new }
+        ensures ready { IfOk result (Self.has_room_for self.new plan.now) }
+        ensures had_room { live_count items.now.store < Self.capacity self.old → IsOk result × (self.new ≡ self.old) }
+        ensures none { live_count items.now.store < Self.capacity self.old → IfOk result Self.are_none }
+        ensures capacity_at_least { Self.capacity self.old ≤ Self.capacity self.new }
+        ensures few { Self.cells self.new ≤ Self.cells self.old + Self.grown (live_count items.now.store + 1) };
+
+    /// Inserts an index as planned. It takes no memory.
+    fn insert(
+        &mut self,
+        hashes: Self::Hashes,
+        plan: &Self::InsertPlan,
+        blocks: Self::Blocks,
+        ix: ItemIndex,
+    )
+        requires room { Self.has_room_for self.old plan.now blocks }
+        requires next { IsNextOf (Self.indexes self.old) ix }
+        requires assigned { ix ≢ sentinel }
+        requires planned { IsPlannedForOne (λ state s item. Self.is_planned self.old state s item plan.now) }
+        ensures indexed { IndexesOneMore Self.alike Self.are_hashes hashes (Self.is_planned self.old) plan.now
+            (Self.indexes self.old) ix (Self.indexes self.new) }
+        ensures capacity { Self.capacity self.new ≡ Self.capacity self.old }
+        ensures cells { Self.cells self.new ≡ Self.cells self.old };
+
+    /// The least reported index that is greater than `before`; the least of all if `before` is `None`.
+    fn next_reported(conflict: &Self::Conflict, before: Option<ItemIndex>) -> Option<ItemIndex>
+        ensures { IsNextReported (Self.reports conflict.now) before result };
+
+    /// The position for an item that is alike to none.
+    fn position(
+        &self,
+        items: &ItemSet<T>,
+        state: &S,
+        hashes: Self::Hashes,
+        item: &T,
+    ) -> Self::Position
+        requires hashed { Self.are_hashes state.now item.now hashes }
+        requires indexed { Self.indexes self.now state.now items.now.store }
+        requires apart { HasNoHit items.now.store (Self.alike item.now) }
+        ensures { Self.is_position self.now state.now items.now.store item.now result };
+
+    /// Takes the memory for an insert that comes after a removal. Up to the capacity it takes none.
+    fn blocks_after(&self, items: &ItemSet<T>, state: &S) -> Result<Self::Blocks, AllocError>
+        requires indexed { Self.indexes self.now state.now items.now.store }
+        ensures enough { IfOk result (Self.are_enough_after self.now) }
+        ensures none { live_count items.now.store ≤ Self.capacity self.now → IfOk result Self.are_none }
+        ensures may_need_memory { OnErr result (Self.may_need_memory ≡ true) }
+        ensures past { OnErr result (Self.capacity self.now < live_count items.now.store) };
+}
+
+/// What a replacement of an item asks of a key index: how its index moves, the memory for that, and the move.
+pub trait Moves<T, S>: KeyIndex<T, S> {
+    /// How a live index must move if its item is replaced by this one; or the other items that share a key with it.
+    fn plan_move(
+        &self,
+        items: &ItemSet<T>,
+        state: &S,
+        ix: ItemIndex,
+        item: &T,
+    ) -> Result<Self::MovePlan, Self::Conflict>
+        requires live { IsLive items.now.store ix }
+        requires indexed { Self.indexes self.now state.now items.now.store }
+        ensures { FindsMove Self.alike Self.same_keys (Self.is_move state.now) Self.moves Self.taken items.now.store ix
+            item.now result };
+
+    /// Takes the memory of a planned move. Up to the capacity it takes none, nor if all keys stay.
+    fn blocks_for(
+        &self,
+        items: &ItemSet<T>,
+        state: &S,
+        plan: &Self::MovePlan,
+    ) -> Result<Self::Blocks, AllocError>
+        requires indexed { Self.indexes self.now state.now items.now.store }
+        ensures enough { IfOk result (Self.are_enough_for self.now plan.now) }
+        ensures none { live_count items.now.store ≤ Self.capacity self.now → IfOk result Self.are_none }
+        ensures stays { Self.moves plan.now ≡ false → IfOk result Self.are_none }
+        ensures moves { OnErr result (Self.moves plan.now ≡ true) }
+        ensures may_need_memory { OnErr result (Self.may_need_memory ≡ true) }
+        ensures past { OnErr result (Self.capacity self.now < live_count items.now.store) };
+
+    /// Moves a live index as planned, while the store still has its old item. It takes no memory.
+    ///
+    /// `known` has the hashes of old keys that a look-up computed, so that they aren't computed again. If one of them
+    /// isn't the hash of the old key, its table is scanned.
+    fn commit_move(
+        &mut self,
+        items: &ItemSet<T>,
+        state: &S,
+        known: Self::KnownHashes,
+        plan: &Self::MovePlan,
+        blocks: Self::Blocks,
+        ix: ItemIndex,
+        item: &T,
+    )
+        requires live { IsLive items.now.store ix }
+        requires indexed { Self.indexes self.old state.now items.now.store }
+        requires planned { Self.is_move state.now items.now.store ix item.now plan.now }
+        requires enough { Self.are_enough_for self.old plan.now blocks }
+        ensures indexed { Self.indexes self.new state.now (rebound items.now.store ix item.now) }
+        ensures capacity { Self.capacity self.new ≡ Self.capacity self.old }
+        ensures cells { Self.cells self.new ≡ Self.cells self.old };
+}
+
+/// What concerns a key index as a whole: it is made, resized, cleared, renamed, copied and checked.
+pub trait Upkeep<T, S>: KeyIndex<T, S> {
     /// How many indexes it can hold without more memory.
     fn capacity(&self) -> usize
         ensures { result ≡ Self.capacity self.now };
@@ -189,110 +401,6 @@ pub trait KeyIndex<T, S>: Sized + Drop {
         ensures succeeds { Self.kept (max least (slot_count items.now.store))
             (max least (live_count items.now.store)) ≡ 0 → IsOk result };
 
-    /// Hashes the keys of an item, each once.
-    fn hashes(state: &S, item: &T) -> Self::Hashes
-        ensures { are_hashes state.now item.now result };
-
-    /// The value for no hash: no look-up computed one.
-    fn no_hashes() -> Self::KnownHashes;
-
-    /// Finds the position for an item, or the items that it is alike to. It takes no memory.
-    fn look_up(
-        &self,
-        items: &ItemSet<T>,
-        state: &S,
-        hashes: Self::Hashes,
-        item: &T,
-    ) -> Result<Self::Position, Self::Conflict>
-        requires hashed { are_hashes state.now item.now hashes }
-        requires indexed { Self.indexes self.now state.now items.now.store }
-        ensures { FindsPosition Self.alike (is_position self.now state.now) Self.conflicts items.now.store item.now
-            result };
-
-    /// The position for an item under the next index.
-    fn plan(
-        &self,
-        items: &ItemSet<T>,
-        state: &S,
-        position: Self::Position,
-        ix: ItemIndex,
-        item: &T,
-    ) -> Self::InsertPlan
-        requires valid { IsValid items.now.store }
-        requires indexed { Self.indexes self.now state.now items.now.store }
-        requires position { is_position self.now state.now items.now.store item.now position }
-        requires next { ix ≡ next_index items.now.store }
-        ensures { is_planned self.now state.now items.now.store item.now result };
-
-    /// Takes the memory of a planned insert, and returns what of it isn't in the tables yet. If there is room, it takes
-    /// none.
-    fn make_room(
-        &mut self,
-        items: &ItemSet<T>,
-        state: &S,
-        plan: &Self::InsertPlan,
-    ) -> Result<Self::Blocks, AllocError>
-        requires indexed { Self.indexes self.old state.now items.now.store }
-        ensures contents { Self.same self.old self.new }
-        ensures ready { IfOk result (has_room_for self.new plan.now) }
-        ensures had_room { live_count items.now.store < Self.capacity self.old → IsOk result × (self.new ≡ self.old) }
-        ensures none { live_count items.now.store < Self.capacity self.old → IfOk result are_none }
-        ensures capacity_at_least { Self.capacity self.old ≤ Self.capacity self.new }
-        ensures few { Self.cells self.new ≤ Self.cells self.old + grown (live_count items.now.store + 1) };
-
-    /// Inserts an index as planned. It takes no memory.
-    fn insert(
-        &mut self,
-        hashes: Self::Hashes,
-        plan: &Self::InsertPlan,
-        blocks: Self::Blocks,
-        ix: ItemIndex,
-    )
-        requires room { has_room_for self.old plan.now blocks }
-        requires next { IsNextOf (Self.indexes self.old) ix }
-        requires assigned { ix ≢ sentinel }
-        requires planned { IsPlannedForOne (λ state s item. is_planned self.old state s item plan.now) }
-        ensures indexed { IndexesOneMore Self.alike are_hashes hashes (is_planned self.old) plan.now
-            (Self.indexes self.old) ix (Self.indexes self.new) }
-        ensures capacity { Self.capacity self.new ≡ Self.capacity self.old }
-        ensures cells { Self.cells self.new ≡ Self.cells self.old };
-
-    /// The least reported index that is greater than `before`; the least of all if `before` is `None`.
-    fn next_reported(conflict: &Self::Conflict, before: Option<ItemIndex>) -> Option<ItemIndex>
-        ensures { IsNextReported (Self.reports conflict.now) before result };
-
-    /// The position for an item that is alike to none.
-    fn position(
-        &self,
-        items: &ItemSet<T>,
-        state: &S,
-        hashes: Self::Hashes,
-        item: &T,
-    ) -> Self::Position
-        requires hashed { are_hashes state.now item.now hashes }
-        requires indexed { Self.indexes self.now state.now items.now.store }
-        requires apart { HasNoHit items.now.store (Self.alike item.now) }
-        ensures { is_position self.now state.now items.now.store item.now result };
-
-    /// Takes the memory for an insert that comes after a removal. Up to the capacity it takes none.
-    fn blocks_after(&self, items: &ItemSet<T>, state: &S) -> Result<Self::Blocks, AllocError>
-        requires indexed { Self.indexes self.now state.now items.now.store }
-        ensures enough { IfOk result (are_enough_after self.now) }
-        ensures none { live_count items.now.store ≤ Self.capacity self.now → IfOk result are_none }
-        ensures may_need_memory { OnErr result (Self.may_need_memory ≡ true) }
-        ensures past { OnErr result (Self.capacity self.now < live_count items.now.store) };
-
-    /// Removes a live index. It takes no memory. What was taken for an insert after a removal is still enough for it.
-    fn remove(&mut self, items: &ItemSet<T>, state: &S, ix: ItemIndex)
-        requires live { IsLive items.now.store ix }
-        requires indexed { Self.indexes self.old state.now items.now.store }
-        ensures indexed { Self.indexes self.new state.now (removed items.now.store ix) }
-        ensures capacity { Self.capacity self.new ≡ Self.capacity self.old }
-        ensures cells { Self.cells self.new ≡ Self.cells self.old }
-        ensures enough { (blocks : Self.Blocks) → are_enough_after self.old blocks → are_enough_after self.new blocks }
-        ensures roomy { (plan : Self.InsertPlan) (blocks : Self.Blocks) → are_enough_after self.old blocks
-            → has_room_for self.new plan blocks };
-
     /// Forgets every index, and keeps the memory.
     fn clear(&mut self)
         ensures none { IndexesNone (Self.indexes self.new) }
@@ -306,64 +414,10 @@ pub trait KeyIndex<T, S>: Sized + Drop {
         ensures capacity { Self.capacity self.new ≡ Self.capacity self.old }
         ensures cells { Self.cells self.new ≡ Self.cells self.old };
 
-    /// How a live index must move if its item is replaced by this one; or the other items that share a key with it.
-    fn plan_move(
-        &self,
-        items: &ItemSet<T>,
-        state: &S,
-        ix: ItemIndex,
-        item: &T,
-    ) -> Result<Self::MovePlan, Self::Conflict>
-        requires live { IsLive items.now.store ix }
-        requires indexed { Self.indexes self.now state.now items.now.store }
-        ensures { FindsMove Self.alike Self.same_keys (is_move state.now) moves Self.taken items.now.store ix item.now
-            result };
-
-    /// Takes the memory of a planned move. Up to the capacity it takes none, nor if all keys stay.
-    fn blocks_for(
-        &self,
-        items: &ItemSet<T>,
-        state: &S,
-        plan: &Self::MovePlan,
-    ) -> Result<Self::Blocks, AllocError>
-        requires indexed { Self.indexes self.now state.now items.now.store }
-        ensures enough { IfOk result (are_enough_for self.now plan.now) }
-        ensures none { live_count items.now.store ≤ Self.capacity self.now → IfOk result are_none }
-        ensures stays { moves plan.now ≡ false → IfOk result are_none }
-        ensures moves { OnErr result (moves plan.now ≡ true) }
-        ensures may_need_memory { OnErr result (Self.may_need_memory ≡ true) }
-        ensures past { OnErr result (Self.capacity self.now < live_count items.now.store) };
-
-    /// Moves a live index as planned, while the store still has its old item. It takes no memory.
-    ///
-    /// `known` has the hashes of old keys that a look-up computed, so that they aren't computed again. If one of them
-    /// isn't the hash of the old key, its table is scanned.
-    fn commit_move(
-        &mut self,
-        items: &ItemSet<T>,
-        state: &S,
-        known: Self::KnownHashes,
-        plan: &Self::MovePlan,
-        blocks: Self::Blocks,
-        ix: ItemIndex,
-        item: &T,
-    )
-        requires live { IsLive items.now.store ix }
-        requires indexed { Self.indexes self.old state.now items.now.store }
-        requires planned { is_move state.now items.now.store ix item.now plan.now }
-        requires enough { are_enough_for self.old plan.now blocks }
-        ensures indexed { Self.indexes self.new state.now (rebound items.now.store ix item.now) }
-        ensures capacity { Self.capacity self.new ≡ Self.capacity self.old }
-        ensures cells { Self.cells self.new ≡ Self.cells self.old };
-
     /// A copy that indexes the same stores, with at most as many cells.
     fn copied(&self) -> Result<Self, AllocError>
         ensures contents { IfOk result (λ copy. IndexesAllOf (Self.indexes self.now) (Self.indexes copy)) }
         ensures few { IfOk result (λ copy. Self.cells copy ≤ Self.cells self.now) };
-
-    /// Whether the items share all keys.
-    fn is_same(item: &T, other: &T) -> bool
-        ensures { result ≡ Self.same_keys item.now other.now };
 
     /// Checks the tables. They are sound by the conditions, so this fails only if memory for a sorted copy of the
     /// indexes runs out.
@@ -377,47 +431,6 @@ pub trait KeyIndex<T, S>: Sized + Drop {
         requires allowed { Allows compactness (length items.now.store.free) }
         requires indexed { Self.indexes self.now state.now items.now.store }
         ensures { Validates (Allows compactness (length items.now.store.free)) result };
-
-    // If there are no slots and no indexes, a shrink leaves nothing.
-    ghost kept_none: { kept 0 0 ≡ 0 };
-
-    // More slots and more indexes need no fewer cells.
-    ghost needed_grows: { (slots more_slots count more : ℕ) → slots ≤ more_slots → count ≤ more
-        → needed slots count ≤ needed more_slots more };
-
-    // `same` is reflexive. Of two key indexes that are the same, the second indexes each store that the first does.
-    ghost same_as_itself: { (x : Self) → same x x };
-
-    ghost same_indexes: { (x y : Self) (state : S) (s : Store T) → same x y → indexes x state s → indexes y state s };
-
-    // No two items are alike.
-    ghost apart: { (x : Self) (state : S) (s : Store T) → indexes x state s → AreApart alike s };
-
-    // A key index still indexes its store after an item was modified and kept its keys, and it indexes any store whose
-    // items have the same keys.
-    ghost modified: { (x : Self) (state : S) (s : Store T) (ix : ℕ) (was item : T) → indexes x state s
-        → get s ix ≡ Some was → keys item ≡ keys was → indexes x state (rebound s ix item) };
-
-    ghost same_items: { (x : Self) (state : S) (s t : Store T) → HaveSameKeys same_keys s t → indexes x state s
-        → indexes x state t };
-
-    // To share all keys is an equivalence.
-    ghost equivalence: { IsEquivalence same_keys };
-
-    // A conflict reports the stored items that share a key with the item, and no others.
-    ghost reported: { (s : Store T) (item : T) (at : Self.Conflict) → conflicts s item at → (ix : ℕ)
-        → reports at ix ↔ IsHit s (alike item) ix };
-
-    // At least one is reported, and never more than there are keys.
-    ghost reported_some: { (s : Store T) (item : T) (at : Self.Conflict) → conflicts s item at
-        → (ix : ℕ) × reports at ix };
-
-    ghost few_reported: { (at : Self.Conflict) → (l : List ℕ) × (length l ≤ unique_keys)
-        × ((ix : ℕ) → reports at ix → Contains l ix) };
-
-    // What was planned by a key index is planned by one that is the same.
-    ghost same_plans: { (x y : Self) (state : S) (s : Store T) (item : T) (plan : Self.InsertPlan) → Self.same x y
-        → is_planned x state s item plan → is_planned y state s item plan };
 }
 
 /// A key index that finds the one item that shares all keys with another: its first key is unique.

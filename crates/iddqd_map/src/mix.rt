@@ -2,7 +2,7 @@
 //!
 //! A mix is a `Pair` of key indexes. Each of the maps that have names of their own says this itself, since it prints
 //! its items by their keys, and names the keys that a clone has to share.
-use crate::key_index::KeyIndex;
+use crate::key_index::{KeyIndex, Upkeep};
 use crate::map::Map;
 use crate::pair::Pair;
 use std::alloc::AllocError;
@@ -23,8 +23,8 @@ pub trait CloneFor<X: KeyIndex<Self, S>, S>: Sized + Clone {
 impl<T, A, B, S> Clone for Map<T, Pair<A, B>, S>
 where
     T: CloneFor<Pair<A, B>, S>,
-    A: KeyIndex<T, S>,
-    B: KeyIndex<T, S>,
+    A: Upkeep<T, S>,
+    B: Upkeep<T, S>,
     S: Copy,
 {
     ghost use Rattle.iddqd_map.specs.Clones.{IsMapClone};

@@ -18,7 +18,7 @@ ghost use Rattle.iddqd_map.specs.KeyIndex.{IsNextReported};
 ghost use Rattle.iddqd_map.specs.PairConflict.{IsReportedBy, first_of, second_of};
 ghost use Rattle.iddqd_map.specs.Ranges.{itself};
 
-use crate::key_index::{FindsSame, KeyIndex, Left, OrderedAt, ReportsAt, Right, UniqueAt};
+use crate::key_index::{FindsSame, Inserts, KeyIndex, Left, Moves, OrderedAt, ReportsAt, Right, UniqueAt, Upkeep};
 use crate::pair_conflict::PairConflict;
 use crate::reported::lesser;
 use iddqd::index_remap::IndexRemap;
@@ -173,40 +173,21 @@ where
         (A::no_hashes(), B::no_hashes())
     }
 
-    fn capacity(&self) -> usize {
-        self.first.capacity().min(self.second.capacity())
+    fn remove(&mut self, items: &ItemSet<T>, state: &S, ix: ItemIndex) {
+        self.first.remove(items, state, ix);
+        self.second.remove(items, state, ix);
     }
 
-    fn new(alloc: Global) -> Pair<A, B> {
-        Pair {
-            first: A::new(alloc),
-            second: B::new(alloc),
-        }
+    fn is_same(item: &T, other: &T) -> bool {
+        A::is_same(item, other) && B::is_same(item, other)
     }
+}
 
-    fn with_capacity(alloc: Global, wanted: usize) -> Result<Pair<A, B>, AllocError> {
-        Ok(Pair {
-            first: A::with_capacity(alloc, wanted)?,
-            second: B::with_capacity(alloc, wanted)?,
-        })
-    }
-
-    fn reserve(
-        &mut self,
-        items: &ItemSet<T>,
-        state: &S,
-        additional: usize,
-    ) -> Result<(), AllocError> {
-        self.first.reserve(items, state, additional)?;
-        self.second.reserve(items, state, additional)
-    }
-
-    fn shrink_to(&mut self, items: &ItemSet<T>, state: &S, least: usize) -> Result<(), AllocError> {
-        let first = self.first.shrink_to(items, state, least);
-        let second = self.second.shrink_to(items, state, least);
-        first.and(second)
-    }
-
+impl<T, S, A, B> Inserts<T, S> for Pair<A, B>
+where
+    A: Inserts<T, S>,
+    B: Inserts<T, S>,
+{
     fn hashes(state: &S, item: &T) -> (A::Hashes, B::Hashes) {
         (A::hashes(state, item), B::hashes(state, item))
     }
@@ -298,22 +279,13 @@ where
         let second = self.second.blocks_after(items, state)?;
         Ok((first, second))
     }
+}
 
-    fn remove(&mut self, items: &ItemSet<T>, state: &S, ix: ItemIndex) {
-        self.first.remove(items, state, ix);
-        self.second.remove(items, state, ix);
-    }
-
-    fn clear(&mut self) {
-        self.first.clear();
-        self.second.clear();
-    }
-
-    fn remap(&mut self, remap: &IndexRemap) {
-        self.first.remap(remap);
-        self.second.remap(remap);
-    }
-
+impl<T, S, A, B> Moves<T, S> for Pair<A, B>
+where
+    A: Moves<T, S>,
+    B: Moves<T, S>,
+{
     fn plan_move(
         &self,
         items: &ItemSet<T>,
@@ -359,16 +331,62 @@ where
         self.second
             .commit_move(items, state, known.1, &plan.1, second, ix, item);
     }
+}
+
+impl<T, S, A, B> Upkeep<T, S> for Pair<A, B>
+where
+    A: Upkeep<T, S>,
+    B: Upkeep<T, S>,
+{
+    fn capacity(&self) -> usize {
+        self.first.capacity().min(self.second.capacity())
+    }
+
+    fn new(alloc: Global) -> Pair<A, B> {
+        Pair {
+            first: A::new(alloc),
+            second: B::new(alloc),
+        }
+    }
+
+    fn with_capacity(alloc: Global, wanted: usize) -> Result<Pair<A, B>, AllocError> {
+        Ok(Pair {
+            first: A::with_capacity(alloc, wanted)?,
+            second: B::with_capacity(alloc, wanted)?,
+        })
+    }
+
+    fn reserve(
+        &mut self,
+        items: &ItemSet<T>,
+        state: &S,
+        additional: usize,
+    ) -> Result<(), AllocError> {
+        self.first.reserve(items, state, additional)?;
+        self.second.reserve(items, state, additional)
+    }
+
+    fn shrink_to(&mut self, items: &ItemSet<T>, state: &S, least: usize) -> Result<(), AllocError> {
+        let first = self.first.shrink_to(items, state, least);
+        let second = self.second.shrink_to(items, state, least);
+        first.and(second)
+    }
+
+    fn clear(&mut self) {
+        self.first.clear();
+        self.second.clear();
+    }
+
+    fn remap(&mut self, remap: &IndexRemap) {
+        self.first.remap(remap);
+        self.second.remap(remap);
+    }
 
     fn copied(&self) -> Result<Pair<A, B>, AllocError> {
         Ok(Pair {
             first: self.first.copied()?,
             second: self.second.copied()?,
         })
-    }
-
-    fn is_same(item: &T, other: &T) -> bool {
-        A::is_same(item, other) && B::is_same(item, other)
     }
 
     fn validate(
@@ -414,7 +432,7 @@ fn first_with<A, B>(one: A, other: Option<B>) -> PairConflict<A, B>
 }
 
 // The next reported index past `before`; `None` if this key index reported nothing.
-fn next_of<T, S, X: KeyIndex<T, S>>(
+fn next_of<T, S, X: Inserts<T, S>>(
     conflict: Option<X::Conflict>,
     before: &Option<ItemIndex>,
 ) -> Option<ItemIndex>

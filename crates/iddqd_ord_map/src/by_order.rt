@@ -36,7 +36,7 @@ use iddqd_keys::item_order_query::{ItemOrdQuery, ItemRangeQuery};
 use iddqd_keys::key_kinds::Field;
 use iddqd_keys::key_of::{Itself, key_at};
 use iddqd_keys::order_key::OrdKey;
-use iddqd_map::key_index::{FindsSame, Here, KeyIndex, OrderedAt, ReportsAt, UniqueAt};
+use iddqd_map::key_index::{FindsSame, Here, Inserts, KeyIndex, Moves, OrderedAt, ReportsAt, UniqueAt, Upkeep};
 use iddqd_order::btree_table::{Asking, Blocks, Gap, MapBTreeTable, Spot};
 use std::alloc::{AllocError, Global};
 use std::cmp::Ordering;
@@ -181,38 +181,19 @@ where
 
     fn no_hashes() {}
 
-    fn capacity(&self) -> usize {
-        ordered_steps::capacity(&self.table)
+    fn remove(&mut self, items: &ItemSet<T>, state: &S, ix: ItemIndex) {
+        ordered_steps::remove_live::<T, E>(&mut self.table, items, ix);
     }
 
-    fn new(alloc: Global) -> ByOrderOf<E> {
-        ByOrderOf {
-            table: MapBTreeTable::new(alloc),
-            of: PhantomData,
-        }
+    fn is_same(item: &T, other: &T) -> bool {
+        E::compare(item, other) == Ordering::Equal
     }
+}
 
-    fn with_capacity(alloc: Global, wanted: usize) -> Result<ByOrderOf<E>, AllocError> {
-        Ok(ByOrderOf {
-            table: ordered_steps::with_capacity(alloc, wanted)?,
-            of: PhantomData,
-        })
-    }
-
-    fn reserve(
-        &mut self,
-        items: &ItemSet<T>,
-        state: &S,
-        additional: usize,
-    ) -> Result<(), AllocError> {
-        ordered_steps::reserve(&mut self.table, items, additional)
-    }
-
-    fn shrink_to(&mut self, items: &ItemSet<T>, state: &S, least: usize) -> Result<(), AllocError> {
-        ordered_steps::shrink_to(&mut self.table, items, least);
-        Ok(())
-    }
-
+impl<T, S, E> Inserts<T, S> for ByOrderOf<E>
+where
+    E: OrdKey<T>,
+{
     fn hashes(state: &S, item: &T) {}
 
     fn look_up(
@@ -259,19 +240,12 @@ where
     fn blocks_after(&self, items: &ItemSet<T>, state: &S) -> Result<Blocks, AllocError> {
         ordered_steps::blocks_anywhere(&self.table, items)
     }
+}
 
-    fn remove(&mut self, items: &ItemSet<T>, state: &S, ix: ItemIndex) {
-        ordered_steps::remove_live::<T, E>(&mut self.table, items, ix);
-    }
-
-    fn clear(&mut self) {
-        self.table.clear();
-    }
-
-    fn remap(&mut self, remap: &IndexRemap) {
-        ordered_steps::remap::<T>(&mut self.table, remap);
-    }
-
+impl<T, S, E> Moves<T, S> for ByOrderOf<E>
+where
+    E: OrdKey<T>,
+{
     fn plan_move(
         &self,
         items: &ItemSet<T>,
@@ -298,16 +272,57 @@ where
     ) {
         ordered_steps::commit_move::<T, E>(&mut self.table, items, plan, blocks, ix, item);
     }
+}
+
+impl<T, S, E> Upkeep<T, S> for ByOrderOf<E>
+where
+    E: OrdKey<T>,
+{
+    fn capacity(&self) -> usize {
+        ordered_steps::capacity(&self.table)
+    }
+
+    fn new(alloc: Global) -> ByOrderOf<E> {
+        ByOrderOf {
+            table: MapBTreeTable::new(alloc),
+            of: PhantomData,
+        }
+    }
+
+    fn with_capacity(alloc: Global, wanted: usize) -> Result<ByOrderOf<E>, AllocError> {
+        Ok(ByOrderOf {
+            table: ordered_steps::with_capacity(alloc, wanted)?,
+            of: PhantomData,
+        })
+    }
+
+    fn reserve(
+        &mut self,
+        items: &ItemSet<T>,
+        state: &S,
+        additional: usize,
+    ) -> Result<(), AllocError> {
+        ordered_steps::reserve(&mut self.table, items, additional)
+    }
+
+    fn shrink_to(&mut self, items: &ItemSet<T>, state: &S, least: usize) -> Result<(), AllocError> {
+        ordered_steps::shrink_to(&mut self.table, items, least);
+        Ok(())
+    }
+
+    fn clear(&mut self) {
+        self.table.clear();
+    }
+
+    fn remap(&mut self, remap: &IndexRemap) {
+        ordered_steps::remap::<T>(&mut self.table, remap);
+    }
 
     fn copied(&self) -> Result<ByOrderOf<E>, AllocError> {
         Ok(ByOrderOf {
             table: self.table.clone()?,
             of: PhantomData,
         })
-    }
-
-    fn is_same(item: &T, other: &T) -> bool {
-        E::compare(item, other) == Ordering::Equal
     }
 
     fn validate(

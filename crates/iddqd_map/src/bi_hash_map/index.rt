@@ -5,7 +5,7 @@
 use super::clash::{BiClash, both_moves, clash_of};
 use super::item::{BiHashItem, Key1, Key2};
 use crate::by_hash::ByHashOf;
-use crate::key_index::{FindsSame, First, KeyIndex, ReportsAt, Second, UniqueAt};
+use crate::key_index::{FindsSame, First, Inserts, KeyIndex, Moves, ReportsAt, Second, UniqueAt, Upkeep};
 use crate::reported::{lesser, past};
 use iddqd::index_remap::IndexRemap;
 use iddqd::internal::{ValidateCompact, ValidateRefusal, ValidationError};
@@ -184,44 +184,26 @@ where
         (None, None)
     }
 
-    fn capacity(&self) -> usize {
-        let first = <ByHashOf<A> as KeyIndex<T, S>>::capacity(&self.first);
-        let second = <ByHashOf<B> as KeyIndex<T, S>>::capacity(&self.second);
-        first.min(second)
+    fn remove(&mut self, items: &ItemSet<T>, state: &S, ix: ItemIndex) {
+        self.first.remove(items, state, ix);
+        self.second.remove(items, state, ix);
     }
 
-    fn new(alloc: Global) -> BiIndexOf<A, B> {
-        BiIndexOf {
-            first: <ByHashOf<A> as KeyIndex<T, S>>::new(alloc),
-            second: <ByHashOf<B> as KeyIndex<T, S>>::new(alloc),
-        }
+    fn is_same(item: &T, other: &T) -> bool {
+        <ByHashOf<A> as KeyIndex<T, S>>::is_same(item, other)
+            && <ByHashOf<B> as KeyIndex<T, S>>::is_same(item, other)
     }
+}
 
-    fn with_capacity(alloc: Global, wanted: usize) -> Result<BiIndexOf<A, B>, AllocError> {
-        let first = <ByHashOf<A> as KeyIndex<T, S>>::with_capacity(alloc, wanted)?;
-        let second = <ByHashOf<B> as KeyIndex<T, S>>::with_capacity(alloc, wanted)?;
-        Ok(BiIndexOf { first, second })
-    }
-
-    fn reserve(
-        &mut self,
-        items: &ItemSet<T>,
-        state: &S,
-        additional: usize,
-    ) -> Result<(), AllocError> {
-        self.first.reserve(items, state, additional)?;
-        self.second.reserve(items, state, additional)
-    }
-
-    fn shrink_to(&mut self, items: &ItemSet<T>, state: &S, least: usize) -> Result<(), AllocError> {
-        let first = self.first.shrink_to(items, state, least);
-        let second = self.second.shrink_to(items, state, least);
-        first.and(second)
-    }
-
+impl<T, S, A, B> Inserts<T, S> for BiIndexOf<A, B>
+where
+    A: HashKey<T>,
+    B: HashKey<T>,
+    S: BuildHasher,
+{
     fn hashes(state: &S, item: &T) -> (MapHash, MapHash) {
-        let first = <ByHashOf<A> as KeyIndex<T, S>>::hashes(state, item);
-        let second = <ByHashOf<B> as KeyIndex<T, S>>::hashes(state, item);
+        let first = <ByHashOf<A> as Inserts<T, S>>::hashes(state, item);
+        let second = <ByHashOf<B> as Inserts<T, S>>::hashes(state, item);
         (first, second)
     }
 
@@ -245,8 +227,8 @@ where
     }
 
     fn insert(&mut self, hashes: (MapHash, MapHash), plan: &(), blocks: (), ix: ItemIndex) {
-        <ByHashOf<A> as KeyIndex<T, S>>::insert(&mut self.first, hashes.0, plan, blocks, ix);
-        <ByHashOf<B> as KeyIndex<T, S>>::insert(&mut self.second, hashes.1, plan, blocks, ix);
+        <ByHashOf<A> as Inserts<T, S>>::insert(&mut self.first, hashes.0, plan, blocks, ix);
+        <ByHashOf<B> as Inserts<T, S>>::insert(&mut self.second, hashes.1, plan, blocks, ix);
     }
 
     fn next_reported(conflict: &BiClash, before: Option<ItemIndex>) -> Option<ItemIndex> {
@@ -258,22 +240,14 @@ where
     fn blocks_after(&self, items: &ItemSet<T>, state: &S) -> Result<(), AllocError> {
         Ok(())
     }
+}
 
-    fn remove(&mut self, items: &ItemSet<T>, state: &S, ix: ItemIndex) {
-        self.first.remove(items, state, ix);
-        self.second.remove(items, state, ix);
-    }
-
-    fn clear(&mut self) {
-        <ByHashOf<A> as KeyIndex<T, S>>::clear(&mut self.first);
-        <ByHashOf<B> as KeyIndex<T, S>>::clear(&mut self.second);
-    }
-
-    fn remap(&mut self, remap: &IndexRemap) {
-        <ByHashOf<A> as KeyIndex<T, S>>::remap(&mut self.first, remap);
-        <ByHashOf<B> as KeyIndex<T, S>>::remap(&mut self.second, remap);
-    }
-
+impl<T, S, A, B> Moves<T, S> for BiIndexOf<A, B>
+where
+    A: HashKey<T>,
+    B: HashKey<T>,
+    S: BuildHasher,
+{
     fn plan_move(
         &self,
         items: &ItemSet<T>,
@@ -310,16 +284,63 @@ where
         self.second
             .commit_move(items, state, known.1, &plan.1, blocks, ix, item);
     }
+}
 
-    fn copied(&self) -> Result<BiIndexOf<A, B>, AllocError> {
-        let first = <ByHashOf<A> as KeyIndex<T, S>>::copied(&self.first)?;
-        let second = <ByHashOf<B> as KeyIndex<T, S>>::copied(&self.second)?;
+impl<T, S, A, B> Upkeep<T, S> for BiIndexOf<A, B>
+where
+    A: HashKey<T>,
+    B: HashKey<T>,
+    S: BuildHasher,
+{
+    fn capacity(&self) -> usize {
+        let first = <ByHashOf<A> as Upkeep<T, S>>::capacity(&self.first);
+        let second = <ByHashOf<B> as Upkeep<T, S>>::capacity(&self.second);
+        first.min(second)
+    }
+
+    fn new(alloc: Global) -> BiIndexOf<A, B> {
+        BiIndexOf {
+            first: <ByHashOf<A> as Upkeep<T, S>>::new(alloc),
+            second: <ByHashOf<B> as Upkeep<T, S>>::new(alloc),
+        }
+    }
+
+    fn with_capacity(alloc: Global, wanted: usize) -> Result<BiIndexOf<A, B>, AllocError> {
+        let first = <ByHashOf<A> as Upkeep<T, S>>::with_capacity(alloc, wanted)?;
+        let second = <ByHashOf<B> as Upkeep<T, S>>::with_capacity(alloc, wanted)?;
         Ok(BiIndexOf { first, second })
     }
 
-    fn is_same(item: &T, other: &T) -> bool {
-        <ByHashOf<A> as KeyIndex<T, S>>::is_same(item, other)
-            && <ByHashOf<B> as KeyIndex<T, S>>::is_same(item, other)
+    fn reserve(
+        &mut self,
+        items: &ItemSet<T>,
+        state: &S,
+        additional: usize,
+    ) -> Result<(), AllocError> {
+        self.first.reserve(items, state, additional)?;
+        self.second.reserve(items, state, additional)
+    }
+
+    fn shrink_to(&mut self, items: &ItemSet<T>, state: &S, least: usize) -> Result<(), AllocError> {
+        let first = self.first.shrink_to(items, state, least);
+        let second = self.second.shrink_to(items, state, least);
+        first.and(second)
+    }
+
+    fn clear(&mut self) {
+        <ByHashOf<A> as Upkeep<T, S>>::clear(&mut self.first);
+        <ByHashOf<B> as Upkeep<T, S>>::clear(&mut self.second);
+    }
+
+    fn remap(&mut self, remap: &IndexRemap) {
+        <ByHashOf<A> as Upkeep<T, S>>::remap(&mut self.first, remap);
+        <ByHashOf<B> as Upkeep<T, S>>::remap(&mut self.second, remap);
+    }
+
+    fn copied(&self) -> Result<BiIndexOf<A, B>, AllocError> {
+        let first = <ByHashOf<A> as Upkeep<T, S>>::copied(&self.first)?;
+        let second = <ByHashOf<B> as Upkeep<T, S>>::copied(&self.second)?;
+        Ok(BiIndexOf { first, second })
     }
 
     fn validate(

@@ -8,13 +8,13 @@ ghost use Rattle.iddqd_map.specs.Calls.{IsDuplicate};
 ghost use Rattle.iddqd_map.specs.Map.{room};
 
 use super::Map;
-use crate::key_index::KeyIndex;
+use crate::key_index::{Inserts, Upkeep};
 use crate::refusal::{InsertRefusal, Stopped};
 use iddqd::hash_builder::DefaultHashBuilder;
 use iddqd::item_index::ItemIndex;
 use std::alloc::Global;
 
-impl<T, X: KeyIndex<T, DefaultHashBuilder>> Map<T, X, DefaultHashBuilder> {
+impl<T, X: Inserts<T, DefaultHashBuilder> + Upkeep<T, DefaultHashBuilder>> Map<T, X, DefaultHashBuilder> {
     /// A map of these items, with the default hasher, each inserted as by `insert_unique`, in turn.
     ///
     /// The first refusal is returned, and then all other items are dropped. The condition is that the array's iterator
@@ -34,7 +34,7 @@ impl<T, X: KeyIndex<T, DefaultHashBuilder>> Map<T, X, DefaultHashBuilder> {
     }
 }
 
-impl<T, X: KeyIndex<T, S>, S> Map<T, X, S> {
+impl<T, X: Inserts<T, S> + Upkeep<T, S>, S> Map<T, X, S> {
     /// `from_array`, with this hasher.
     pub fn from_array_with_hasher<const N: usize>(
         alloc: Global,

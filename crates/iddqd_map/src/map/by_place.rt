@@ -12,7 +12,7 @@ ghost use Rattle.iddqd_map.specs.Modify.{Modifies};
 use super::Map;
 use super::changes::change_found;
 use super::replaces::replace_found;
-use crate::key_index::{KeyIndex, UniqueAt};
+use crate::key_index::{KeyIndex, Moves, UniqueAt};
 use crate::refusal::ReplaceRefusal;
 use iddqd::item_index::ItemIndex;
 
@@ -73,7 +73,7 @@ impl<T, X: KeyIndex<T, S>, S> Map<T, X, S> {
         item: T,
     ) -> Result<T, ReplaceRefusal<T, X::Conflict>>
     where
-        X: UniqueAt<P, Q, T, S>,
+        X: UniqueAt<P, Q, T, S> + Moves<T, S>,
         ensures replaces { Replaces X.alike X.same_keys X.may_need_memory X.taken self.old
             (X.stands_for query) item result self.new }
         ensures room { room self.new ≡ room self.old }
@@ -100,7 +100,7 @@ impl<T, X: KeyIndex<T, S>, S> Map<T, X, S> {
         f: F,
     ) -> Result<Option<T>, ReplaceRefusal<T, X::Conflict>>
     where
-        X: UniqueAt<P, Q, T, S>,
+        X: UniqueAt<P, Q, T, S> + Moves<T, S>,
         requires { MayChange F.FnOnce f self.old.store (X.stands_for query) }
         ensures changes { ChangesByCall X.alike X.same_keys X.may_need_memory X.taken F.FnOnce f self.old
             (X.stands_for query) result self.new }

@@ -9,14 +9,14 @@ ghost use Rattle.iddqd_map.specs.Calls.{Changes};
 ghost use Rattle.iddqd_map.specs.KeyIndex.{IsIndexed};
 
 use super::replaces::replace;
-use crate::key_index::KeyIndex;
+use crate::key_index::Moves;
 use crate::refusal::ReplaceRefusal;
 use iddqd::item_index::ItemIndex;
 use iddqd::item_set::ItemSet;
 
 // Replaces the item that a look-up found by what the closure makes of it. If none was found, it returns `None`, and
 // doesn't call the closure.
-pub(super) fn change_found<T, X: KeyIndex<T, S>, S, F: FnOnce(&T) -> T>(
+pub(super) fn change_found<T, X: Moves<T, S>, S, F: FnOnce(&T) -> T>(
     items: &mut ItemSet<T>,
     indexes: &mut X,
     state: &S,

@@ -4,10 +4,10 @@ ghost use Rattle.iddqd.specs.{Allows, Validates};
 ghost use Rattle.iddqd.specs.Validation.{Tells, not_compact_text};
 
 use super::Map;
-use crate::key_index::KeyIndex;
+use crate::key_index::Upkeep;
 use iddqd::internal::{ValidateCompact, ValidateRefusal, ValidationError};
 
-impl<T, X: KeyIndex<T, S>, S> Map<T, X, S> {
+impl<T, X: Upkeep<T, S>, S> Map<T, X, S> {
     /// Checks that store and tables are sound, as they are in every map; with `Compact`, also that no slot is vacant.
     ///
     /// Memory may run out for the check of a hash table, which copies its indexes twice and sorts the second copy, and

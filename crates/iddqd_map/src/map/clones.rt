@@ -6,10 +6,10 @@ ghost use Rattle.std.specs.Prelude.{true, ◌≡◌, IfOk};
 ghost use Rattle.iddqd_map.specs.Clones.{IsMapClone};
 
 use super::Map;
-use crate::key_index::KeyIndex;
+use crate::key_index::Upkeep;
 use std::alloc::AllocError;
 
-impl<T: Clone, X: KeyIndex<T, S>, S: Copy> Map<T, X, S> {
+impl<T: Clone, X: Upkeep<T, S>, S: Copy> Map<T, X, S> {
     /// A copy: each item is cloned once, under its index, and no key is hashed or compared. If memory runs out, the
     /// clones made so far are dropped.
     ///

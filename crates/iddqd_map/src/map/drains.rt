@@ -9,11 +9,11 @@ ghost use Rattle.iddqd_map.specs.Ranges.{GivesItem, TakesItem};
 ghost use Rattle.iddqd_map.specs.Retain.{AsksInTurn};
 
 use super::Map;
-use crate::key_index::KeyIndex;
+use crate::key_index::Upkeep;
 use iddqd::item_index::ItemIndex;
 use iddqd::item_set::ItemSet;
 
-impl<T, X: KeyIndex<T, S>, S> Map<T, X, S> {
+impl<T, X: Upkeep<T, S>, S> Map<T, X, S> {
     /// Passes each item to the closure by value, once, by rising index, and returns how many there were. Then the map
     /// is empty, as after `clear`: the next index is 0.
     ///

@@ -6,13 +6,13 @@ ghost use Rattle.iddqd_map.specs.Memory.{ReservesItems, ShrinksItems, HasMoreTha
 ghost use Rattle.iddqd_map.specs.Calls.{Compacts};
 
 use super::Map;
-use crate::key_index::KeyIndex;
+use crate::key_index::Upkeep;
 use iddqd::hash_builder::DefaultHashBuilder;
 use iddqd::index_remap::IndexRemap;
 use iddqd::item_set::ItemSet;
 use std::alloc::{AllocError, Global};
 
-impl<T, X: KeyIndex<T, DefaultHashBuilder>> Map<T, X, DefaultHashBuilder> {
+impl<T, X: Upkeep<T, DefaultHashBuilder>> Map<T, X, DefaultHashBuilder> {
     /// Empty, with the default hasher, and memory for `wanted` items. With 0 it takes no memory.
     pub fn with_capacity(
         alloc: Global,
@@ -48,7 +48,7 @@ impl<T, X: KeyIndex<T, DefaultHashBuilder>> Map<T, X, DefaultHashBuilder> {
     }
 }
 
-impl<T, X: KeyIndex<T, S>, S> Map<T, X, S> {
+impl<T, X: Upkeep<T, S>, S> Map<T, X, S> {
     /// Empty, with memory for `wanted` items. With 0 it takes none.
     pub fn with_capacity_and_hasher(
         alloc: Global,
@@ -155,7 +155,7 @@ impl<T, X: KeyIndex<T, S>, S> Map<T, X, S> {
     }
 }
 
-impl<T, X: KeyIndex<T, S>, S> Map<T, X, S> {
+impl<T, X: Upkeep<T, S>, S> Map<T, X, S> {
     /// Forgets all items and all slots, so that the next index is 0. It keeps the memory.
     pub fn clear(&mut self)
     where

@@ -10,7 +10,7 @@ ghost use Rattle.iddqd_map.specs.Calls.{MayChange, Replaces, ChangesByCall};
 ghost use Rattle.iddqd_map.specs.Modify.{Modifies};
 
 use super::Map;
-use crate::key_index::{First, KeyIndex, Second, Third, UniqueAt};
+use crate::key_index::{First, KeyIndex, Moves, Second, Third, UniqueAt};
 use crate::refusal::ReplaceRefusal;
 use iddqd::item_index::ItemIndex;
 
@@ -66,7 +66,7 @@ impl<T, X: KeyIndex<T, S>, S> Map<T, X, S> {
     /// nothing changes. It touches no table whose key stays, and takes no memory if all keys go by their hashes.
     pub fn replace1<Q>(&mut self, query: Q, item: T) -> Result<T, ReplaceRefusal<T, X::Conflict>>
     where
-        X: UniqueAt<First, Q, T, S>,
+        X: UniqueAt<First, Q, T, S> + Moves<T, S>,
         ensures replaces { Replaces X.alike X.same_keys X.may_need_memory X.taken self.old
             (X.stands_for query) item result self.new }
         ensures room { room self.new ≡ room self.old }
@@ -85,7 +85,7 @@ impl<T, X: KeyIndex<T, S>, S> Map<T, X, S> {
         f: F,
     ) -> Result<Option<T>, ReplaceRefusal<T, X::Conflict>>
     where
-        X: UniqueAt<First, Q, T, S>,
+        X: UniqueAt<First, Q, T, S> + Moves<T, S>,
         requires { MayChange F.FnOnce f self.old.store (X.stands_for query) }
         ensures changes { ChangesByCall X.alike X.same_keys X.may_need_memory X.taken F.FnOnce f self.old
             (X.stands_for query) result self.new }
@@ -152,7 +152,7 @@ impl<T, X: KeyIndex<T, S>, S> Map<T, X, S> {
     /// Replaces the item that has the second key, as `replace1` does.
     pub fn replace2<Q>(&mut self, query: Q, item: T) -> Result<T, ReplaceRefusal<T, X::Conflict>>
     where
-        X: UniqueAt<Second, Q, T, S>,
+        X: UniqueAt<Second, Q, T, S> + Moves<T, S>,
         ensures replaces { Replaces X.alike X.same_keys X.may_need_memory X.taken self.old
             (X.stands_for query) item result self.new }
         ensures room { room self.new ≡ room self.old }
@@ -168,7 +168,7 @@ impl<T, X: KeyIndex<T, S>, S> Map<T, X, S> {
         f: F,
     ) -> Result<Option<T>, ReplaceRefusal<T, X::Conflict>>
     where
-        X: UniqueAt<Second, Q, T, S>,
+        X: UniqueAt<Second, Q, T, S> + Moves<T, S>,
         requires { MayChange F.FnOnce f self.old.store (X.stands_for query) }
         ensures changes { ChangesByCall X.alike X.same_keys X.may_need_memory X.taken F.FnOnce f self.old
             (X.stands_for query) result self.new }
@@ -234,7 +234,7 @@ impl<T, X: KeyIndex<T, S>, S> Map<T, X, S> {
     /// Replaces the item that has the third key, as `replace1` does.
     pub fn replace3<Q>(&mut self, query: Q, item: T) -> Result<T, ReplaceRefusal<T, X::Conflict>>
     where
-        X: UniqueAt<Third, Q, T, S>,
+        X: UniqueAt<Third, Q, T, S> + Moves<T, S>,
         ensures replaces { Replaces X.alike X.same_keys X.may_need_memory X.taken self.old
             (X.stands_for query) item result self.new }
         ensures room { room self.new ≡ room self.old }
@@ -250,7 +250,7 @@ impl<T, X: KeyIndex<T, S>, S> Map<T, X, S> {
         f: F,
     ) -> Result<Option<T>, ReplaceRefusal<T, X::Conflict>>
     where
-        X: UniqueAt<Third, Q, T, S>,
+        X: UniqueAt<Third, Q, T, S> + Moves<T, S>,
         requires { MayChange F.FnOnce f self.old.store (X.stands_for query) }
         ensures changes { ChangesByCall X.alike X.same_keys X.may_need_memory X.taken F.FnOnce f self.old
             (X.stands_for query) result self.new }

@@ -7,13 +7,13 @@ ghost use Rattle.iddqd_map.specs.Calls.{ReplacesAt, ReplacesIfLive, Replaces};
 ghost use Rattle.iddqd_map.specs.KeyIndex.{IsIndexed};
 
 use super::Map;
-use crate::key_index::KeyIndex;
+use crate::key_index::Moves;
 use crate::refusal::ReplaceRefusal;
 use iddqd::item_index::ItemIndex;
 use iddqd::item_set::ItemSet;
 use std::alloc::AllocError;
 
-impl<T, X: KeyIndex<T, S>, S> Map<T, X, S> {
+impl<T, X: Moves<T, S>, S> Map<T, X, S> {
     /// Replaces the item at an index, and returns the old one; `Missing` if the index has no item.
     ///
     /// The new item may have other keys. It gets the same index. If other items have a key of it, or memory runs out,
@@ -43,7 +43,7 @@ impl<T, X: KeyIndex<T, S>, S> Map<T, X, S> {
 }
 
 // Replaces the item at a live index. All memory is taken before anything is written.
-pub(super) fn replace<T, X: KeyIndex<T, S>, S>(
+pub(super) fn replace<T, X: Moves<T, S>, S>(
     items: &mut ItemSet<T>,
     indexes: &mut X,
     state: &S,
@@ -74,7 +74,7 @@ pub(super) fn replace<T, X: KeyIndex<T, S>, S>(
 }
 
 // Replaces the item that a look-up found.
-pub(super) fn replace_found<T, X: KeyIndex<T, S>, S>(
+pub(super) fn replace_found<T, X: Moves<T, S>, S>(
     items: &mut ItemSet<T>,
     indexes: &mut X,
     state: &S,

@@ -10,7 +10,7 @@ ghost use Rattle.iddqd_map.specs.KeyIndex.{IsIndexed};
 ghost use Rattle.iddqd_map.specs.Ranges.{itself};
 
 use crate::grouped_at::GroupedAt;
-use crate::key_index::{KeyIndex, OrderedAt};
+use crate::key_index::{Inserts, KeyIndex, OrderedAt};
 use iddqd::item_index::ItemIndex;
 use iddqd::item_set::ItemSet;
 use std::mem;
@@ -102,7 +102,7 @@ fn next_in_room<T>(items: &mut ItemSet<T>) -> ItemIndex
 
 /// Inserts the index of an item at the position that was found for it, and stores the item. There is room for it, and
 /// it shares no unique key with another.
-pub(super) fn put_in_room<T, X: KeyIndex<T, S>, S>(
+pub(super) fn put_in_room<T, X: Inserts<T, S>, S>(
     items: &mut ItemSet<T>,
     indexes: &mut X,
     state: &S,

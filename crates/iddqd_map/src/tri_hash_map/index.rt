@@ -11,7 +11,7 @@ ghost use Rattle.iddqd_map.specs.Several.{both_keys};
 
 use super::clash::{TriClash, all_moves, clash_of};
 use crate::by_hash::ByHashOf;
-use crate::key_index::{FindsSame, First, KeyIndex, ReportsAt, Second, Third, UniqueAt};
+use crate::key_index::{FindsSame, First, Inserts, KeyIndex, Moves, ReportsAt, Second, Third, UniqueAt, Upkeep};
 use crate::reported::{lesser, past};
 use iddqd::index_remap::IndexRemap;
 use iddqd::internal::{ValidateCompact, ValidateRefusal, ValidationError};
@@ -226,54 +226,30 @@ where
         (None, (None, None))
     }
 
-    fn capacity(&self) -> usize {
-        let first = <ByHashOf<A> as KeyIndex<T, S>>::capacity(&self.first);
-        let second = <ByHashOf<B> as KeyIndex<T, S>>::capacity(&self.second);
-        let third = <ByHashOf<C> as KeyIndex<T, S>>::capacity(&self.third);
-        first.min(second.min(third))
+    fn remove(&mut self, items: &ItemSet<T>, state: &S, ix: ItemIndex) {
+        self.first.remove(items, state, ix);
+        self.second.remove(items, state, ix);
+        self.third.remove(items, state, ix);
     }
 
-    fn new(alloc: Global) -> TriIndexOf<A, B, C> {
-        TriIndexOf {
-            first: <ByHashOf<A> as KeyIndex<T, S>>::new(alloc),
-            second: <ByHashOf<B> as KeyIndex<T, S>>::new(alloc),
-            third: <ByHashOf<C> as KeyIndex<T, S>>::new(alloc),
-        }
+    fn is_same(item: &T, other: &T) -> bool {
+        <ByHashOf<A> as KeyIndex<T, S>>::is_same(item, other)
+            && <ByHashOf<B> as KeyIndex<T, S>>::is_same(item, other)
+            && <ByHashOf<C> as KeyIndex<T, S>>::is_same(item, other)
     }
+}
 
-    fn with_capacity(alloc: Global, wanted: usize) -> Result<TriIndexOf<A, B, C>, AllocError> {
-        let first = <ByHashOf<A> as KeyIndex<T, S>>::with_capacity(alloc, wanted)?;
-        let second = <ByHashOf<B> as KeyIndex<T, S>>::with_capacity(alloc, wanted)?;
-        let third = <ByHashOf<C> as KeyIndex<T, S>>::with_capacity(alloc, wanted)?;
-        Ok(TriIndexOf {
-            first,
-            second,
-            third,
-        })
-    }
-
-    fn reserve(
-        &mut self,
-        items: &ItemSet<T>,
-        state: &S,
-        additional: usize,
-    ) -> Result<(), AllocError> {
-        self.first.reserve(items, state, additional)?;
-        self.second.reserve(items, state, additional)?;
-        self.third.reserve(items, state, additional)
-    }
-
-    fn shrink_to(&mut self, items: &ItemSet<T>, state: &S, least: usize) -> Result<(), AllocError> {
-        let first = self.first.shrink_to(items, state, least);
-        let second = self.second.shrink_to(items, state, least);
-        let third = self.third.shrink_to(items, state, least);
-        first.and(second.and(third))
-    }
-
+impl<T, S, A, B, C> Inserts<T, S> for TriIndexOf<A, B, C>
+where
+    A: HashKey<T>,
+    B: HashKey<T>,
+    C: HashKey<T>,
+    S: BuildHasher,
+{
     fn hashes(state: &S, item: &T) -> (MapHash, (MapHash, MapHash)) {
-        let first = <ByHashOf<A> as KeyIndex<T, S>>::hashes(state, item);
-        let second = <ByHashOf<B> as KeyIndex<T, S>>::hashes(state, item);
-        let third = <ByHashOf<C> as KeyIndex<T, S>>::hashes(state, item);
+        let first = <ByHashOf<A> as Inserts<T, S>>::hashes(state, item);
+        let second = <ByHashOf<B> as Inserts<T, S>>::hashes(state, item);
+        let third = <ByHashOf<C> as Inserts<T, S>>::hashes(state, item);
         (first, (second, third))
     }
 
@@ -305,9 +281,9 @@ where
         blocks: (),
         ix: ItemIndex,
     ) {
-        <ByHashOf<A> as KeyIndex<T, S>>::insert(&mut self.first, hashes.0, plan, blocks, ix);
-        <ByHashOf<B> as KeyIndex<T, S>>::insert(&mut self.second, hashes.1.0, plan, blocks, ix);
-        <ByHashOf<C> as KeyIndex<T, S>>::insert(&mut self.third, hashes.1.1, plan, blocks, ix);
+        <ByHashOf<A> as Inserts<T, S>>::insert(&mut self.first, hashes.0, plan, blocks, ix);
+        <ByHashOf<B> as Inserts<T, S>>::insert(&mut self.second, hashes.1.0, plan, blocks, ix);
+        <ByHashOf<C> as Inserts<T, S>>::insert(&mut self.third, hashes.1.1, plan, blocks, ix);
     }
 
     fn next_reported(conflict: &TriClash, before: Option<ItemIndex>) -> Option<ItemIndex> {
@@ -326,25 +302,15 @@ where
     fn blocks_after(&self, items: &ItemSet<T>, state: &S) -> Result<(), AllocError> {
         Ok(())
     }
+}
 
-    fn remove(&mut self, items: &ItemSet<T>, state: &S, ix: ItemIndex) {
-        self.first.remove(items, state, ix);
-        self.second.remove(items, state, ix);
-        self.third.remove(items, state, ix);
-    }
-
-    fn clear(&mut self) {
-        <ByHashOf<A> as KeyIndex<T, S>>::clear(&mut self.first);
-        <ByHashOf<B> as KeyIndex<T, S>>::clear(&mut self.second);
-        <ByHashOf<C> as KeyIndex<T, S>>::clear(&mut self.third);
-    }
-
-    fn remap(&mut self, remap: &IndexRemap) {
-        <ByHashOf<A> as KeyIndex<T, S>>::remap(&mut self.first, remap);
-        <ByHashOf<B> as KeyIndex<T, S>>::remap(&mut self.second, remap);
-        <ByHashOf<C> as KeyIndex<T, S>>::remap(&mut self.third, remap);
-    }
-
+impl<T, S, A, B, C> Moves<T, S> for TriIndexOf<A, B, C>
+where
+    A: HashKey<T>,
+    B: HashKey<T>,
+    C: HashKey<T>,
+    S: BuildHasher,
+{
     fn plan_move(
         &self,
         items: &ItemSet<T>,
@@ -384,11 +350,34 @@ where
         self.third
             .commit_move(items, state, known.1.1, &plan.1.1, blocks, ix, item);
     }
+}
 
-    fn copied(&self) -> Result<TriIndexOf<A, B, C>, AllocError> {
-        let first = <ByHashOf<A> as KeyIndex<T, S>>::copied(&self.first)?;
-        let second = <ByHashOf<B> as KeyIndex<T, S>>::copied(&self.second)?;
-        let third = <ByHashOf<C> as KeyIndex<T, S>>::copied(&self.third)?;
+impl<T, S, A, B, C> Upkeep<T, S> for TriIndexOf<A, B, C>
+where
+    A: HashKey<T>,
+    B: HashKey<T>,
+    C: HashKey<T>,
+    S: BuildHasher,
+{
+    fn capacity(&self) -> usize {
+        let first = <ByHashOf<A> as Upkeep<T, S>>::capacity(&self.first);
+        let second = <ByHashOf<B> as Upkeep<T, S>>::capacity(&self.second);
+        let third = <ByHashOf<C> as Upkeep<T, S>>::capacity(&self.third);
+        first.min(second.min(third))
+    }
+
+    fn new(alloc: Global) -> TriIndexOf<A, B, C> {
+        TriIndexOf {
+            first: <ByHashOf<A> as Upkeep<T, S>>::new(alloc),
+            second: <ByHashOf<B> as Upkeep<T, S>>::new(alloc),
+            third: <ByHashOf<C> as Upkeep<T, S>>::new(alloc),
+        }
+    }
+
+    fn with_capacity(alloc: Global, wanted: usize) -> Result<TriIndexOf<A, B, C>, AllocError> {
+        let first = <ByHashOf<A> as Upkeep<T, S>>::with_capacity(alloc, wanted)?;
+        let second = <ByHashOf<B> as Upkeep<T, S>>::with_capacity(alloc, wanted)?;
+        let third = <ByHashOf<C> as Upkeep<T, S>>::with_capacity(alloc, wanted)?;
         Ok(TriIndexOf {
             first,
             second,
@@ -396,10 +385,45 @@ where
         })
     }
 
-    fn is_same(item: &T, other: &T) -> bool {
-        <ByHashOf<A> as KeyIndex<T, S>>::is_same(item, other)
-            && <ByHashOf<B> as KeyIndex<T, S>>::is_same(item, other)
-            && <ByHashOf<C> as KeyIndex<T, S>>::is_same(item, other)
+    fn reserve(
+        &mut self,
+        items: &ItemSet<T>,
+        state: &S,
+        additional: usize,
+    ) -> Result<(), AllocError> {
+        self.first.reserve(items, state, additional)?;
+        self.second.reserve(items, state, additional)?;
+        self.third.reserve(items, state, additional)
+    }
+
+    fn shrink_to(&mut self, items: &ItemSet<T>, state: &S, least: usize) -> Result<(), AllocError> {
+        let first = self.first.shrink_to(items, state, least);
+        let second = self.second.shrink_to(items, state, least);
+        let third = self.third.shrink_to(items, state, least);
+        first.and(second.and(third))
+    }
+
+    fn clear(&mut self) {
+        <ByHashOf<A> as Upkeep<T, S>>::clear(&mut self.first);
+        <ByHashOf<B> as Upkeep<T, S>>::clear(&mut self.second);
+        <ByHashOf<C> as Upkeep<T, S>>::clear(&mut self.third);
+    }
+
+    fn remap(&mut self, remap: &IndexRemap) {
+        <ByHashOf<A> as Upkeep<T, S>>::remap(&mut self.first, remap);
+        <ByHashOf<B> as Upkeep<T, S>>::remap(&mut self.second, remap);
+        <ByHashOf<C> as Upkeep<T, S>>::remap(&mut self.third, remap);
+    }
+
+    fn copied(&self) -> Result<TriIndexOf<A, B, C>, AllocError> {
+        let first = <ByHashOf<A> as Upkeep<T, S>>::copied(&self.first)?;
+        let second = <ByHashOf<B> as Upkeep<T, S>>::copied(&self.second)?;
+        let third = <ByHashOf<C> as Upkeep<T, S>>::copied(&self.third)?;
+        Ok(TriIndexOf {
+            first,
+            second,
+            third,
+        })
     }
 
     fn validate(

@@ -1,7 +1,0 @@
-use Rattle.iddqd_groups.proofs.FilesLemmas.{room_beside}
-use Rattle.iddqd_groups.proofs.by_hash_multi.ByHashMultiOfKeyIndex.make_room.Goals as goal
-
-pub returns-clause-ready : goal.returns-clause-ready
-returns-clause-ready g c =
-    room_beside c.reserve.result c.args.items.now.store c.args.self.now.table c.reserve.new.table
-    c.requires.indexed.files.held c.reserve.ensures.contents c.reserve.ensures.reserved

@@ -1,5 +1,0 @@
-use Rattle.iddqd_ord_map.proofs.OrderedIndexingLemmas.{Sorts-empty}
-use Rattle.iddqd_ord_map.proofs.by_order.ByOrderOfKeyIndex.with_capacity.Goals as goal
-
-pub returns-clause-none : goal.returns-clause-none
-returns-clause-none g c = λ state limit. rw c.in_ok-with_capacity.ensures.empty (Sorts-empty _ _ limit)

@@ -1,0 +1,5 @@
+use Rattle.iddqd_ord_map.proofs.SortedScanLemmas.{IsSortedScan-empty}
+use Rattle.iddqd_ord_map.proofs.by_order_multi.ByOrderMultiOfUpkeep.clear.Goals as goal
+
+pub returns-clause-none : goal.returns-clause-none
+returns-clause-none g c = λ state limit. rw c.clear.ensures.empty (IsSortedScan-empty _ _ limit)
