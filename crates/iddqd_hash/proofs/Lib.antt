@@ -14,6 +14,7 @@ mod OpenAddLemmas
 mod OpenAheadLemmas
 mod OpenCellLemmas
 mod OpenLaneLemmas
+mod OpenFindLemmas
 mod OpenLookupLemmas
 mod OpenMoveLemmas
 mod OpenPastFullLemmas
@@ -23,6 +24,7 @@ mod OpenRoundLemmas
 mod OpenSkipLemmas
 mod OpenSlotLemmas
 mod OpenTableLemmas
+mod OpenVisitLemmas
 mod OpenWalkLemmas
 mod OpenWalkUnderLemmas
 mod PermutationLemmas
