@@ -19,6 +19,7 @@ mod OpenLookupLemmas
 mod OpenMoveLemmas
 mod OpenPastFullLemmas
 mod OpenRetainLemmas
+mod OpenResizeLemmas
 mod OpenRebuildLemmas
 mod OpenRoundLemmas
 mod OpenSkipLemmas

@@ -6,6 +6,7 @@ use Rattle.iddqd_hash.proofs.AskLemmas.{CanAsk-joined}
 use Rattle.iddqd_hash.proofs.OpenAheadLemmas.{IsMultipleOf16-count}
 use Rattle.iddqd_hash.proofs.OpenCellLemmas.{cells_long}
 use Rattle.iddqd_hash.proofs.OpenTableLemmas.{entries-table_of, fits_from, IsSound-retained, KeepsMemory-table_of}
+use Rattle.iddqd_hash.proofs.OpenResizeLemmas.{retain-few, retain-sound, retain-kept, retain-memory}
 use Rattle.iddqd_hash.proofs.open_table.OpenHashTable.retain_asked.Goals as goal
 
 pub retain_cells-removed-requires-clause-probed : goal.retain_cells-removed-requires-clause-probed
@@ -27,45 +28,20 @@ retain_cells-removed-requires-clause-callable g c =
 
 pub overflow_sub-self : goal.overflow_sub-self
 overflow_sub-self g c =
-    let counted =
-    rw (c.as_mut_slice.ensures.value, c.as_mut_slice-2.ensures.value) at c.retain_cells-removed.ensures.counted in
-    omega (arith, counted, c.self.invariant.sound.counted)
+    retain-few g.C.Cell.slot c.self.inside.tags c.self.inside.cells c.self.inside.len c.self.inside.used c.self.invariant.sound c.args.self.now (sym c.self.view_is) _ _ _ _ c.as_mut_slice.ensures.value c.as_mut_slice-2.ensures.value c.retain_cells-removed.auto.tags c.as_mut_slice.ensures.len c.retain_cells-removed.auto.cells c.as_mut_slice-2.ensures.len _ c.retain_cells-removed.ensures.counted
 
 pub invariant_of-self : goal.invariant_of-self
 invariant_of-self g c =
-    let tags-is =
-    with_items_is c.self.inside.tags c.retain_cells-removed.new.tags (c.retain_cells-removed.auto.tags ∙ c.as_mut_slice.ensures.len) in
-    let cells-is =
-    with_items_is c.self.inside.cells c.retain_cells-removed.new.cells (c.retain_cells-removed.auto.cells ∙ c.as_mut_slice-2.ensures.len) in
-    let counted =
-    rw (c.as_mut_slice.ensures.value, c.as_mut_slice-2.ensures.value) at c.retain_cells-removed.ensures.counted in
-    let marked = rw c.as_mut_slice.ensures.value at c.retain_cells-removed.ensures.marked in
     record {
-      sound = rw (tags-is, cells-is)
-          (IsSound-retained c.self.inside.tags.items c.retain_cells-removed.new.tags (slots_of g.C.Cell.slot c.self.inside.tags.items c.self.inside.cells.items) (slots_of g.C.Cell.slot c.retain_cells-removed.new.tags c.retain_cells-removed.new.cells) _ _ _ c.self.invariant.sound
-          (c.retain_cells-removed.auto.tags ∙ ap length c.as_mut_slice.ensures.value) c.retain_cells-removed.ensures.probed marked counted);
+      sound = retain-sound g.C.Cell.slot c.self.inside.tags c.self.inside.cells c.self.inside.len c.self.inside.used c.self.invariant.sound c.args.self.now (sym c.self.view_is) _ _ _ _ c.as_mut_slice.ensures.value c.as_mut_slice-2.ensures.value c.retain_cells-removed.auto.tags c.as_mut_slice.ensures.len c.retain_cells-removed.auto.cells c.as_mut_slice-2.ensures.len _ c.retain_cells-removed.ensures.counted c.retain_cells-removed.ensures.probed c.retain_cells-removed.ensures.marked;
       exact_tags = c.self.invariant.exact_tags;
       exact_cells = c.self.invariant.exact_cells;
     }
 
 pub returns-clause-kept : goal.returns-clause-kept
 returns-clause-kept g c =
-    let tags-is =
-    with_items_is c.self.inside.tags c.retain_cells-removed.new.tags (c.retain_cells-removed.auto.tags ∙ c.as_mut_slice.ensures.len) in
-    let cells-is =
-    with_items_is c.self.inside.cells c.retain_cells-removed.new.cells (c.retain_cells-removed.auto.cells ∙ c.as_mut_slice-2.ensures.len) in
-    rw (← c.self.view_is, entries-table_of, entries-table_of, tags-is, cells-is, ← c.as_mut_slice.ensures.value, ← c.as_mut_slice-2.ensures.value) (record { last = _; kept = c.retain_cells-removed.ensures.kept })
+    retain-kept g.C.Cell.slot c.self.inside.tags c.self.inside.cells c.self.inside.len c.self.inside.used c.self.invariant.sound c.args.self.now (sym c.self.view_is) _ _ _ _ c.as_mut_slice.ensures.value c.as_mut_slice-2.ensures.value c.retain_cells-removed.auto.tags c.as_mut_slice.ensures.len c.retain_cells-removed.auto.cells c.as_mut_slice-2.ensures.len (CalledAt g.F.FnMut) _ _ c.retain_cells-removed.ensures.kept
 
 pub returns-clause-memory : goal.returns-clause-memory
 returns-clause-memory g c =
-    let tags-is =
-    with_items_is c.self.inside.tags c.retain_cells-removed.new.tags (c.retain_cells-removed.auto.tags ∙ c.as_mut_slice.ensures.len) in
-    let cells-is =
-    with_items_is c.self.inside.cells c.retain_cells-removed.new.cells (c.retain_cells-removed.auto.cells ∙ c.as_mut_slice-2.ensures.len) in
-    let long : length (slots_of g.C.Cell.slot c.retain_cells-removed.new.tags c.retain_cells-removed.new.cells) ≡ length (slots_of g.C.Cell.slot c.self.inside.tags.items c.self.inside.cells.items) =
-    cells_long g.C.Cell.slot c.retain_cells-removed.new.tags c.retain_cells-removed.new.cells
-    ∙ c.retain_cells-removed.auto.cells ∙ ap length c.as_mut_slice-2.ensures.value
-    ∙ sym (cells_long g.C.Cell.slot c.self.inside.tags.items c.self.inside.cells.items) in
-    let counted =
-    rw (c.as_mut_slice.ensures.value, c.as_mut_slice-2.ensures.value) at c.retain_cells-removed.ensures.counted in
-    rw (← c.self.view_is) (KeepsMemory-table_of _ _ (rw (tags-is, cells-is) long) (fits_from _ _ _ _ c.self.invariant.sound) (rw (tags-is, cells-is) (omega (arith, counted))))
+    retain-memory g.C.Cell.slot c.self.inside.tags c.self.inside.cells c.self.inside.len c.self.inside.used c.self.invariant.sound c.args.self.now (sym c.self.view_is) _ _ _ _ c.as_mut_slice.ensures.value c.as_mut_slice-2.ensures.value c.retain_cells-removed.auto.tags c.as_mut_slice.ensures.len c.retain_cells-removed.auto.cells c.as_mut_slice-2.ensures.len _ c.retain_cells-removed.ensures.counted
