@@ -4,6 +4,7 @@ use Rattle.iddqd.specs.Store.{get}
 use Rattle.iddqd_driver.proofs.KeyLemmas.{AreLawful-from_bounds}
 use Rattle.iddqd_driver.proofs.KeepsLemmas.{IsPaired-rebound}
 use Rattle.iddqd_driver.proofs.ModifyLemmas.{Keeps-modified}
+use Rattle.iddqd_driver.proofs.KeepsLemmas.{Keeps-same}
 use Rattle.iddqd_driver.proofs.keyed_items.KeyedItems.modify_live.Goals as goal
 
 pub invariant_of-self-2 : goal.invariant_of-self-2
@@ -28,3 +29,7 @@ returns-clause-keeps g c =
 
 pub returns-clause-memory : goal.returns-clause-memory
 returns-clause-memory g c = rw (← c.self.view_is)
+
+pub returns-in_err-item-clause-keeps : goal.returns-in_err-item-clause-keeps
+returns-in_err-item-clause-keeps g c =
+    rw (← c.self.view_is) (Keeps-same _ _ c.self.invariant _ refl)

@@ -1,4 +1,4 @@
-use Rattle.std.proofs.Common.{◌≡◌, ◌∙◌, ap, arith}
+use Rattle.std.proofs.Common.{◌≡◌, ◌∙◌, ap, arith, refl}
 use Rattle.iddqd.specs.Store.{slot_limit}
 use Rattle.iddqd_hash.specs.HashTable.{capacity as hashed_capacity}
 use Rattle.iddqd_order.specs.MapBTreeTable.{capacity as ordered_capacity, capacity_for}
@@ -20,3 +20,7 @@ returns-clause-no_memory g c = λ none.
     let slots = c.in_ok-with_capacity.ensures.capacity ∙ wanted in
     let blocks : ordered_capacity c.in_ok-with_capacity-3.field-0 ≡ 10 = c.in_ok-with_capacity-3.ensures.made ∙ ap capacity_for wanted in
     rw (slots, held, bare.no_cell, blocks)
+
+pub returns-clause-state : goal.returns-clause-state
+returns-clause-state g c =
+    rw (c.in_ok-with_capacity.ensures.contents, c.in_ok-with_capacity-2.ensures.empty, c.in_ok-with_capacity-3.ensures.empty) refl
