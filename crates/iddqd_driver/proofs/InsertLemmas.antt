@@ -5,6 +5,7 @@ use Rattle.std.specs.Ordering.{nat_cmp}
 use Rattle.std.specs.FinMap as finite
 use Rattle.std.specs.FinMap.{FinMap}
 use Rattle.std.specs.Result.{IsOk, IfOk, OnOk, OnErr}
+use Rattle.iddqd.specs.declared.item_set.GrowError.{GrowError}
 use Rattle.iddqd.specs.Store.{Store, IsFull, next_index, inserted}
 use Rattle.iddqd_by_order.specs.Ordered.{AddsInPlace}
 use Rattle.iddqd_driver.specs.Keys.{Keys}
@@ -52,3 +53,7 @@ module _ {T S K1 K2 : Type 0} (keys : Keys T K1 K2 S) (s : State T S) (item : T)
 pub none_before : (found : Option ℕ) (some : Bool) → some ≡ is_some found → some ≡ false → None ≡ found
 none_before None some is never = refl
 none_before (Some ix) some is never = absurd (false≢true (sym never ∙ is))
+
+pub not_both_errors : {A : Type 0} (r : Result A GrowError) → r ≡ Err GrowError.Full → r ≡ Err GrowError.Memory → ⊥
+not_both_errors r full memory =
+    let same = sym full ∙ memory in absurd (cc)

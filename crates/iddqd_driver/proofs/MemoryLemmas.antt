@@ -21,7 +21,7 @@ use Rattle.iddqd_by_order.proofs.OrderedCountLemmas.{length-held}
 use Rattle.iddqd_driver.specs.Keys.{Keys}
 use Rattle.iddqd_driver.specs.State.{State, state_of, IsPaired}
 use Rattle.iddqd_driver.specs.Machine.{Removes, StoresAt}
-use Rattle.iddqd_driver.specs.Memory.{Memory, SizedState, IsNoLower, InsertsInMemory, IsOutOfMemory, HasRoomInParts, memory_of, ReservesInMemory, ShrinksInMemory, sized_of, capacity, room, reservable}
+use Rattle.iddqd_driver.specs.Memory.{Memory, SizedState, IsNoLower, InsertsInMemory, HasRoomInParts, memory_of, ReservesInMemory, ShrinksInMemory, sized_of, capacity, room, reservable}
 use Rattle.iddqd_driver.specs.declared.keyed_items.InsertRefusal.{InsertRefusal}
 use Rattle.iddqd_driver.proofs.KeepsLemmas.{Holds-order}
 use Rattle.iddqd_driver.proofs.ValidationLemmas.{filed_has_live_indexes}
@@ -168,26 +168,18 @@ few_slots old new valid kept grown = elim (none_or_some (set_room old)) [
     none_or_some zero = inl refl
     none_or_some (suc n) = inr (omega arith)
 
+pub none_wanted : (wanted items most : ℕ) → wanted ≡ min items most → items ≡ 0 → wanted ≡ 0
+none_wanted wanted items most is none = omega arith
+
+pub none_fits : (wanted items most free : ℕ) → wanted ≡ min items most → items ≡ 0 → wanted ≤ free
+none_fits wanted items most free is none = omega arith
+
 -- a number is at most the greater of it and another
 pub not_more : (n more : ℕ) → n ≤ max n more
 not_more n more = omega arith
 
 pub not_more_by : (new old more : ℕ) → new ≡ old → new ≤ max old more
 not_more_by new old more same = omega arith
-
--- an insert that was refused, and left the memory as it was
-pub InsertsInMemory-refused :
-    {T : Type 0} {has : Type 0} (old new : Memory) (refusal : InsertRefusal T)
-    → new ≡ old
-    → (has → IsOutOfMemory refusal → ⊥)
-    → InsertsInMemory has old (Err refusal) new
-InsertsInMemory-refused old new refusal same early = record {
-  no_lower = IsNoLower-same old new same;
-  same_ordered = ap (λ (m : Memory). m.ordered) same;
-  refused_early = λ _. same;
-  had_room = λ _. same;
-  not_refused = early;
-}
 
 -- an insert into a store and two tables, which grew first
 pub InsertsInParts-stored :

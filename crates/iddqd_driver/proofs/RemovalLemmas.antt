@@ -1,11 +1,12 @@
 -- What a removal leaves of a store and two tables: the parts of the state, and its memory.
-use Rattle.std.proofs.Common.{◌≡◌, ◌+◌, ◌≤◌, ℕ, Some, refl}
+use Rattle.std.proofs.Common.{◌≡◌, ◌↔◌, ◌+◌, ◌≤◌, ℕ, Option, Some, None, IsSome, refl}
 use Rattle.std.specs.FinMap as finite
 use Rattle.iddqd.specs.Store.{get, removed, live_count}
 use Rattle.iddqd.specs.ItemSet.{SizedStore}
 use Rattle.iddqd_hash.specs.HashTable.{Table, KeepsMemory}
 use Rattle.iddqd_hash.specs.MapHashTable.{filed}
 use Rattle.iddqd_order.specs.MapBTreeTable.{Order, order_of, without, capacity as ordered_capacity}
+use Rattle.iddqd_keys.specs.Scan.{IsLive}
 use Rattle.iddqd_driver.specs.Keys.{Keys}
 use Rattle.iddqd_driver.specs.State.{state_of, IsPaired}
 use Rattle.iddqd_driver.specs.KeyIndexes.{Keeps}
@@ -20,6 +21,14 @@ module _
     {T S : Type 0} (hasher : S) (items : SizedStore T) (table : Table ℕ) (order : Order) (old : SizedState T S)
     (seen : sized_of hasher items table order ≡ old) (paired : IsPaired (state_of hasher items.store table order))
   where
+  -- what was read at an index
+  module _ (ix : ℕ) (item : Option T) (read : item ≡ get items.store ix) where
+    pub none-removes : item ≡ None → Removes old.state ix None old.state
+    none-removes none = (rw (← seen, ← read) none, refl)
+
+    pub read-live : IsSome item ↔ IsLive old.state.store ix
+    read-live = rw (← seen, ← read) (λ some. some, λ some. some)
+
   -- nothing was removed
   module _ (new_table : Table ℕ) (same : filed new_table ≡ filed table) where
     pub kept-paired : IsPaired (state_of hasher items.store new_table order)
@@ -30,6 +39,9 @@ module _
 
     pub kept-state : state_of hasher items.store new_table order ≡ old.state
     kept-state = rw (← seen, same) refl
+
+  pub kept-memory : (new_table : Table ℕ) → KeepsMemory table new_table → memory_of items new_table order ≡ old.memory
+  kept-memory new_table cells = rw (← seen, cells.same_capacity, cells.same_memory) refl
 
   module _
       (new_items : SizedStore T) (new_table : Table ℕ) (new_order : Order) (ix : ℕ) (item : T)

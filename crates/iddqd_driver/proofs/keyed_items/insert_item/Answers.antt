@@ -3,11 +3,12 @@ use Rattle.std.proofs.lemmas.Grind.{common_steps}
 use Rattle.std.proofs.lemmas.Bool.{false≢true}
 use Rattle.iddqd.specs.GrowHandle.{handle_set}
 use Rattle.iddqd.specs.Store.{next_index}
+use Rattle.iddqd.specs.ItemSet.{SizedStore}
 use Rattle.iddqd_order.specs.MapBTreeTable.{order_of}
 use Rattle.iddqd_by_order.proofs.OrderedHoldsLemmas.{next_absent}
 use Rattle.iddqd_by_order.proofs.OrderedPlaceLemmas.{AddsInPlace-prepared}
-use Rattle.iddqd_driver.proofs.InsertLemmas.{none_before}
-use Rattle.iddqd_driver.proofs.MemoryLemmas.{not_more, not_more_by, few_slots, few_slots_by, few_cells, InsertsInMemory-refused, InsertsInParts-stored}
+use Rattle.iddqd_driver.proofs.InsertLemmas.{none_before, not_both_errors}
+use Rattle.iddqd_driver.proofs.MemoryLemmas.{not_more, not_more_by, few_slots, few_slots_by, few_cells, InsertsInParts-stored}
 use Rattle.iddqd_driver.proofs.keyed_items.insert_item.Goals as goal
 
 pub prepare-requires-clause-absent : goal.prepare-requires-clause-absent
@@ -35,8 +36,8 @@ returns-in-Occupied g c =
       refused = (refl, inr refl);
       items_stay = refl;
       hashes_stay = refl;
-      order_stays = ap order_of (search rules);
-      memory = InsertsInMemory-refused _ _ _ (search rules) (λ _ never. never);
+      order_stays = search rules;
+      memory = search rules;
       few_slots = not_more _ _;
       few_cells = not_more _ _;
     }
@@ -54,14 +55,17 @@ returns-then-is_some g c =
       refused = (refl, inl (sym c.is_some.ensures ∙ c.if-is_some.true));
       items_stay = refl;
       hashes_stay = refl;
-      order_stays = ap order_of (search rules);
-      memory = InsertsInMemory-refused _ _ _ (search rules) (λ _ never. never);
+      order_stays = search rules;
+      memory = search rules;
       few_slots = not_more _ _;
       few_cells = not_more _ _;
     }
 
 pub returns-in-Err-Full : goal.returns-in-Err-Full
 returns-in-Err-Full g c =
+    let kept : c.assert_can_grow.follows.lender-at-none ≡ c.args.items.now =
+    rw c.in-Err-Full.is at c.assert_can_grow.follows.holds-at-none in
+    let failed = rw c.in-Err-Full.field-0-is at c.in-Err-Full.is in
     record {
       first = none_before _ _ c.is_some.ensures c.if-is_some.false;
       second = rw (← c.key2.ensures) c.in-Vacant.ensures.made.missed;
@@ -70,17 +74,20 @@ returns-in-Err-Full g c =
       stored = tt;
       filed = tt;
       placed = tt;
-      refused = (grind (arith, common_steps));
-      items_stay = (grind (arith, common_steps));
+      refused = (refl, c.assert_can_grow.ensures.full.0 failed);
+      items_stay = ap (λ (s : SizedStore _). s.store) kept;
       hashes_stay = refl;
-      order_stays = ap order_of (search rules);
-      memory = InsertsInMemory-refused _ _ _ (search rules) (λ _ never. never);
-      few_slots = not_more_by _ _ _ (search rules);
+      order_stays = search rules;
+      memory = search rules;
+      few_slots = not_more_by _ _ _ (ap (λ (s : SizedStore _). s.capacity) kept);
       few_cells = not_more _ _;
     }
 
 pub returns-in-Err-Memory : goal.returns-in-Err-Memory
 returns-in-Err-Memory g c =
+    let kept : c.assert_can_grow.follows.lender-at-none ≡ c.args.items.now =
+    rw c.in-Err-Memory.is at c.assert_can_grow.follows.holds-at-none in
+    let failed = rw c.in-Err-Memory.field-0-is at c.in-Err-Memory.is in
     record {
       first = none_before _ _ c.is_some.ensures c.if-is_some.false;
       second = rw (← c.key2.ensures) c.in-Vacant.ensures.made.missed;
@@ -89,12 +96,12 @@ returns-in-Err-Memory g c =
       stored = tt;
       filed = tt;
       placed = tt;
-      refused = (grind (arith, common_steps));
-      items_stay = (grind (arith, common_steps));
+      refused = (refl, λ full. not_both_errors _ (c.assert_can_grow.ensures.full.1 full) failed);
+      items_stay = ap (λ (s : SizedStore _). s.store) kept;
       hashes_stay = refl;
-      order_stays = ap order_of (search rules);
+      order_stays = search rules;
       memory = search rules;
-      few_slots = not_more_by _ _ _ (search rules);
+      few_slots = not_more_by _ _ _ (ap (λ (s : SizedStore _). s.capacity) kept);
       few_cells = not_more _ _;
     }
 
@@ -110,11 +117,11 @@ returns-in-Err g c =
       placed = tt;
       refused = (refl, λ full. absurd (false≢true (ap is_err (c.in-Ok.ensures.full.1 full))));
       items_stay = search rules;
-      hashes_stay = search rules;
-      order_stays = ap order_of (search rules);
+      hashes_stay = c.try_reserve.ensures.contents;
+      order_stays = search rules;
       memory = search rules;
       few_slots = few_slots_by c.args.items.now (handle_set c.in-Ok.handle) _ c.requires.valid c.in-Ok.ensures.kept c.in-Ok.ensures.grown (search rules);
-      few_cells = search rules;
+      few_cells = c.try_reserve.ensures.few;
     }
 
 pub returns-in-Err-prepare : goal.returns-in-Err-prepare
@@ -129,11 +136,11 @@ returns-in-Err-prepare g c =
       placed = tt;
       refused = (refl, λ full. absurd (false≢true (ap is_err (c.in-Ok.ensures.full.1 full))));
       items_stay = search rules;
-      hashes_stay = search rules;
-      order_stays = ap order_of (search rules);
+      hashes_stay = c.try_reserve.ensures.contents;
+      order_stays = search rules;
       memory = search rules;
       few_slots = few_slots_by c.args.items.now (handle_set c.in-Ok.handle) _ c.requires.valid c.in-Ok.ensures.kept c.in-Ok.ensures.grown (search rules);
-      few_cells = search rules;
+      few_cells = c.try_reserve.ensures.few;
     }
 
 pub returns : goal.returns
@@ -142,8 +149,8 @@ returns g c =
       first = none_before _ _ c.is_some.ensures c.if-is_some.false;
       second = rw (← c.key2.ensures) c.in-Vacant.ensures.made.missed;
       not_full = λ _ full. absurd (false≢true (ap is_err (c.in-Ok.ensures.full.1 full)));
-      index = (grind (arith, common_steps));
-      stored = (grind (arith, common_steps));
+      index = c.insert-ix.ensures.index ∙ ap next_index c.in-Ok.ensures.contents;
+      stored = grind (arith, common_steps);
       filed = rw (c.insert-ix.ensures.index, c.in-Ok.ensures.contents, c.try_reserve.ensures.contents) at c.insert_prehashed_unchecked.ensures.added;
       placed = let compare = g.T.Key2.Ord.cmp in
           AddsInPlace-prepared g.T.KeyedItem.second_key compare g.met.T.Key2.Ord.total c.args.items.now.store c.args.item

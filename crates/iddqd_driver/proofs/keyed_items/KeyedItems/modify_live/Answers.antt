@@ -30,6 +30,11 @@ returns-clause-keeps g c =
 pub returns-clause-memory : goal.returns-clause-memory
 returns-clause-memory g c = rw (← c.self.view_is)
 
-pub returns-in_err-item-clause-keeps : goal.returns-in_err-item-clause-keeps
-returns-in_err-item-clause-keeps g c =
-    rw (← c.self.view_is) (Keeps-same _ _ c.self.invariant _ refl)
+pub returns-in_err-item : goal.returns-in_err-item
+returns-in_err-item g c =
+    rw c.from_residual.ensures
+    (record {
+      modifies = rw (← c.self.view_is) (sym c.in_err-item.ensures.value, refl);
+      keeps = rw (← c.self.view_is) (Keeps-same _ _ c.self.invariant _ refl);
+      memory = rw (← c.self.view_is) refl;
+    })

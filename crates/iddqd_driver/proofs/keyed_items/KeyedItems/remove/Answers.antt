@@ -1,7 +1,7 @@
 use Rattle.iddqd_driver.proofs.KeyLemmas.{AreLawful-from_bounds}
 use Rattle.iddqd_driver.proofs.KeepsLemmas.{Keeps-same}
 use Rattle.std.proofs.Common.{refl}
-use Rattle.iddqd_driver.proofs.RemovalLemmas.{removed-paired, removed-removes, removed-keeps, removed-count, removed-memory, removed-room}
+use Rattle.iddqd_driver.proofs.RemovalLemmas.{none-removes, read-live, removed-paired, removed-removes, removed-keeps, removed-count, removed-memory, removed-room}
 use Rattle.iddqd_driver.proofs.keyed_items.KeyedItems.remove.Goals as goal
 
 pub invariant_of-self : goal.invariant_of-self
@@ -13,10 +13,6 @@ returns-clause-keeps g c =
     removed-keeps c.self.inside.state c.self.inside.items c.self.inside.filed c.self.inside.order c.args.self.now c.self.view_is c.self.invariant c.remove_item.new.items c.remove_index.new.table c.remove_item.new.order c.args.ix _ c.remove_item.ensures.item c.remove_item.ensures.removed c.remove_index.ensures.taken c.remove_item.ensures.taken _
     (AreLawful-from_bounds {item = g.T.KeyedItem} g.S.BuildHasher g.S.Hasher.Hasher g.met.T.Key1.PartialEq.laws
     g.met.T.Key1.Hash.respects_eq g.met.T.Key2.Ord.total)
-
-pub returns-in_err-item-clause-keeps : goal.returns-in_err-item-clause-keeps
-returns-in_err-item-clause-keeps g c =
-    rw (← c.self.view_is) (Keeps-same _ _ c.self.invariant _ refl)
 
 pub returns-clause-removes : goal.returns-clause-removes
 returns-clause-removes g c =
@@ -33,3 +29,15 @@ returns-clause-room g c =
 pub returns-clause-count : goal.returns-clause-count
 returns-clause-count g c =
     removed-count c.self.inside.state c.self.inside.items c.self.inside.filed c.self.inside.order c.args.self.now c.self.view_is c.self.invariant c.remove_item.new.items c.remove_index.new.table c.remove_item.new.order c.args.ix _ c.remove_item.ensures.item c.remove_item.ensures.removed c.remove_index.ensures.taken c.remove_item.ensures.taken
+
+pub returns-in_err-item : goal.returns-in_err-item
+returns-in_err-item g c =
+    rw c.from_residual.ensures
+    (record {
+      removes = none-removes c.self.inside.state c.self.inside.items c.self.inside.filed c.self.inside.order c.args.self.now c.self.view_is c.self.invariant c.args.ix _ c.in_err-item.ensures refl;
+      live = read-live c.self.inside.state c.self.inside.items c.self.inside.filed c.self.inside.order c.args.self.now c.self.view_is c.self.invariant c.args.ix _ c.in_err-item.ensures;
+      keeps = rw (← c.self.view_is) (Keeps-same _ _ c.self.invariant _ refl);
+      memory = refl;
+      room = tt;
+      count = tt;
+    })

@@ -5,20 +5,8 @@ use Rattle.iddqd_driver.specs.Keys.{keys_of}
 use Rattle.iddqd_driver.proofs.KeyLemmas.{AreLawful-from_bounds}
 use Rattle.iddqd_driver.proofs.QueryLemmas.{LooksUpBy-hashed}
 use Rattle.iddqd_driver.specs.Memory.{SizedState}
-use Rattle.iddqd_driver.proofs.RemovalLemmas.{kept-keeps, kept-state, removed-paired, removed-removes, removed-keeps, removed-count, removed-memory, removed-room}
+use Rattle.iddqd_driver.proofs.RemovalLemmas.{kept-memory, kept-keeps, kept-state, removed-paired, removed-removes, removed-keeps, removed-count, removed-memory, removed-room}
 use Rattle.iddqd_driver.proofs.keyed_items.KeyedItems.remove1_by.Goals as goal
-
-pub returns-in_err-ix-clause-removes : goal.returns-in_err-ix-clause-removes
-returns-in_err-ix-clause-removes g c =
-    let query = c.args.query in
-    let laws = g.met.Q.HashQuery in
-    let hash = hash_one g.S.BuildHasher g.S.Hasher.Hasher c.self.inside.state in
-    let looked = LooksUpBy-hashed
-    (keys_of g.T.KeyedItem g.T.Key1.PartialEq.eq g.T.Key1.Hash.hash_input g.T.Key2.Ord.cmp g.S.BuildHasher
-    g.S.Hasher.Hasher) _ _ (ap (λ (k : SizedState _ _). k.state) c.self.view_is) (g.Q.HashQuery.stands_for query) _ None
-    (λ key passed. c.query_hash-hash.ensures ∙ ap hash (laws.same_hash query key passed))
-    (laws.same_key query) c.in_err-ix.ensures.found in
-    rw c.from_residual.ensures (looked, kept-state c.self.inside.state c.self.inside.items c.self.inside.filed c.self.inside.order c.args.self.now c.self.view_is c.self.invariant c.take.new.table c.in_err-ix.ensures.taken)
 
 pub invariant_of-self-2 : goal.invariant_of-self-2
 invariant_of-self-2 g c =
@@ -57,6 +45,21 @@ pub returns-clause-count : goal.returns-clause-count
 returns-clause-count g c =
     removed-count c.self.inside.state c.self.inside.items c.self.inside.filed c.self.inside.order c.args.self.now c.self.view_is c.self.invariant c.remove_item.new.items c.take.new.table c.remove_item.new.order c.in_ok-ix.ix _ c.remove_item.ensures.item c.remove_item.ensures.removed c.in_ok-ix.ensures.taken c.remove_item.ensures.taken
 
-pub returns-in_err-ix-clause-keeps : goal.returns-in_err-ix-clause-keeps
-returns-in_err-ix-clause-keeps g c =
-    kept-keeps c.self.inside.state c.self.inside.items c.self.inside.filed c.self.inside.order c.args.self.now c.self.view_is c.self.invariant c.take.new.table c.in_err-ix.ensures.taken _
+pub returns-in_err-ix : goal.returns-in_err-ix
+returns-in_err-ix g c =
+    let query = c.args.query in
+    let laws = g.met.Q.HashQuery in
+    let hash = hash_one g.S.BuildHasher g.S.Hasher.Hasher c.self.inside.state in
+    let looked = LooksUpBy-hashed
+    (keys_of g.T.KeyedItem g.T.Key1.PartialEq.eq g.T.Key1.Hash.hash_input g.T.Key2.Ord.cmp g.S.BuildHasher
+    g.S.Hasher.Hasher) _ _ (ap (λ (k : SizedState _ _). k.state) c.self.view_is) (g.Q.HashQuery.stands_for query) _ None
+    (λ key passed. c.query_hash-hash.ensures ∙ ap hash (laws.same_hash query key passed))
+    (laws.same_key query) c.in_err-ix.ensures.found in
+    rw c.from_residual.ensures
+    (record {
+      removes = (looked, kept-state c.self.inside.state c.self.inside.items c.self.inside.filed c.self.inside.order c.args.self.now c.self.view_is c.self.invariant c.take.new.table c.in_err-ix.ensures.taken);
+      keeps = kept-keeps c.self.inside.state c.self.inside.items c.self.inside.filed c.self.inside.order c.args.self.now c.self.view_is c.self.invariant c.take.new.table c.in_err-ix.ensures.taken _;
+      memory = kept-memory c.self.inside.state c.self.inside.items c.self.inside.filed c.self.inside.order c.args.self.now c.self.view_is c.self.invariant c.take.new.table c.in_err-ix.ensures.memory;
+      room = tt;
+      count = tt;
+    })

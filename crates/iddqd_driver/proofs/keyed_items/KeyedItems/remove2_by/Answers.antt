@@ -9,19 +9,6 @@ use Rattle.iddqd_driver.proofs.KeepsLemmas.{Keeps-same}
 use Rattle.iddqd_driver.proofs.RemovalLemmas.{removed-paired, removed-removes, removed-keeps, removed-count, removed-memory, removed-room}
 use Rattle.iddqd_driver.proofs.keyed_items.KeyedItems.remove2_by.Goals as goal
 
-pub returns-in_err-ix-clause-removes : goal.returns-in_err-ix-clause-removes
-returns-in_err-ix-clause-removes g c =
-    let none : c.from_residual.result ≡ None = search (rules, c.from_residual.ensures) in
-    let comparing = g.Q.OrdQuery.compare c.args.query in
-    rw (← c.self.view_is, none, c.in_err-ix.ensures.taken) (
-      LooksUpBy-ordered
-          (keys_of g.T.KeyedItem g.T.Key1.PartialEq.eq g.T.Key1.Hash.hash_input g.T.Key2.Ord.cmp g.S.BuildHasher
-          g.S.Hasher.Hasher) _ comparing
-          (compares_as_key g.T.Key2.Ord.cmp g.met.T.Key2.Ord.total comparing (g.met.Q.OrdQuery.lawful c.args.query))
-          None c.in_err-ix.ensures.found,
-      refl,
-    )
-
 pub invariant_of-self-2 : goal.invariant_of-self-2
 invariant_of-self-2 g c =
     removed-paired c.self.inside.state c.self.inside.items c.self.inside.filed c.self.inside.order c.args.self.now c.self.view_is c.self.invariant c.take_item-item.new.items c.remove_index.new.table c.take.new.table c.in_ok-ix.ix _ c.take_item-item.ensures.item c.take_item-item.ensures.removed c.remove_index.ensures.taken c.in_ok-ix.ensures.taken
@@ -58,6 +45,21 @@ pub returns-clause-count : goal.returns-clause-count
 returns-clause-count g c =
     removed-count c.self.inside.state c.self.inside.items c.self.inside.filed c.self.inside.order c.args.self.now c.self.view_is c.self.invariant c.take_item-item.new.items c.remove_index.new.table c.take.new.table c.in_ok-ix.ix _ c.take_item-item.ensures.item c.take_item-item.ensures.removed c.remove_index.ensures.taken c.in_ok-ix.ensures.taken
 
-pub returns-in_err-ix-clause-keeps : goal.returns-in_err-ix-clause-keeps
-returns-in_err-ix-clause-keeps g c =
-    rw (← c.self.view_is, c.in_err-ix.ensures.taken) (Keeps-same _ _ c.self.invariant _ refl)
+pub returns-in_err-ix : goal.returns-in_err-ix
+returns-in_err-ix g c =
+    let comparing = g.Q.OrdQuery.compare c.args.query in
+    rw (← c.self.view_is, c.from_residual.ensures, c.in_err-ix.ensures.taken)
+    (record {
+      removes = (
+          LooksUpBy-ordered
+              (keys_of g.T.KeyedItem g.T.Key1.PartialEq.eq g.T.Key1.Hash.hash_input g.T.Key2.Ord.cmp g.S.BuildHasher
+              g.S.Hasher.Hasher) _ comparing
+              (compares_as_key g.T.Key2.Ord.cmp g.met.T.Key2.Ord.total comparing (g.met.Q.OrdQuery.lawful c.args.query))
+              None c.in_err-ix.ensures.found,
+          refl,
+        );
+      keeps = Keeps-same _ _ c.self.invariant _ refl;
+      memory = rw c.in_err-ix.ensures.memory refl;
+      room = tt;
+      count = tt;
+    })
