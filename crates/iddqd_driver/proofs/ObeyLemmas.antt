@@ -1,5 +1,5 @@
 -- The steps of a run, one command after the other, with what each leaves of the memory.
-use Rattle.std.proofs.Common.{◌≡◌, ◌∙◌, ◌≤◌, ℕ, List, [], ◌∷◌, ◌++◌, length, refl, sym, ap, arith, append_assoc, append-nil}
+use Rattle.std.proofs.Common.{◌≡◌, ◌∙◌, ◌+◌, ◌<◌, ◌≤◌, ℕ, List, [], ◌∷◌, ◌++◌, length, refl, sym, ap, arith, append_assoc, append-nil}
 use Rattle.std.specs.List.{All}
 use Rattle.std.proofs.lemmas.List.{nil_from_length}
 use Rattle.iddqd.specs.Store.{live_count}
@@ -74,3 +74,17 @@ pub yields_more :
     → (yielded ++ x ∷ []) ++ rest ≡ all
 yields_more yielded items rest all x next was =
     append_assoc yielded (x ∷ []) rest ∙ ap (λ xs. yielded ++ xs) (sym next) ∙ was
+
+-- there is room for what is left
+module _ {X : Type 0} (items rest : List X) (x : X) (next : items ≡ x ∷ rest) (held cap : ℕ) (room : held + length items ≤ cap)
+  where
+  pub room_for_one : held < cap
+  room_for_one = omega (arith, ap length next, room)
+
+  pub room_for_rest : (new_held new_cap : ℕ) → new_held ≡ held + 1 → new_cap ≡ cap → new_held + length rest ≤ new_cap
+  room_for_rest new_held new_cap more same = omega (arith, ap length next, room)
+
+pub room_for_all :
+    {X : Type 0} (items : List X) (wanted held cap : ℕ) → length items ≡ wanted → held ≡ 0 → wanted ≤ cap
+    → held + length items ≤ cap
+room_for_all items wanted held cap count none enough = omega (arith, count)

@@ -16,7 +16,8 @@ use Rattle.iddqd_driver.proofs.keyed_items.KeyedItems.replace.Goals as goal
 
 pub returns-then-is_some-clause-replaces : goal.returns-then-is_some-clause-replaces
 returns-then-is_some-clause-replaces g c =
-    let live : IsLive c.args.self.now.state.store c.args.ix = search (rules, c.get.ensures, c.if-is_none.false) in
+    let live : IsLive c.args.self.now.state.store c.args.ix =
+    rw (← c.self.view_is) (live_there c.get.result _ _ c.get.ensures c.is_none.ensures c.if-is_none.false) in
     let item = c.args.item in
     let keys : Keys g.row.T.Denot g.row.T-Key1.Denot g.row.T-Key2.Denot g.row.S.Denot =
     keys_of g.T.KeyedItem g.T.Key1.PartialEq.eq g.T.Key1.Hash.hash_input g.T.Key2.Ord.cmp g.S.BuildHasher g.S.Hasher.Hasher in

@@ -1,7 +1,7 @@
 use Rattle.std.proofs.Common.{◌∷◌, [], length, refl, ap, arith}
 use Rattle.std.proofs.lemmas.Grind.{common_steps}
 use Rattle.iddqd_driver.specs.State.{IsPaired}
-use Rattle.iddqd_driver.proofs.ObeyLemmas.{Obeyed-none, Obeyed-step, Obeyed-run, Obeyed-memory, yields_more}
+use Rattle.iddqd_driver.proofs.ObeyLemmas.{Obeyed-none, Obeyed-step, Obeyed-run, Obeyed-memory, yields_more, room_for_rest}
 use Rattle.iddqd_driver.proofs.keyed_items.KeyedItems.run.Goals as goal
 
 pub loop-command-init : goal.loop-command-init
@@ -20,13 +20,12 @@ pub loop-command-preserved : goal.loop-command-preserved
 loop-command-preserved g c =
     let before = c.loop-command.invariant in
     let next = c.in-Some.ensures.steps.0 in
-    let one = ap length next in
     record {
       can_next = tt;
       is_finite = tt;
       yielded = yields_more _ _ _ _ _ next before.yielded;
       obeyed = Obeyed-step _ _ _ _ _ before.obeyed _ _ _ _ c.step.ensures.step c.step.ensures.memory c.push_reserved.ensures.items;
-      room = omega (arith, before.room);
+      room = room_for_rest _ _ _ next _ _ before.room _ _ c.push_reserved.ensures.len c.push_reserved.ensures.capacity;
     }
 
 pub returns-clause-run : goal.returns-clause-run
