@@ -36,35 +36,35 @@ module _ {T S K1 K2 : Type 0} (keys : Keys T K1 K2 S) (old : SizedState T S) whe
 
   module _ (done : List (Command T K1 K2)) (replies : List (Reply T)) (now : SizedState T S) (before : Obeyed done replies now)
     where
-    pub Obeyed-step :
-        (command : Command T K1 K2) (reply : Reply T) (next : SizedState T S) (more : List (Reply T))
-        → Step keys now.state command reply next.state
-        → StepsInMemory now command reply next
-        → more ≡ replies ++ reply ∷ []
-        → Obeyed (done ++ command ∷ []) more next
-    Obeyed-step command reply next more step memory is = rw is
-        (record {
-          moments = before.moments ++ next.state ∷ [];
-          chain = IsStepChain-push keys before.chain step;
-          no_lower = IsNoLower-after _ _ _ before.no_lower memory.no_lower;
-          served = IsServedBelow-step keys {old = old} {mid = now} {new = next} before.chain before.no_lower before.served memory;
-          few = TakesForOne-step keys {old = old} {mid = now} {new = next} before.chain before.few memory;
-        })
+      pub Obeyed-step :
+          (command : Command T K1 K2) (reply : Reply T) (next : SizedState T S) (more : List (Reply T))
+          → Step keys now.state command reply next.state
+          → StepsInMemory now command reply next
+          → more ≡ replies ++ reply ∷ []
+          → Obeyed (done ++ command ∷ []) more next
+      Obeyed-step command reply next more step memory is = rw is
+          (record {
+            moments = before.moments ++ next.state ∷ [];
+            chain = IsStepChain-push keys before.chain step;
+            no_lower = IsNoLower-after _ _ _ before.no_lower memory.no_lower;
+            served = IsServedBelow-step keys {old = old} {mid = now} {new = next} before.chain before.no_lower before.served memory;
+            few = TakesForOne-step keys {old = old} {mid = now} {new = next} before.chain before.few memory;
+          })
 
-    -- all commands were obeyed
-    module _
-        (commands left : List (Command T K1 K2)) (all : done ++ left ≡ commands) (none : length left ≡ 0)
-        (paired : IsPaired old.state)
-      where
-      whole : done ≡ commands
-      whole = sym (append-nil done) ∙ ap (λ rest. done ++ rest) (sym (nil_from_length left none)) ∙ all
+      -- all commands were obeyed
+      module _
+          (commands left : List (Command T K1 K2)) (all : done ++ left ≡ commands) (none : length left ≡ 0)
+          (paired : IsPaired old.state)
+        where
+          whole : done ≡ commands
+          whole = sym (append-nil done) ∙ ap (λ rest. done ++ rest) (sym (nil_from_length left none)) ∙ all
 
-      pub Obeyed-run : Run keys old.state commands replies now.state
-      Obeyed-run = Run-from_chain keys {moments = before.moments} (rw whole at before.chain) paired
+          pub Obeyed-run : Run keys old.state commands replies now.state
+          Obeyed-run = Run-from_chain keys {moments = before.moments} (rw whole at before.chain) paired
 
-      pub Obeyed-memory : RunsInMemory keys old commands replies now
-      Obeyed-memory =
-          RunsInMemory-from_chain keys {old = old} {new = now} {moments = before.moments} (rw whole at before.chain) paired before.no_lower before.served before.few
+          pub Obeyed-memory : RunsInMemory keys old commands replies now
+          Obeyed-memory =
+              RunsInMemory-from_chain keys {old = old} {new = now} {moments = before.moments} (rw whole at before.chain) paired before.no_lower before.served before.few
 
 -- an iteration yields one more
 pub yields_more :
@@ -78,11 +78,11 @@ yields_more yielded items rest all x next was =
 -- there is room for what is left
 module _ {X : Type 0} (items rest : List X) (x : X) (next : items ≡ x ∷ rest) (held cap : ℕ) (room : held + length items ≤ cap)
   where
-  pub room_for_one : held < cap
-  room_for_one = omega (arith, ap length next, room)
+    pub room_for_one : held < cap
+    room_for_one = omega (arith, ap length next, room)
 
-  pub room_for_rest : (new_held new_cap : ℕ) → new_held ≡ held + 1 → new_cap ≡ cap → new_held + length rest ≤ new_cap
-  room_for_rest new_held new_cap more same = omega (arith, ap length next, room)
+    pub room_for_rest : (new_held new_cap : ℕ) → new_held ≡ held + 1 → new_cap ≡ cap → new_held + length rest ≤ new_cap
+    room_for_rest new_held new_cap more same = omega (arith, ap length next, room)
 
 pub room_for_all :
     {X : Type 0} (items : List X) (wanted held cap : ℕ) → length items ≡ wanted → held ≡ 0 → wanted ≤ cap

@@ -51,13 +51,13 @@ returns-in_err-ix g c =
     rw (← c.self.view_is, c.from_residual.ensures, c.in_err-ix.ensures.taken)
     (record {
       removes = (
-          LooksUpBy-ordered
-              (keys_of g.T.KeyedItem g.T.Key1.PartialEq.eq g.T.Key1.Hash.hash_input g.T.Key2.Ord.cmp g.S.BuildHasher
-              g.S.Hasher.Hasher) _ comparing
-              (compares_as_key g.T.Key2.Ord.cmp g.met.T.Key2.Ord.total comparing (g.met.Q.OrdQuery.lawful c.args.query))
-              None c.in_err-ix.ensures.found,
-          refl,
-        );
+        LooksUpBy-ordered
+            (keys_of g.T.KeyedItem g.T.Key1.PartialEq.eq g.T.Key1.Hash.hash_input g.T.Key2.Ord.cmp g.S.BuildHasher
+            g.S.Hasher.Hasher) _ comparing
+            (compares_as_key g.T.Key2.Ord.cmp g.met.T.Key2.Ord.total comparing (g.met.Q.OrdQuery.lawful c.args.query))
+            None c.in_err-ix.ensures.found,
+        refl,
+      );
       keeps = Keeps-same _ _ c.self.invariant _ refl;
       memory = rw c.in_err-ix.ensures.memory refl;
       room = tt;

@@ -76,7 +76,7 @@ pub returns-in-Overwrite : goal.returns-in-Overwrite
 returns-in-Overwrite g c =
     rw c.in-Overwrite.is
     (record {
-      step = record { answers = c.overwrite.ensures.overwrites; paired = c.overwrite.ensures.keeps.paired; first_keys = record { keeps = c.overwrite.ensures.keeps.first_keys; as_scan = λ _. tt }; second_keys = record { keeps = c.overwrite.ensures.keeps.second_keys; as_scan = λ _. tt }; };
+      step = record { answers = c.overwrite.ensures.overwrites; paired = c.overwrite.ensures.keeps.paired; first_keys = record { keeps = c.overwrite.ensures.keeps.first_keys; as_scan = λ _. tt }; second_keys = record { keeps = c.overwrite.ensures.keeps.second_keys; as_scan = λ _. tt } };
       memory = StepsInMemory-kept _ _ _ _ c.overwrite.ensures.memory (λ never. never);
     })
 

@@ -64,8 +64,8 @@ pub returns-in-Yes : goal.returns-in-Yes
 returns-in-Yes g c =
     let allowed : Allows c.args.compactness (length c.args.self.now.state.store.free) = rw (← c.self.view_is) (c.in_ok-validate.ensures.allows.0 refl) in
     let told =
-      Validates-also _ (Allows c.args.compactness (length c.args.self.now.state.store.free)) _
-      (AreStored-paired (state_of c.self.inside.state c.self.inside.items.store c.self.inside.filed c.self.inside.order) c.self.invariant) allowed c.check_stored.ensures in
+    Validates-also _ (Allows c.args.compactness (length c.args.self.now.state.store.free)) _
+    (AreStored-paired (state_of c.self.inside.state c.self.inside.items.store c.self.inside.filed c.self.inside.order) c.self.invariant) allowed c.check_stored.ensures in
     record {
       paired = rw (← c.self.view_is) c.self.invariant;
       allowed = λ _. allowed;

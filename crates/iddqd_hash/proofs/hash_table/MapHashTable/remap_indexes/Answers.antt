@@ -1,7 +1,7 @@
 use Rattle.std.proofs.Common.{rules}
-use Rattle.iddqd.specs.Compaction.{CanRemap, remapped}
+use Rattle.iddqd.specs.Compaction.{remapped}
 use Rattle.iddqd_hash.specs.MapHashTable.{filed}
-use Rattle.iddqd_hash.proofs.RenameLemmas.{filed_from_value, distinct_renamed, Renames-from_rewrites}
+use Rattle.iddqd_hash.proofs.RenameLemmas.{distinct_renamed, Renames-from_rewrites}
 use Rattle.iddqd_hash.proofs.hash_table.MapHashTable.remap_indexes.Goals as goal
 
 pub invariant_of-self : goal.invariant_of-self

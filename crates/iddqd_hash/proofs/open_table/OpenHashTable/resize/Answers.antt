@@ -1,10 +1,7 @@
-use Rattle.std.proofs.Common.{◌≡◌, ◌∙◌, ◌≤◌, None, length, replicate, sym, ap, arith}
+use Rattle.std.proofs.Common.{◌≡◌, ◌∙◌, None, length, replicate, sym, ap, arith}
 use Rattle.std.proofs.lemmas.Grind.{common_steps}
-use Rattle.std.proofs.lemmas.List.{with_items_is}
-use Rattle.std.proofs.lemmas.List.Sorted.{length_permutation}
-use Rattle.iddqd_hash.specs.OpenTable.{usable_of, slots_of, pairs}
+use Rattle.iddqd_hash.specs.OpenTable.{slots_of}
 use Rattle.iddqd_hash.proofs.OpenCellLemmas.{cells_long}
-use Rattle.iddqd_hash.proofs.OpenTableLemmas.{entries-table_of, room-table_of, memory-table_of, IsSound-placed}
 use Rattle.iddqd_hash.proofs.OpenResizeLemmas.{resize-fits, resize-sound, resize-contents, resize-room, resize-memory}
 use Rattle.iddqd_hash.proofs.open_table.OpenHashTable.resize.Goals as goal
 

@@ -1,11 +1,8 @@
-use Rattle.std.proofs.Common.{◌≡◌, ◌∙◌, length, ap, sym, arith}
-use Rattle.std.proofs.lemmas.List.{with_items_is}
+use Rattle.std.proofs.Common.{sym}
 use Rattle.std.specs.Fn.{TakesAt, CalledAt}
-use Rattle.iddqd_hash.specs.OpenTable.{slots_of}
 use Rattle.iddqd_hash.proofs.AskLemmas.{CanAsk-joined}
 use Rattle.iddqd_hash.proofs.OpenAheadLemmas.{IsMultipleOf16-count}
-use Rattle.iddqd_hash.proofs.OpenCellLemmas.{cells_long}
-use Rattle.iddqd_hash.proofs.OpenTableLemmas.{entries-table_of, fits_from, IsSound-retained, KeepsMemory-table_of}
+use Rattle.iddqd_hash.proofs.OpenTableLemmas.{entries-table_of}
 use Rattle.iddqd_hash.proofs.OpenResizeLemmas.{retain-few, retain-sound, retain-kept, retain-memory}
 use Rattle.iddqd_hash.proofs.open_table.OpenHashTable.retain_asked.Goals as goal
 

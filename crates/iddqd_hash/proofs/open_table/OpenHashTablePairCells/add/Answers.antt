@@ -1,4 +1,4 @@
-use Rattle.std.proofs.Common.{◌≡◌, ◌<◌, refl, sym, arith}
+use Rattle.std.proofs.Common.{sym}
 use Rattle.iddqd_hash.proofs.OpenAddLemmas.{Rebuilt, Rebuilt-by, add-power, add-fits, add-power-now, add-ends, add-used-fits, add-len-fits, put-long, put-free, put-sound, put-pair, put-entries, put-memory}
 use Rattle.iddqd_hash.proofs.open_table.OpenHashTablePairCells.add.Goals as goal
 use Rattle.iddqd_hash.proofs.open_table.OpenHashTablePairCells.add.Goals.{After-rebuild_at_limit-self-inside}

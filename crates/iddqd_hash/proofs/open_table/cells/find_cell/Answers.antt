@@ -1,5 +1,4 @@
 use Rattle.std.proofs.Common.{refl}
-use Rattle.std.proofs.lemmas.Grind.{common_steps}
 use Rattle.std.specs.Fn.{TakesAt, CalledAt}
 use Rattle.iddqd_hash.proofs.OpenFindLemmas.{home_inside, Trying-start, Trying-missed, Trying-inside, Trying-full, Trying-value, Trying-takes, Trying-hit, Trying-next, Trying-smaller}
 use Rattle.iddqd_hash.proofs.open_table.cells.find_cell.Goals as goal

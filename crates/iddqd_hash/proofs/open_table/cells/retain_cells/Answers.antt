@@ -1,6 +1,5 @@
 use Rattle.std.proofs.Common.{◌∙◌, refl, sym}
-use Rattle.std.specs.Fn.{TakesAt, CalledAt}
-use Rattle.iddqd_hash.specs.OpenTable.{slots_of}
+use Rattle.std.specs.Fn.{TakesAt}
 use Rattle.iddqd_hash.proofs.OpenCellLemmas.{cells_long}
 use Rattle.iddqd_hash.proofs.OpenVisitLemmas.{Retaining-start, Retaining-sixteens, Retaining-some, Retaining-end, Retaining-full, Retaining-takes, Retaining-fits, Retaining-keep, Retaining-drop}
 use Rattle.iddqd_hash.proofs.open_table.cells.retain_cells.Goals as goal
