@@ -1,4 +1,4 @@
-use Rattle.std.proofs.Common.{rules, inl, inr, ◌≡◌, None, is_err, is_some, true, false, refl, sym, ◌∙◌, ap, arith}
+use Rattle.std.proofs.Common.{rules, inl, inr, ◌≡◌, is_err, refl, sym, ◌∙◌, ap, arith}
 use Rattle.std.proofs.lemmas.Grind.{common_steps}
 use Rattle.std.proofs.lemmas.Bool.{false≢true}
 use Rattle.iddqd.specs.GrowHandle.{handle_set}
@@ -8,7 +8,7 @@ use Rattle.iddqd_order.specs.MapBTreeTable.{order_of}
 use Rattle.iddqd_by_order.proofs.OrderedHoldsLemmas.{next_absent}
 use Rattle.iddqd_by_order.proofs.OrderedPlaceLemmas.{AddsInPlace-prepared}
 use Rattle.iddqd_driver.proofs.InsertLemmas.{none_before, not_both_errors}
-use Rattle.iddqd_driver.proofs.MemoryLemmas.{not_more, not_more_by, few_slots, few_slots_by, few_cells, InsertsInParts-stored}
+use Rattle.iddqd_driver.proofs.MemoryLemmas.{not_more, not_more_by, few_slots_by, few_cells, InsertsInParts-stored}
 use Rattle.iddqd_driver.proofs.keyed_items.insert_item.Goals as goal
 
 pub prepare-requires-clause-absent : goal.prepare-requires-clause-absent

@@ -1,4 +1,4 @@
-use Rattle.std.proofs.Common.{rules, ◌≡◌, ◌∙◌, Some, None, refl, ap, arith}
+use Rattle.std.proofs.Common.{◌∙◌, Some, None, ap, arith}
 use Rattle.std.proofs.lemmas.Grind.{common_steps}
 use Rattle.iddqd.specs.MapHash.{hash_one}
 use Rattle.iddqd_driver.specs.Keys.{keys_of}

@@ -1,4 +1,4 @@
-use Rattle.std.proofs.Common.{◌≡◌, refl, arith}
+use Rattle.std.proofs.Common.{◌≡◌, refl}
 use Rattle.std.specs.Fn.{TakesAt, CalledAt}
 use Rattle.iddqd_by_hash.proofs.RetainLemmas.{MayAskInTurn-asks, RetainsTo-fewer}
 use Rattle.iddqd_driver.specs.State.{state_of}

@@ -1,4 +1,4 @@
-use Rattle.std.proofs.Common.{◌∷◌, [], length, refl, ap, arith}
+use Rattle.std.proofs.Common.{length, ap, arith}
 use Rattle.std.proofs.lemmas.Grind.{common_steps}
 use Rattle.iddqd_driver.specs.State.{IsPaired}
 use Rattle.iddqd_driver.proofs.ObeyLemmas.{Obeyed-none, Obeyed-step, Obeyed-run, Obeyed-memory, yields_more, room_for_rest}

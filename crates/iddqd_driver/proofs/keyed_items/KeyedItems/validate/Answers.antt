@@ -1,5 +1,4 @@
-use Rattle.std.proofs.Common.{◌∙◌, length, IfErr, refl, sym, subst, arith}
-use Rattle.std.proofs.lemmas.Grind.{common_steps}
+use Rattle.std.proofs.Common.{◌∙◌, length, IfErr, refl, sym, subst}
 use Rattle.std.proofs.lemmas.Result.{err_from_is_err_and}
 use Rattle.iddqd.specs.Validation.{Allows, AreAsExpected, IsMemory}
 use Rattle.iddqd_hash.specs.MapHashTable.{indexes_of}
