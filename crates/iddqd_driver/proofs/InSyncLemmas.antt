@@ -1,5 +1,5 @@
 -- What a check by keys finds: that first keys are filed alone under their hashes, and that second keys rise.
-use Rattle.std.proofs.Common.{◌≡◌, ◌∙◌, ◌+◌, ◌<◌, ◌⊎◌, inl, inr, ℕ, Bool, true, List, [], ◌∷◌, length, get_or, Some, Result, Ok, Err, IsOk, IfErr, refl, sym, ap, subst, Ordering, arith}
+use Rattle.std.proofs.Common.{◌≡◌, ◌∙◌, ◌+◌, ◌<◌, ◌⊎◌, inl, inr, ℕ, Bool, true, List, [], ◌∷◌, length, get_or, Some, IsSome, Result, Ok, Err, IsOk, IfErr, refl, sym, ap, subst, Ordering, arith}
 use Rattle.std.specs.Cmp.{IsTotalOrder, Equal-is, nat_cmp_total, eq_by_cmp_equiv}
 use Rattle.std.specs.Cmp.Lexicographic.{options_total}
 use Rattle.std.specs.List.{Contains}
@@ -22,6 +22,7 @@ use Rattle.iddqd.proofs.LiveLemmas.{item_at, live_at}
 use Rattle.iddqd.proofs.StoreLemmas.{contains_cases, contains_head, contains_none, contains_tail}
 use Rattle.iddqd_hash.specs.MapHashTable.{indexes_under}
 use Rattle.iddqd_hash.proofs.FiledLemmas.{filed_from_under, under_from_filed}
+use Rattle.iddqd_hash.proofs.MemberLemmas.{filed_at}
 use Rattle.iddqd_keys.specs.KeyWalk.{key_at, IsInPlace}
 use Rattle.iddqd_keys.specs.AnyTable.{HasDistinctKeys}
 use Rattle.iddqd_keys.specs.Scan.{IsHit, passes_by}
@@ -63,6 +64,10 @@ module _ {T : Type 0} (s : Store T) (hashes : FinMap nat_cmp ℕ) (hash : ℕ) (
 
   pub Searched-head : (at : ℕ) (rest : List ℕ) → Searched (at ∷ rest) → finite.get hashes at ≡ Some hash
   Searched-head at rest before = before.under at (contains_head at rest)
+
+  -- the index that is next is filed
+  pub next_is_filed : (at : ℕ) (all rest : List ℕ) → all ≡ at ∷ rest → Searched all → IsSome (finite.get hashes at)
+  next_is_filed at all rest is left = filed_at _ hash (Searched-head at rest (rw is at left))
 
   pub HasLesserHit-found :
       (at : ℕ)

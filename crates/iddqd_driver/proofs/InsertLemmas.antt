@@ -1,9 +1,11 @@
 -- What an insert answers and keeps, from its two look-ups and from what entering the item did.
-use Rattle.std.proofs.Common.{◌≡◌, ℕ, List, Result, Ok, Err, refl, sym, subst}
+use Rattle.std.proofs.Common.{◌≡◌, ◌∙◌, ℕ, Bool, false, List, Option, Some, None, is_some, Result, Ok, Err, refl, sym, subst}
+use Rattle.std.proofs.lemmas.Bool.{false≢true}
 use Rattle.std.specs.Ordering.{nat_cmp}
 use Rattle.std.specs.FinMap as finite
 use Rattle.std.specs.FinMap.{FinMap}
 use Rattle.std.specs.Result.{IsOk, IfOk, OnOk, OnErr}
+use Rattle.iddqd.specs.declared.item_set.GrowError.{GrowError}
 use Rattle.iddqd.specs.Store.{Store, IsFull, next_index, inserted}
 use Rattle.iddqd_by_order.specs.Ordered.{AddsInPlace}
 use Rattle.iddqd_driver.specs.Keys.{Keys}
@@ -46,3 +48,12 @@ module _ {T S K1 K2 : Type 0} (keys : Keys T K1 K2 S) (s : State T S) (item : T)
       subst (Keeps keys s) (sym stored.state)
       (Keeps-inserted_state keys s paired lawful item order stored.not_full first.found second adds)
   Keeps-from_stored lawful paired (Err refusal) first second stored adds same = Keeps-same keys s paired new same
+
+-- a look-up that found nothing returned none
+pub none_before : (found : Option ℕ) (some : Bool) → some ≡ is_some found → some ≡ false → None ≡ found
+none_before None some is never = refl
+none_before (Some ix) some is never = absurd (false≢true (sym never ∙ is))
+
+pub not_both_errors : {A : Type 0} (r : Result A GrowError) → r ≡ Err GrowError.Full → r ≡ Err GrowError.Memory → ⊥
+not_both_errors r full memory =
+    let same = sym full ∙ memory in absurd (cc)

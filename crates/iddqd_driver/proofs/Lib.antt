@@ -3,8 +3,10 @@ pub mod KeepsLemmas
 pub mod InsertLemmas
 pub mod StepLemmas
 pub mod RunLemmas
+pub mod ObeyLemmas
 pub mod ValidationLemmas
 pub mod InSyncLemmas
+pub mod FoundLemmas
 pub mod QueryLemmas
 pub mod WalkLemmas
 pub mod ReplacementLemmas
@@ -12,5 +14,6 @@ pub mod ModifyLemmas
 pub mod RetainLemmas
 pub mod MemoryLemmas
 pub mod CountLemmas
+pub mod RemovalLemmas
 pub mod CloneLemmas
 pub mod EqualityLemmas

@@ -7,21 +7,21 @@ use Rattle.std.specs.Cmp.{nat_cmp_total}
 use Rattle.std.proofs.lemmas.Bool.{cases_lt}
 use Rattle.std.proofs.lemmas.Cmp.{tied_itself}
 use Rattle.std.proofs.lemmas.List.{length-map}
-use Rattle.iddqd.specs.Store.{IsValid, live_count, slot_count}
+use Rattle.iddqd.specs.Store.{Store, IsValid, live_count, slot_count}
 use Rattle.iddqd.specs.ItemSet.{SizedStore, room as set_room}
 use Rattle.iddqd.specs.Sizes.{doubled}
 use Rattle.iddqd.proofs.LiveCountLemmas.{live_count-inserted, live_count-removed}
-use Rattle.iddqd_hash.specs.HashTable.{Table, entries, capacity as hashed_capacity, memory as hashed_cells, room as hashed_room}
+use Rattle.iddqd_hash.specs.HashTable.{Table, UsesRoom, entries, capacity as hashed_capacity, memory as hashed_cells, room as hashed_room}
 use Rattle.iddqd_hash.specs.MapHashTable.{filed, filed_from, swapped, indexes_of}
 use Rattle.iddqd_hash.specs.Sizes as hash_sizes
-use Rattle.iddqd_hash.specs.Sizes.{most_cells}
+use Rattle.iddqd_hash.specs.Sizes.{most_cells, Reserves}
 use Rattle.iddqd_order.specs.MapBTreeTable.{Order, order_of, capacity as ordered_capacity, room as order_room, capacity_for}
 use Rattle.iddqd_order.specs.Sizes as order_sizes
 use Rattle.iddqd_by_order.proofs.OrderedCountLemmas.{length-held}
 use Rattle.iddqd_driver.specs.Keys.{Keys}
-use Rattle.iddqd_driver.specs.State.{State, IsPaired}
+use Rattle.iddqd_driver.specs.State.{State, state_of, IsPaired}
 use Rattle.iddqd_driver.specs.Machine.{Removes, StoresAt}
-use Rattle.iddqd_driver.specs.Memory.{Memory, SizedState, IsNoLower, InsertsInMemory, HasRoomInParts, ReservesInMemory, ShrinksInMemory, sized_of, capacity, room, reservable}
+use Rattle.iddqd_driver.specs.Memory.{Memory, SizedState, IsNoLower, InsertsInMemory, HasRoomInParts, memory_of, ReservesInMemory, ShrinksInMemory, sized_of, capacity, room, reservable}
 use Rattle.iddqd_driver.specs.declared.keyed_items.InsertRefusal.{InsertRefusal}
 use Rattle.iddqd_driver.proofs.KeepsLemmas.{Holds-order}
 use Rattle.iddqd_driver.proofs.ValidationLemmas.{filed_has_live_indexes}
@@ -39,6 +39,17 @@ IsNoLower-after old mid new first second = record {
   cells = omega arith;
   ordered = omega arith;
 }
+
+-- a store and two tables that hold what they held are paired
+pub paired_still :
+    {T S : Type 0} (hasher : S) (store new_store : Store T) (table new_table : Table ℕ) (order new_order : Order)
+    → IsPaired (state_of hasher store table order)
+    → new_store ≡ store
+    → filed new_table ≡ filed table
+    → order_of new_order ≡ order_of order
+    → IsPaired (state_of hasher new_store new_table new_order)
+paired_still hasher store new_store table new_table order new_order paired stored hashed ordered =
+    rw (stored, hashed, ordered) paired
 
 -- ---- how much a table of no index can hold
 
@@ -156,6 +167,67 @@ few_slots old new valid kept grown = elim (none_or_some (set_room old)) [
     none_or_some : (n : ℕ) → (n ≡ 0) ⊎ (1 ≤ n)
     none_or_some zero = inl refl
     none_or_some (suc n) = inr (omega arith)
+
+pub none_wanted : (wanted items most : ℕ) → wanted ≡ min items most → items ≡ 0 → wanted ≡ 0
+none_wanted wanted items most is none = omega arith
+
+pub none_fits : (wanted items most free : ℕ) → wanted ≡ min items most → items ≡ 0 → wanted ≤ free
+none_fits wanted items most free is none = omega arith
+
+-- a number is at most the greater of it and another
+pub not_more : (n more : ℕ) → n ≤ max n more
+not_more n more = omega arith
+
+pub not_more_by : (new old more : ℕ) → new ≡ old → new ≤ max old more
+not_more_by new old more same = omega arith
+
+-- an insert into a store and two tables, which grew first
+pub InsertsInParts-stored :
+    {T U E : Type 0} (items grown : SizedStore T) (slots : ℕ) (table mid_table new_table : Table ℕ) (order : Order)
+    (ordered : ℕ) (r : Result U E) (ix : ℕ)
+    → items.capacity ≤ grown.capacity
+    → (1 ≤ set_room items → grown ≡ items)
+    → slots ≡ grown.capacity
+    → Reserves 1 table r mid_table
+    → hashed_capacity table ≤ hashed_capacity mid_table
+    → hashed_capacity table ≡ finite.len (filed table) + hashed_room table
+    → UsesRoom mid_table new_table
+    → ordered ≡ ordered_capacity order
+    → InsertsInMemory {T = T}
+    (HasRoomInParts items table order)
+    (memory_of items table order)
+    (Ok ix)
+    (record { slots = slots; hashed = hashed_capacity new_table; cells = hashed_cells new_table; ordered = ordered })
+InsertsInParts-stored items grown slots table mid_table new_table order ordered r ix more kept slots-is reserves held counted used ordered-is =
+    record {
+      no_lower = record {
+        slots = omega (arith, more, slots-is);
+        hashed = omega (arith, held, used.same_capacity);
+        cells = omega (arith, reserves.memory_stays, used.same_memory);
+        ordered = omega (arith, ordered-is);
+      };
+      same_ordered = ordered-is;
+      refused_early = tt;
+      had_room = λ parts.
+          let room : 1 ≤ hashed_room table = omega (arith, parts.hashed, counted) in
+          let mid : mid_table ≡ table = (reserves.had_room room).1 in
+          let same : grown ≡ items = kept parts.slots in
+          rw (slots-is, used.same_capacity, used.same_memory, ordered-is, mid, same) refl;
+      not_refused = λ _. tt;
+    }
+
+pub few_cells :
+    (old mid new few : ℕ) → mid ≤ max old few → new ≡ mid → new ≤ max old few
+few_cells old mid new few most same = omega (arith, most, same)
+
+pub few_slots_by :
+    {T : Type 0} (old grown : SizedStore T) (slots : ℕ)
+    → IsValid old.store
+    → (1 ≤ set_room old → grown ≡ old)
+    → (set_room old ≡ 0 → grown.capacity ≡ doubled old)
+    → slots ≡ grown.capacity
+    → slots ≤ max old.capacity (min old.store.limit (max 4 (2 * live_count old.store)))
+few_slots_by old grown slots valid kept grows same = rw same (few_slots old grown valid kept grows)
 
 -- ---- memory taken ahead
 

@@ -1,6 +1,6 @@
 -- What the removal of live indexes leaves, one after the other, and that a store without them and two tables that have
 -- its live indexes alone are that.
-use Rattle.std.proofs.Common.{◌≡◌, ◌∙◌, ◌==◌, ◌≤◌, ◌+◌, ◌⊎◌, inl, inr, ℕ, List, [], ◌∷◌, filter, cond, not, Bool, true, false, Some, None, is_some, refl, sym, ap, subst, eqb-true, arith, Contains}
+use Rattle.std.proofs.Common.{◌≡◌, ◌∙◌, ◌==◌, ◌≤◌, ◌+◌, ◌-◌, ◌⊎◌, inl, inr, ℕ, List, [], ◌∷◌, filter, cond, not, Bool, true, false, Some, None, is_some, refl, sym, ap, subst, eqb-true, arith, Contains}
 use Rattle.std.specs.Ordering.{nat_cmp}
 use Rattle.std.specs.FinMap as finite
 use Rattle.std.specs.FinMap.{FinMap}
@@ -202,3 +202,11 @@ module _
         → live_count old.state.store ≤ capacity old
         → room new ≡ room old + removed
     room-more removed count within = let same = capacity-same in omega (arith, same, count, within)
+
+-- how many items were removed, from how many there were before and after
+module _ (before after old new : ℕ) (was : before ≡ old) (is : after ≡ new) (fewer : new ≤ old) where
+  pub no_more_after : after ≤ before
+  no_more_after = omega arith
+
+  pub removed_and_left : (before - after) + new ≡ old
+  removed_and_left = omega arith

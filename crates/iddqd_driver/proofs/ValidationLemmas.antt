@@ -1,5 +1,5 @@
 -- What a check of keyed items finds, where store and tables are paired.
-use Rattle.std.proofs.Common.{◌≡◌, ◌⊎◌, inl, inr, ◌∙◌, ◌↔◌, ◌&&◌, ℕ, Bool, true, false, nat_eq, List, [], ◌∷◌, map, length, Option, Some, None, IsSome, is_some, Result, Ok, Err, IsErr, IfErr, not, eq-eqb, refl, sym, ap, subst, T as Holds}
+use Rattle.std.proofs.Common.{◌≡◌, ◌⊎◌, inl, inr, ◌∙◌, ◌↔◌, ◌&&◌, ℕ, Bool, true, false, nat_eq, List, [], ◌∷◌, map, length, Option, Some, None, IsSome, is_some, Result, Ok, Err, IsErr, IsOk, IfOk, IfErr, not, eq-eqb, refl, sym, ap, subst, T as Holds}
 use Rattle.std.specs.Borrow.{Bor}
 use Rattle.std.specs.Cmp.{nat_cmp_total, eq_by_cmp_equiv}
 use Rattle.std.specs.List.{AllByRecursion, Contains, IsDistinct, list_any}
@@ -13,6 +13,7 @@ use Rattle.std.proofs.lemmas.Bool.{false≢true}
 use Rattle.std.proofs.lemmas.Cmp.{tied_itself}
 use Rattle.std.proofs.lemmas.Map.Keys.{IsDistinct-cons}
 use Rattle.std.proofs.lemmas.Map.Views.{list_any-from_Contains, Contains-from_any}
+use Rattle.iddqd.specs.declared.internal.ValidateChaos.{ValidateChaos}
 use Rattle.iddqd.specs.declared.internal.ValidateCompact.{ValidateCompact}
 use Rattle.iddqd.specs.declared.internal.ValidateRefusal.{ValidateRefusal}
 use Rattle.iddqd.specs.declared.internal.ValidateRefusal.TheVariants.{Invalid, Memory}
@@ -27,7 +28,7 @@ use Rattle.iddqd_keys.specs.Scan.{IsHit, AnswersScan}
 use Rattle.iddqd_by_order.specs.Ordered as ordered
 use Rattle.iddqd_by_order.proofs.OrderedCountLemmas.{AreAsExpected-listed}
 use Rattle.iddqd_driver.specs.State.{State, IsPaired}
-use Rattle.iddqd_driver.specs.Validation.{with_table_name}
+use Rattle.iddqd_driver.specs.Validation.{AreStored, with_table_name}
 use Rattle.iddqd_driver.proofs.KeepsLemmas.{Holds-order}
 
 -- A walk over the live items has these left, and the others pass: each that is left is live, and each live one is left
@@ -156,6 +157,42 @@ pub Validates-refused :
 Validates-refused sound (Ok passed) refused memory = absurd (cc)
 Validates-refused sound (Err (Invalid error)) refused memory = absurd memory
 Validates-refused sound (Err (Memory error)) refused memory = tt
+
+-- so will no refusal
+pub Validates-or_memory :
+    {E : Type 0} (sound : Type 0) (answer : Result (Unit {0}) (ValidateRefusal E))
+    → sound
+    → IfErr answer IsMemory
+    → Validates sound answer
+Validates-or_memory sound (Ok passed) holds memory = holds
+Validates-or_memory sound (Err (Invalid error)) holds memory = absurd memory
+Validates-or_memory sound (Err (Memory error)) holds memory = tt
+
+-- a check of what holds says of anything else that holds what it says
+pub Validates-also :
+    {E : Type 0} (sound other : Type 0) (answer : Result (Unit {0}) (ValidateRefusal E))
+    → sound
+    → other
+    → Validates sound answer
+    → Validates other answer
+Validates-also sound other (Ok passed) holds also validates = also
+Validates-also sound other (Err (Invalid error)) holds also validates = absurd (validates holds)
+Validates-also sound other (Err (Memory error)) holds also validates = tt
+
+pub not_ok : {A E : Type 0} (answer : Result A E) → IsErr answer → IsOk answer → ⊥
+not_ok (Ok value) refused passed = false≢true refused
+not_ok (Err error) refused passed = false≢true passed
+
+pub not_made : {A E : Type 0} (answer : Result A E) (P : A → Type 0) → IsErr answer → IfOk answer P
+not_made (Ok value) P refused = absurd (false≢true refused)
+not_made (Err error) P refused = tt
+
+pub one_way : (chaos : ValidateChaos) → chaos ≡ ValidateChaos.Yes → chaos ≡ ValidateChaos.No → ⊥
+one_way chaos scans keys = let same : ValidateChaos.Yes ≡ ValidateChaos.No = sym scans ∙ keys in absurd (cc)
+
+-- in a paired state both tables have each live index
+pub AreStored-paired : {T S : Type 0} (s : State T S) → IsPaired s → AreStored s.store s.filed s.order
+AreStored-paired s paired = λ ix live. ((paired.filed ix).1 live, (paired.ordered ix).1 live)
 
 -- ---- what a scan finds
 

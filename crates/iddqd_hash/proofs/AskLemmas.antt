@@ -4,7 +4,7 @@ use Rattle.std.proofs.Common.{zero, suc, ◌||◌, Option, is_some, ◌≡◌, �
 use Rattle.std.specs.List.{list_any}
 use Rattle.std.proofs.lemmas.List.Elements.{Contains-append_left, Contains-append_right}
 use Rattle.std.proofs.lemmas.List.Sorted.{IsPermutation-sym, Contains-permutation, list_any-IsPermutation}
-use Rattle.iddqd_hash.specs.Asks.{CanAsk, CanAskInTurn, AllRefused, Hits, Misses, LooksUp}
+use Rattle.iddqd_hash.specs.Asks.{CanAsk, CanAskEach, CanAskAgain, CanAskInTurn, AllRefused, Hits, Misses, LooksUp}
 
 module _ {F T : Type 0} (takes : F → T → Type 0) (ask : F → T → Bool → F → Type 0) where
   pub CanAsk-takes : (f : F) (xs : List T) (x : T) → CanAsk takes ask f xs → Contains xs x → takes f x
@@ -18,6 +18,13 @@ module _ {F T : Type 0} (takes : F → T → Type 0) (ask : F → T → Bool →
       → CanAsk takes ask f' xs
   CanAsk-asked f xs x r f' can here called = record { at = λ ys. (can.at (x ∷ ys) here).1 r f' called }
 
+  pub CanAsk-joined : (f : F) (xs : List T) → CanAskEach takes f xs → CanAskAgain takes ask f xs → CanAsk takes ask f xs
+  CanAsk-joined f xs each again = record { at = in_turn }
+    where
+      in_turn : (ys : List T) → CanAskInTurn takes ask f xs ys
+      in_turn [] = tt
+      in_turn (y ∷ ys) = λ here. (each y here, λ r f' called. (again y r f' here called).at ys)
+
   pub CanAsk-by :
       (I : F → Type 0) (xs : List T)
       → ((s : F) (x : T) → Contains xs x → I s → takes s x)
@@ -30,6 +37,15 @@ module _ {F T : Type 0} (takes : F → T → Type 0) (ask : F → T → Bool →
       in_turn : (ys : List T) (f : F) → I f → CanAskInTurn takes ask f xs ys
       in_turn [] f i = tt
       in_turn (y ∷ ys) f i = λ here. (asks f y here i, λ r t called. in_turn ys t (keeps f y r t here i called))
+
+  pub CanAskAgain-by :
+      (I : F → Type 0) (xs : List T)
+      → ((s : F) (x : T) → Contains xs x → I s → takes s x)
+      → ((s : F) (x : T) (r : Bool) (t : F) → Contains xs x → I s → ask s x r t → I t)
+      → (f : F)
+      → I f
+      → CanAskAgain takes ask f xs
+  CanAskAgain-by I xs asks keeps f i = λ x b f' here called. CanAsk-by I xs asks keeps f' (keeps f x b f' here i called)
 
   pub CanAsk-everywhere : (f : F) (xs : List T) → ((s : F) (x : T) → takes s x) → CanAsk takes ask f xs
   CanAsk-everywhere f xs asks = CanAsk-by (λ s. Unit {0}) xs (λ s x here i. asks s x) (λ s x r t here i called. tt) f tt

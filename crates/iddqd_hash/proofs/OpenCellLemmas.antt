@@ -10,6 +10,14 @@ module _ {C T : Type 0} (slot : Bool → C → Option (ℕ × T)) where
   cells_long [] (cell ∷ cells) = ap suc (cells_long [] cells)
   cells_long (tag ∷ tags) (cell ∷ cells) = ap suc (cells_long tags cells)
 
+  pub cell_inside :
+      (tags : List ℕ) (cells now : List C) (at : ℕ)
+      → at < length tags
+      → length (slots_of slot tags cells) ≡ length tags
+      → length now ≡ length cells
+      → at < length now
+  cell_inside tags cells now at inside same kept = omega (arith, cells_long tags cells)
+
   pub slot_there :
       (tags : List ℕ) (cells : List C) (at : ℕ) (d : C)
       → at < length cells
@@ -81,6 +89,16 @@ module _ {C T : Type 0} (slot : Bool → C → Option (ℕ × T)) where
       → slot_at (slots_of slot tags cells) at ≡ slot true (get_or cells at d)
   pair_there tags cells at d inside full =
       slot_there tags cells at d inside ∙ ap (λ b. slot b (get_or cells at d)) (lt-ltb 1 (slice_index tags at) full)
+
+  -- what is read at a full place is what its cell shows with `true`
+  pub pair_shown :
+      (tags : List ℕ) (cells : List C) (at : ℕ) (d : C) (pair : ℕ × T)
+      → at < length cells
+      → 128 ≤ slice_index tags at
+      → slot_at (slots_of slot tags cells) at ≡ Some pair
+      → IsSome (slot true (get_or cells at d))
+  pair_shown tags cells at d pair inside full is =
+      subst (λ o. IsSome o) (sym is ∙ pair_there tags cells at d inside (omega arith)) refl
 
   -- A cell that shows a pair with its tag shows the same pair with `true`. If it shows none with its tag, it shows none
   -- with `false`.
@@ -182,3 +200,6 @@ module _ {C T : Type 0} (slot : Bool → C → Option (ℕ × T)) where
 
   pub bare_empty : (n : ℕ) (cells : List C) → slots_of slot [] cells ≡ slots_of slot (replicate n 0) cells
   bare_empty n cells = slots-tags (replicate n 0) [] cells (λ k. ap has_pair (sym (zero_everywhere n k)))
+
+pub full_tag : (tag : ℕ) → 128 ≤ tag → 1 < tag
+full_tag tag full = omega arith

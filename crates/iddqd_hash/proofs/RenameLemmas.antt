@@ -10,8 +10,8 @@ use Rattle.std.proofs.lemmas.List.{length-map, get_or-map}
 use Rattle.std.proofs.lemmas.List.Elements.{Contains-get_or, Contains-append_right}
 use Rattle.std.proofs.lemmas.List.Sorted.{IsPermutation-sym, Contains-permutation}
 use Rattle.std.proofs.lemmas.Map.Keys.{IsDistinct-head, IsDistinct-tail, IsDistinct-cons}
-use Rattle.iddqd_hash.specs.HashTable.{values, under, Rewrites}
-use Rattle.iddqd_hash.specs.MapHashTable.{filed_from, HaveOwnNames, IsDistinctlyFiled, Renames}
+use Rattle.iddqd_hash.specs.HashTable.{Table, entries, values, under, Rewrites}
+use Rattle.iddqd_hash.specs.MapHashTable.{filed, filed_from, HaveOwnNames, IsDistinctlyFiled, Renames}
 use Rattle.iddqd_hash.proofs.UnderLemmas.{Contains-read, Contains-under}
 use Rattle.iddqd_hash.proofs.RewriteLemmas.{Rewrites-mapped}
 use Rattle.iddqd_hash.proofs.MapHashTableLemmas.{under_filed, untied, distinct_moved}
@@ -47,6 +47,16 @@ module _ (es : List (ℕ × ℕ)) (apart : IsDistinctlyFiled es) where
       let same : finite.get (filed_from es) ix ≡ Some found.0.0 =
       subst (λ x. finite.get (filed_from es) x ≡ Some found.0.0) found.2 at in
       rw same refl
+
+-- each value of a table is filed, also where the table is given by another name
+pub is_filed :
+    (t s : Table ℕ) (ix : ℕ)
+    → t ≡ s
+    → IsDistinctlyFiled (entries s)
+    → Contains (values (entries s)) ix
+    → IsSome (finite.get (filed t) ix)
+unfolding filed
+is_filed t s ix is apart here = rw is (filed_from_value _ apart ix here)
 
 module _ (name : ℕ → ℕ) where
   abbrev renamed : ℕ × ℕ → ℕ × ℕ

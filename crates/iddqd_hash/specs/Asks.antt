@@ -3,6 +3,11 @@ use Rattle.std.specs.Prelude.{◌≡◌, map, filter, ℕ, Bool, true, false, Li
 use Rattle.std.specs.List.{Contains, FoldsTo}
 use Rattle.std.specs.List.Sorted.{IsPermutation}
 
+-- The closure may be asked in the state f about each of the values xs; `takes` is as below. This and `CanAskAgain` make
+-- `CanAsk`.
+abbrev pub CanAskEach : {F T : Type 0} → (F → T → Type 0) → F → List T → Type 0
+CanAskEach takes f xs = (x : _) → Contains xs x → takes f x
+
 -- `takes p x` says that the closure in the state p may be asked about x, and `ask p x b q` that it may then answer b
 -- and be in the state q
 module _ {F T : Type 0} (takes : F → T → Type 0) (ask : F → T → Bool → F → Type 0) where
@@ -16,6 +21,10 @@ module _ {F T : Type 0} (takes : F → T → Type 0) (ask : F → T → Bool →
   -- from the state f on the closure may be asked about values among xs, in any order and any number of times
   pub record CanAsk (f : F) (xs : List T) : Type 0 where
     pub at : (ys : List T) → CanAskInTurn f xs ys
+
+  -- once the closure was asked in the state f about one of the values xs, it may be asked about them again
+  abbrev pub CanAskAgain : F → List T → Type 0
+  CanAskAgain f xs = (x : T) (b : Bool) (f' : F) → Contains xs x → ask f x b f' → CanAsk f' xs
 
 -- `ask p x b q` says that the closure, asked about x in the state p, may answer b and then be in the state q
 module _ {F T : Type 0} (ask : F → T → Bool → F → Type 0) where

@@ -5,10 +5,11 @@
 //! 3. Each index stays under the hash that it was inserted under. So if a key changes and the table isn't updated, a
 //!    look-up by key may miss the index, but `remove_by_index` still finds it.
 //!
-//! It is built on public calls of [`OpenHashTable`], on `copied` and `allocator`, which only this crate sees, and on
-//! three of its `PairCells`: `place_of`, the place of the pair that a look-up hits, and `pair_at` and `take_at`, which
-//! read and remove the pair at a place. An entry here keeps a place and makes these calls. It has no entry of
-//! `OpenHashTable` inside, since the check can't follow a call on an entry that a field of `self` lends.
+//! It is built on public calls of [`OpenHashTable`], on `copied`, `allocator`, `find_asked` and `retain_asked`, which
+//! only this crate sees, and on three of its `PairCells`: `place_of`, the place of the pair that a look-up hits, and
+//! `pair_at` and `take_at`, which read and remove the pair at a place. An entry here keeps a place and makes these calls.
+//! It has no entry of `OpenHashTable` inside, since the check can't follow a call on an entry that a field of `self`
+//! lends.
 //!
 //! `entry` hashes its key once, for the look-up and for the insert. `remove_by_index` is a `retain` over all indexes. A
 //! clone copies cells as memory, since an [`IndexCell`] is `Copy`.
@@ -183,7 +184,7 @@ impl MapHashTable {
         ensures { LooksUpKey F.Fn Q.equivalent lookup query.now hash self.now result }
     {
         self.table
-            .find(
+            .find_asked(
                 hash.hash(),
                 |ix: &ItemIndex| -> bool
                     requires { F.pre lookup ix.now }
@@ -248,7 +249,7 @@ impl MapHashTable {
         ensures memory { KeepsMemory self.old self.new }
         ensures room { room self.new ≡ room self.old + 1 }
     {
-        self.table.retain(|at| *at != ix);
+        self.table.retain_asked(|at| *at != ix);
     }
 
     /// Removes every index, and keeps the memory.
@@ -263,6 +264,7 @@ impl MapHashTable {
     /// Gives each index its new name, under the same hash, and takes no memory.
     ///
     /// It costs a walk over the table, or nothing if the remap is `Identity`.
+    #[tactic(auto, using(crate::proofs::RenameLemmas::is_filed))]
     pub fn remap_indexes(&mut self, remap: &IndexRemap)
         requires can_remap { (ix : ℕ) → IsSome (finite.get (filed self.old) ix) → CanRemap remap.now ix }
         requires distinct { HaveOwnNames (remapped remap.now) (filed self.old) }

@@ -48,7 +48,7 @@ ghost use Rattle.std.specs.List.Sorted.{IsPermutation};
 ghost use Rattle.std.specs.List.{Contains};
 ghost use Rattle.std.specs.Option.{option_map};
 ghost use Rattle.std.specs.Fn.{TakesAt, CalledAt, FnReturnsAt};
-ghost use Rattle.iddqd_hash.specs.Asks.{CanAsk, LooksUp, HitsPair, FindsPlace, Misses, RetainsPairs};
+ghost use Rattle.iddqd_hash.specs.Asks.{CanAsk, CanAskEach, CanAskAgain, LooksUp, HitsPair, FindsPlace, Misses, RetainsPairs};
 ghost use Rattle.iddqd_hash.specs.HashTable.{entries, room, capacity, memory, pair_at, under, values, Rewrites, HasNoMemory, KeepsMemory, UsesRoom};
 ghost use Rattle.iddqd_hash.specs.Sizes.{Reserves};
 ghost use Rattle.iddqd_hash.specs.OpenTable.{usable_of, IsPowerOfTwo};
@@ -244,7 +244,7 @@ impl<T, C: Cell<T>> OpenHashTable<T, C> {
         requires { CanAsk (TakesAt F.FnMut) (CalledAt F.FnMut) eq (under hash (entries self.now)) }
         ensures { LooksUp (CalledAt F.FnMut) eq (under hash (entries self.now)) (option_copied result) }
     {
-        Some(self.seek(hash, eq)?.1)
+        self.find_asked(hash, eq)
     }
 
     /// The entry of a value under `hash` for which `eq` answers `true`, else `Err(())`.
@@ -292,20 +292,14 @@ impl<T, C: Cell<T>> OpenHashTable<T, C> {
     /// Keeps exactly the values for which `f` answers `true`.
     ///
     /// `f` is asked once about each value. No memory is taken or given back.
-    pub fn retain<F: FnMut(&T) -> bool>(&mut self, mut f: F)
+    pub fn retain<F: FnMut(&T) -> bool>(&mut self, f: F)
     where
         T: Drop,
         requires { CanAsk (TakesAt F.FnMut) (CalledAt F.FnMut) f (values (entries self.old)) }
         ensures kept { RetainsPairs (CalledAt F.FnMut) f (entries self.old) (entries self.new) }
         ensures memory { KeepsMemory self.old self.new }
     {
-        let removed = retain_cells(
-            self.tags.as_mut_slice(),
-            self.cells.as_mut_slice(),
-            self.len,
-            &mut f,
-        );
-        self.len -= removed;
+        self.retain_asked(f);
     }
 
     /// Replaces each value by what `f` returns for it, under the same hash.
@@ -339,10 +333,21 @@ impl<T, C: Cell<T>> OpenHashTable<T, C> {
         self.used = 0;
     }
 
+    // `find`, with its condition in two parts: shown as one, of a closure of this crate, it takes the checker long.
+    #[inline(always)]
+    pub(crate) fn find_asked<F: FnMut(&T) -> bool>(&self, hash: u64, eq: F) -> Option<&T>
+        requires each { CanAskEach (TakesAt F.FnMut) eq (under hash (entries self.now)) }
+        requires again { CanAskAgain (TakesAt F.FnMut) (CalledAt F.FnMut) eq (under hash (entries self.now)) }
+        ensures { LooksUp (CalledAt F.FnMut) eq (under hash (entries self.now)) (option_copied result) }
+    {
+        Some(self.seek(hash, eq)?.1)
+    }
+
     // The place and the value of the pair that a look-up hits.
     #[inline(always)]
     fn seek<F: FnMut(&T) -> bool>(&self, hash: u64, eq: F) -> Option<(usize, &T)>
-        requires { CanAsk (TakesAt F.FnMut) (CalledAt F.FnMut) eq (under hash (entries self.now)) }
+        requires each { CanAskEach (TakesAt F.FnMut) eq (under hash (entries self.now)) }
+        requires again { CanAskAgain (TakesAt F.FnMut) (CalledAt F.FnMut) eq (under hash (entries self.now)) }
         ensures place { FindsPlace (CalledAt F.FnMut) eq hash (under hash (entries self.now)) (pair_at self.now)
             (option_map (λ found. found.0) result) }
         ensures value { IfSome result (λ found. pair_at self.now found.0 ≡ Some (hash, found.1.now)) }
@@ -352,6 +357,24 @@ impl<T, C: Cell<T>> OpenHashTable<T, C> {
             return None;
         }
         find_cell(self.tags.as_slice(), self.cells.as_slice(), hash, eq)
+    }
+
+    // `retain`, with its condition in two parts, as `find_asked` has it.
+    pub(crate) fn retain_asked<F: FnMut(&T) -> bool>(&mut self, mut f: F)
+    where
+        T: Drop,
+        requires each { CanAskEach (TakesAt F.FnMut) f (values (entries self.old)) }
+        requires again { CanAskAgain (TakesAt F.FnMut) (CalledAt F.FnMut) f (values (entries self.old)) }
+        ensures kept { RetainsPairs (CalledAt F.FnMut) f (entries self.old) (entries self.new) }
+        ensures memory { KeepsMemory self.old self.new }
+    {
+        let removed = retain_cells(
+            self.tags.as_mut_slice(),
+            self.cells.as_mut_slice(),
+            self.len,
+            &mut f,
+        );
+        self.len -= removed;
     }
 
     // What `try_reserve` does if there is too little room. It is out of line, so that `try_reserve` is short otherwise.

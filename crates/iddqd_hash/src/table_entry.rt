@@ -6,7 +6,7 @@
 ghost use Rattle.std.specs.Prelude.{◌≡◌, ◌∷◌, ◌+◌, ◌≤◌, Some, IsSome};
 ghost use Rattle.std.specs.List.Sorted.{IsPermutation};
 ghost use Rattle.std.specs.Fn.{TakesAt, CalledAt};
-ghost use Rattle.iddqd_hash.specs.Asks.{CanAsk, FindsPlace};
+ghost use Rattle.iddqd_hash.specs.Asks.{CanAskEach, CanAskAgain, FindsPlace};
 ghost use Rattle.iddqd_hash.specs.HashTable.{Table, entries, room, pair_at, under, RemovesPair, KeepsMemory, UsesRoom};
 
 /// What entries need of a table: places, each of which may have a pair of a hash and a value.
@@ -19,7 +19,8 @@ pub trait PairCells {
 
     /// The place of the pair that a look-up hits.
     fn place_of<F: FnMut(&Self::Value) -> bool>(&self, hash: u64, eq: F) -> Option<usize>
-        requires { CanAsk (TakesAt F.FnMut) (CalledAt F.FnMut) eq (under hash (entries (seen self.now))) }
+        requires each { CanAskEach (TakesAt F.FnMut) eq (under hash (entries (seen self.now))) }
+        requires again { CanAskAgain (TakesAt F.FnMut) (CalledAt F.FnMut) eq (under hash (entries (seen self.now))) }
         ensures { FindsPlace (CalledAt F.FnMut) eq hash (under hash (entries (seen self.now))) (pair_at (seen self.now))
             result };
 

@@ -125,6 +125,7 @@ impl<T: KeyedItem, S: BuildHasher> KeyedItems<T, S> {
 }
 
 // Whether a lesser index is filed under the hash, and its item has the first key.
+#[tactic(auto, using(crate::proofs::InSyncLemmas::next_is_filed))]
 fn has_lesser<T: KeyedItem>(
     table: &MapHashTable,
     items: &ItemSet<T>,

@@ -95,6 +95,7 @@ impl<T: KeyedItem, S: BuildHasher> KeyedItems<T, S> {
     }
 
     // The indexes in the order of the ordered table, in memory of their own.
+    #[tactic(auto, using(crate::proofs::ObeyLemmas::room_for_one))]
     pub(super) fn indexes(&self) -> Result<Vec<ItemIndex>, AllocError>
         ensures paired { IsPaired self.now.state }
         ensures all { IfOk result (λ indexes. indexes.items ≡ self.now.state.order) }

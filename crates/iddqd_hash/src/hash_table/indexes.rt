@@ -62,7 +62,7 @@ impl MapHashTable {
         ensures kept { RetainsPairs F.step f (pairs_of (filed self.old)) (pairs_of (filed self.new)) }
         ensures memory { KeepsMemory self.old self.new }
     {
-        self.table.retain(
+        self.table.retain_asked(
             |ix: &ItemIndex| -> bool
                 requires { F.pre f ix.now }
                 ensures { F.step f.entry ix.now result f.exit }

@@ -8,6 +8,7 @@ use Rattle.iddqd_by_order.proofs.OrderedHoldsLemmas as order_holds
 use Rattle.iddqd_driver.proofs.KeyLemmas.{AreLawful-from_bounds}
 use Rattle.iddqd_driver.proofs.KeepsLemmas.{Holds-order, IsPaired-compacted, Keeps-compacted}
 use Rattle.iddqd_driver.proofs.keyed_items.KeyedItems.compact.Goals.{After-remap_indexes-2}
+use Rattle.iddqd_driver.proofs.KeepsLemmas.{Keeps-same}
 use Rattle.iddqd_driver.proofs.keyed_items.KeyedItems.compact.Goals as goal
 
 pub remap_indexes-requires-clause-can_remap : goal.remap_indexes-requires-clause-can_remap
@@ -68,3 +69,7 @@ pub returns-clause-memory : goal.returns-clause-memory
 returns-clause-memory g c =
     let hashed = c.remap_indexes.ensures.memory in
     rw (← c.self.view_is, c.in_ok-remap.ensures.capacity, hashed.same_capacity, hashed.same_memory, c.remap_indexes-2.ensures.memory)
+
+pub returns-in_err-remap-clause-keeps : goal.returns-in_err-remap-clause-keeps
+returns-in_err-remap-clause-keeps g c =
+    rw (← c.self.view_is, c.in_err-remap.ensures.refused) (Keeps-same _ _ c.self.invariant _ refl)

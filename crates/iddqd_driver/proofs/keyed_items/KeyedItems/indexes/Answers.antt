@@ -1,6 +1,7 @@
-use Rattle.std.proofs.Common.{◌++◌, ◌∷◌, [], length, sym, ap, ◌∙◌, arith, append_assoc, append-nil}
+use Rattle.std.proofs.Common.{◌++◌, length, sym, ap, ◌∙◌, arith, append-nil}
 use Rattle.std.proofs.lemmas.Grind.{common_steps}
 use Rattle.iddqd_order.specs.Iter.{indexes_left}
+use Rattle.iddqd_driver.proofs.ObeyLemmas.{yields_more, room_for_rest}
 use Rattle.iddqd_driver.proofs.keyed_items.KeyedItems.indexes.Goals as goal
 
 pub loop-ix-init : goal.loop-ix-init
@@ -12,19 +13,13 @@ loop-ix-init g c =
       room = omega (arith, count, c.len.ensures.value, c.in_ok-indexes.ensures.len, c.in_ok-indexes.ensures.capacity);
     }
 
-pub push_reserved-requires : goal.push_reserved-requires
-push_reserved-requires g c =
-    let one = ap length c.in-Some.ensures.steps in
-    omega (arith, one, c.loop-ix.invariant.room)
-
 pub loop-ix-preserved : goal.loop-ix-preserved
 loop-ix-preserved g c =
-    let one = ap length c.in-Some.ensures.steps in
+    let next = c.in-Some.ensures.steps in
+    let before = c.loop-ix.invariant in
     record {
-      whole = rw c.push_reserved.ensures.items (append_assoc c.loop-ix.indexes.items (c.in-Some.ix ∷ []) _
-          ∙ ap (λ rest. c.loop-ix.indexes.items ++ rest) (sym c.in-Some.ensures.steps) ∙ c.loop-ix.invariant.whole);
-      room =
-          omega (arith, one, c.loop-ix.invariant.room, c.push_reserved.ensures.len, c.push_reserved.ensures.capacity);
+      whole = rw c.push_reserved.ensures.items (yields_more _ _ _ _ _ next before.whole);
+      room = room_for_rest _ _ _ next _ _ before.room _ _ c.push_reserved.ensures.len c.push_reserved.ensures.capacity;
     }
 
 pub returns-clause-all : goal.returns-clause-all

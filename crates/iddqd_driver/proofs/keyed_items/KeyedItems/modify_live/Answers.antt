@@ -4,6 +4,7 @@ use Rattle.iddqd.specs.Store.{get}
 use Rattle.iddqd_driver.proofs.KeyLemmas.{AreLawful-from_bounds}
 use Rattle.iddqd_driver.proofs.KeepsLemmas.{IsPaired-rebound}
 use Rattle.iddqd_driver.proofs.ModifyLemmas.{Keeps-modified}
+use Rattle.iddqd_driver.proofs.KeepsLemmas.{Keeps-same}
 use Rattle.iddqd_driver.proofs.keyed_items.KeyedItems.modify_live.Goals as goal
 
 pub invariant_of-self-2 : goal.invariant_of-self-2
@@ -28,3 +29,12 @@ returns-clause-keeps g c =
 
 pub returns-clause-memory : goal.returns-clause-memory
 returns-clause-memory g c = rw (← c.self.view_is)
+
+pub returns-in_err-item : goal.returns-in_err-item
+returns-in_err-item g c =
+    rw c.from_residual.ensures
+    (record {
+      modifies = rw (← c.self.view_is) (sym c.in_err-item.ensures.value, refl);
+      keeps = rw (← c.self.view_is) (Keeps-same _ _ c.self.invariant _ refl);
+      memory = rw (← c.self.view_is) refl;
+    })

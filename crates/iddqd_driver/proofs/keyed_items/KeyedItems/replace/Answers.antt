@@ -1,4 +1,4 @@
-use Rattle.std.proofs.Common.{rules, ◌≡◌, ◌⊎◌, inl, inr, Some, None, refl, arith}
+use Rattle.std.proofs.Common.{rules, ◌≡◌, ◌⊎◌, inl, inr, Some, None, refl, arith, sym}
 use Rattle.std.proofs.lemmas.Grind.{common_steps}
 use Rattle.iddqd_keys.specs.Scan.{IsLive}
 use Rattle.iddqd_driver.specs.Keys.{Keys, keys_of}
@@ -9,11 +9,15 @@ use Rattle.iddqd_driver.proofs.CountLemmas.{count-replaced}
 use Rattle.iddqd_driver.proofs.MemoryLemmas.{length-order}
 use Rattle.iddqd_driver.proofs.ReplacementLemmas.{not_for_memory, ReportsOtherIndex-found, Replaces-rebound, Keeps-rebound}
 use Rattle.iddqd_driver.proofs.keyed_items.KeyedItems.replace.Goals.{After-rebind, then-is_some-via-then-is_some, then-is_some-via-else-is_some+then-is_some-2}
+use Rattle.iddqd_driver.proofs.FoundLemmas.{live_there}
+use Rattle.iddqd_driver.proofs.InsertLemmas.{none_before}
+use Rattle.iddqd_driver.proofs.KeepsLemmas.{Holds-order}
 use Rattle.iddqd_driver.proofs.keyed_items.KeyedItems.replace.Goals as goal
 
 pub returns-then-is_some-clause-replaces : goal.returns-then-is_some-clause-replaces
 returns-then-is_some-clause-replaces g c =
-    let live : IsLive c.args.self.now.state.store c.args.ix = search (rules, c.get.ensures, c.if-is_none.false) in
+    let live : IsLive c.args.self.now.state.store c.args.ix =
+    rw (← c.self.view_is) (live_there c.get.result _ _ c.get.ensures c.is_none.ensures c.if-is_none.false) in
     let item = c.args.item in
     let keys : Keys g.row.T.Denot g.row.T-Key1.Denot g.row.T-Key2.Denot g.row.S.Denot =
     keys_of g.T.KeyedItem g.T.Key1.PartialEq.eq g.T.Key1.Hash.hash_input g.T.Key2.Ord.cmp g.S.BuildHasher g.S.Hasher.Hasher in
@@ -50,19 +54,20 @@ lawful g c =
     g.met.T.Key1.Hash.respects_eq g.met.T.Key2.Ord.total
 
 live : (g : _) (c : After-rebind g) → IsLive (was g c).store c.args.ix
-live g c = search (rules, c.get.ensures, c.if-is_none.false)
+live g c = live_there c.get.result _ _ c.get.ensures c.is_none.ensures c.if-is_none.false
 
 -- each look-up missed, or hit the index itself
 own1 :
     (g : _) (c : After-rebind g)
     → (c.hash_and_find-hash.result.1 ≡ None) ⊎ (c.hash_and_find-hash.result.1 ≡ Some c.args.ix)
 own1 g c =
-    let none : c.other_than-first.result ≡ None = search (rules, c.if-is_some.false) in
+    let none : c.other_than-first.result ≡ None = sym (none_before _ _ c.is_some.ensures c.if-is_some.false) in
     rw none at c.other_than-first.ensures
 
 own2 : (g : _) (c : After-rebind g) → (c.find2-at2.result ≡ None) ⊎ (c.find2-at2.result ≡ Some c.args.ix)
 own2 g c =
-    let none : c.other_than-second.result ≡ None = search (rules, c.if-is_some-2.false) in
+    let none : c.other_than-second.result ≡ None =
+    sym (none_before _ _ c.is_some-else-is_some.ensures c.if-is_some-2.false) in
     rw none at c.other_than-second.ensures
 
 first :
@@ -117,3 +122,15 @@ returns-clause-count g c =
     rw (← c.self.view_is)
     (count-replaced _ c.rebind.new.items.store c.self.invariant.valid c.args.ix c.args.item c.rebind.result
     out.was out.stored out.items_stay)
+
+pub rebind-requires-clause-live : goal.rebind-requires-clause-live
+rebind-requires-clause-live g c =
+    live_there c.get.result _ _ c.get.ensures c.is_none.ensures c.if-is_none.false
+
+pub rebind-requires-clause-filed : goal.rebind-requires-clause-filed
+rebind-requires-clause-filed g c =
+    (c.self.invariant.filed c.args.ix).1 (live_there c.get.result _ _ c.get.ensures c.is_none.ensures c.if-is_none.false)
+
+pub rebind-requires-clause-ordered : goal.rebind-requires-clause-ordered
+rebind-requires-clause-ordered g c =
+    Holds-order _ c.self.invariant

@@ -1,6 +1,7 @@
-use Rattle.std.proofs.Common.{◌≡◌, ◌<◌, arith}
+use Rattle.std.proofs.Common.{◌≡◌, ◌<◌, arith, refl}
 use Rattle.iddqd_driver.specs.Memory.{sized_of, room, reservable}
 use Rattle.iddqd_driver.proofs.MemoryLemmas.{ReservesInMemory-from_parts}
+use Rattle.iddqd_driver.proofs.MemoryLemmas.{paired_still}
 use Rattle.iddqd_driver.proofs.keyed_items.KeyedItems.reserve.Goals as goal
 
 pub returns : goal.returns
@@ -19,3 +20,15 @@ returns g c =
     (omega (arith, slots.reserved, c.len-2.ensures, meant, c.self.invariant.valid.counted, c.self.invariant.valid.small))
     (omega (arith, slots.few, c.len-2.ensures))
     hashed.contents hashed.memory hashed.capacity hashed.counted c.try_reserve-2.ensures)
+
+pub invariant_of-self : goal.invariant_of-self
+invariant_of-self g c =
+    paired_still c.self.inside.state c.self.inside.items.store _ c.self.inside.filed c.self.inside.filed c.self.inside.order c.self.inside.order c.self.invariant c.reserve_slots.ensures.contents refl refl
+
+pub invariant_of-self-in_err-try_reserve : goal.invariant_of-self-in_err-try_reserve
+invariant_of-self-in_err-try_reserve g c =
+    paired_still c.self.inside.state c.self.inside.items.store _ c.self.inside.filed c.try_reserve.new.self c.self.inside.order c.self.inside.order c.self.invariant c.reserve_slots.ensures.contents c.try_reserve.ensures.contents refl
+
+pub invariant_of-self-2 : goal.invariant_of-self-2
+invariant_of-self-2 g c =
+    paired_still c.self.inside.state c.self.inside.items.store _ c.self.inside.filed c.try_reserve.new.self c.self.inside.order c.try_reserve-2.new.self c.self.invariant c.reserve_slots.ensures.contents c.try_reserve.ensures.contents c.try_reserve-2.ensures.contents

@@ -1,11 +1,11 @@
-use Rattle.std.proofs.Common.{◌≡◌, refl, arith}
+use Rattle.std.proofs.Common.{◌≡◌, refl}
 use Rattle.std.specs.Fn.{TakesAt, CalledAt}
 use Rattle.iddqd_by_hash.proofs.RetainLemmas.{MayAskInTurn-asks, RetainsTo-fewer}
 use Rattle.iddqd_driver.specs.State.{state_of}
 use Rattle.iddqd_driver.specs.Memory.{memory_of, sized_of}
 use Rattle.iddqd_driver.specs.Retain.{Retains}
 use Rattle.iddqd_driver.proofs.KeyLemmas.{AreLawful-from_bounds}
-use Rattle.iddqd_driver.proofs.RetainLemmas.{Retains-from_parts, Keeps-retained, IsPaired-retained, limit-retained, capacity-same, room-more}
+use Rattle.iddqd_driver.proofs.RetainLemmas.{Retains-from_parts, Keeps-retained, IsPaired-retained, limit-retained, capacity-same, room-more, no_more_after, removed_and_left}
 use Rattle.iddqd_driver.proofs.keyed_items.KeyedItems.retain.Goals.{After-drop-f}
 use Rattle.iddqd_driver.proofs.keyed_items.KeyedItems.retain.Goals as goal
 
@@ -59,14 +59,14 @@ returns-clause-room g c =
     let limit = limit-retained (CalledAt g.F.FnMut) c.args.f whole.state left.state (did g c) in
     let fewer = RetainsTo-fewer (CalledAt g.F.FnMut) _ _ _ _ c.remove_refused.ensures.retained in
     rw (← c.self.view_is)
-    (room-more whole left limit (same_memory g c) _ (omega (arith, fewer, c.len.ensures, c.len-before.ensures)))
+    (room-more whole left limit (same_memory g c) _ (removed_and_left _ _ _ _ c.len-before.ensures c.len.ensures fewer))
 
 pub overflow_sub-result : goal.overflow_sub-result
 overflow_sub-result g c =
     let fewer = RetainsTo-fewer (CalledAt g.F.FnMut) _ _ _ _ c.remove_refused.ensures.retained in
-    omega (arith, fewer, c.len.ensures, c.len-before.ensures)
+    no_more_after _ _ _ _ c.len-before.ensures c.len.ensures fewer
 
 pub returns-clause-count : goal.returns-clause-count
 returns-clause-count g c =
     let fewer = RetainsTo-fewer (CalledAt g.F.FnMut) _ _ _ _ c.remove_refused.ensures.retained in
-    rw (← c.self.view_is) (omega (arith, fewer, c.len.ensures, c.len-before.ensures))
+    rw (← c.self.view_is) (removed_and_left _ _ _ _ c.len-before.ensures c.len.ensures fewer)

@@ -1,11 +1,7 @@
-use Rattle.std.proofs.Common.{◌++◌, ◌∷◌, [], length, refl, sym, ap, ◌∙◌, arith, append_assoc, append-nil}
+use Rattle.std.proofs.Common.{length, ap, arith}
 use Rattle.std.proofs.lemmas.Grind.{common_steps}
-use Rattle.std.specs.Vec.Iter.{into_iter_items}
-use Rattle.std.proofs.lemmas.List.{nil_from_length}
-use Rattle.iddqd_driver.specs.Run.{No_step}
-use Rattle.iddqd_driver.proofs.RunLemmas.{IsStepChain-push, Run-from_chain, IsServedBelow-step, TakesForOne-step, RunsInMemory-from_chain}
-use Rattle.iddqd_driver.proofs.MemoryLemmas.{IsNoLower-same, IsNoLower-after}
 use Rattle.iddqd_driver.specs.State.{IsPaired}
+use Rattle.iddqd_driver.proofs.ObeyLemmas.{Obeyed-none, Obeyed-step, Obeyed-run, Obeyed-memory, yields_more, room_for_rest}
 use Rattle.iddqd_driver.proofs.keyed_items.KeyedItems.run.Goals as goal
 
 pub loop-command-init : goal.loop-command-init
@@ -16,11 +12,7 @@ loop-command-init g c =
       can_next = tt;
       is_finite = tt;
       yielded = given.0;
-      moments = [];
-      chain = rw c.in-Ok.ensures.items No_step;
-      no_lower = IsNoLower-same _ _ refl;
-      served = rw c.in-Ok.ensures.items tt;
-      few = λ most _. record { slots = omega arith; cells = omega arith };
+      obeyed = Obeyed-none _ _ _ c.in-Ok.ensures.items;
       room = omega (arith, c.in-Ok.ensures.len, c.in-Ok.ensures.capacity, c.len.ensures);
     }
 
@@ -28,41 +20,27 @@ pub loop-command-preserved : goal.loop-command-preserved
 loop-command-preserved g c =
     let before = c.loop-command.invariant in
     let next = c.in-Some.ensures.steps.0 in
-    let one = ap length next in
     record {
       can_next = tt;
       is_finite = tt;
-      yielded = append_assoc c.loop-command.yielded (c.in-Some.command ∷ []) _
-          ∙ ap (λ rest. c.loop-command.yielded ++ rest) (sym next) ∙ before.yielded;
-      moments = before.moments ++ c.step.new.self.state ∷ [];
-      chain = rw c.push_reserved.ensures.items (IsStepChain-push _ before.chain c.step.ensures.step);
-      no_lower = IsNoLower-after _ _ _ before.no_lower c.step.ensures.memory.no_lower;
-      served = rw c.push_reserved.ensures.items (IsServedBelow-step _ before.chain before.no_lower before.served c.step.ensures.memory);
-      few = TakesForOne-step _ before.chain before.few c.step.ensures.memory;
-      room = omega (arith, before.room);
+      yielded = yields_more _ _ _ _ _ next before.yielded;
+      obeyed = Obeyed-step _ _ _ _ _ before.obeyed _ _ _ _ c.step.ensures.step c.step.ensures.memory c.push_reserved.ensures.items;
+      room = room_for_rest _ _ _ next _ _ before.room _ _ c.push_reserved.ensures.len c.push_reserved.ensures.capacity;
     }
 
 pub returns-clause-run : goal.returns-clause-run
 returns-clause-run g c =
     let before = c.loop-command.invariant in
-    let over = c.in-None.ensures.steps.0 in
-    let ok = c.loop-command.command-iterator.rest.ok in
-    let none = nil_from_length (into_iter_items c.loop-command.command-iterator) (omega (arith, ok, over)) in
-    let left = ap (λ rest. c.loop-command.yielded ++ rest) none in
-    let all = sym before.yielded ∙ left ∙ append-nil c.loop-command.yielded in
     let paired : IsPaired c.args.self.now.state = rw (← c.self.view_is) c.self.invariant in
-    Run-from_chain _ {moments = before.moments} (rw all before.chain) paired
+    Obeyed-run _ _ _ _ _ before.obeyed _ _ before.yielded
+    (omega (arith, c.loop-command.command-iterator.rest.ok, c.in-None.ensures.steps.0)) paired
 
 pub returns-clause-memory : goal.returns-clause-memory
 returns-clause-memory g c =
     let before = c.loop-command.invariant in
-    let over = c.in-None.ensures.steps.0 in
-    let ok = c.loop-command.command-iterator.rest.ok in
-    let none = nil_from_length (into_iter_items c.loop-command.command-iterator) (omega (arith, ok, over)) in
-    let left = ap (λ rest. c.loop-command.yielded ++ rest) none in
-    let all = sym before.yielded ∙ left ∙ append-nil c.loop-command.yielded in
     let paired : IsPaired c.args.self.now.state = rw (← c.self.view_is) c.self.invariant in
-    RunsInMemory-from_chain _ {moments = before.moments} (rw all before.chain) paired before.no_lower before.served before.few
+    Obeyed-memory _ _ _ _ _ before.obeyed _ _ before.yielded
+    (omega (arith, c.loop-command.command-iterator.rest.ok, c.in-None.ensures.steps.0)) paired
 
 pub returns-clause-empty : goal.returns-clause-empty
 returns-clause-empty g c = grind (arith, common_steps)

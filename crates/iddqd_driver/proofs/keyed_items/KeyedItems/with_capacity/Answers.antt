@@ -1,9 +1,11 @@
-use Rattle.std.proofs.Common.{◌≡◌, ◌∙◌, ap, arith}
+use Rattle.std.proofs.Common.{◌≡◌, ◌∙◌, ap, arith, refl}
 use Rattle.iddqd.specs.Store.{slot_limit}
 use Rattle.iddqd_hash.specs.HashTable.{capacity as hashed_capacity}
 use Rattle.iddqd_order.specs.MapBTreeTable.{capacity as ordered_capacity, capacity_for}
 use Rattle.iddqd_driver.proofs.KeepsLemmas.{IsPaired-empty}
-use Rattle.iddqd_driver.proofs.MemoryLemmas.{length-entries_of_none}
+use Rattle.iddqd_driver.proofs.MemoryLemmas.{length-entries_of_none, none_wanted, none_fits}
+use Rattle.std.proofs.lemmas.Bool.{false≢true}
+use Rattle.iddqd_driver.proofs.ValidationLemmas.{not_made}
 use Rattle.iddqd_driver.proofs.keyed_items.KeyedItems.with_capacity.Goals as goal
 
 pub invariant_of-result : goal.invariant_of-result
@@ -20,3 +22,37 @@ returns-clause-no_memory g c = λ none.
     let slots = c.in_ok-with_capacity.ensures.capacity ∙ wanted in
     let blocks : ordered_capacity c.in_ok-with_capacity-3.field-0 ≡ 10 = c.in_ok-with_capacity-3.ensures.made ∙ ap capacity_for wanted in
     rw (slots, held, bare.no_cell, blocks)
+
+pub returns-clause-state : goal.returns-clause-state
+returns-clause-state g c =
+    rw (c.in_ok-with_capacity.ensures.contents, c.in_ok-with_capacity-2.ensures.empty, c.in_ok-with_capacity-3.ensures.empty) refl
+
+pub returns-in_err-with_capacity : goal.returns-in_err-with_capacity
+returns-in_err-with_capacity g c =
+    (record {
+      state = not_made c.from_residual.result _ c.from_residual.ensures.0;
+      room = not_made c.from_residual.result _ c.from_residual.ensures.0;
+      made = not_made c.from_residual.result _ c.from_residual.ensures.0;
+      none = λ none. absurd (false≢true (c.in_err-with_capacity.ensures.none (none_wanted _ _ _ c.min-items.ensures none)));
+      no_memory = λ _. not_made c.from_residual.result _ c.from_residual.ensures.0;
+    })
+
+pub returns-in_err-with_capacity-2 : goal.returns-in_err-with_capacity-2
+returns-in_err-with_capacity-2 g c =
+    (record {
+      state = not_made c.from_residual-in_err-with_capacity-2.result _ c.from_residual-in_err-with_capacity-2.ensures.0;
+      room = not_made c.from_residual-in_err-with_capacity-2.result _ c.from_residual-in_err-with_capacity-2.ensures.0;
+      made = not_made c.from_residual-in_err-with_capacity-2.result _ c.from_residual-in_err-with_capacity-2.ensures.0;
+      none = λ none. absurd (false≢true (c.in_err-with_capacity-2.ensures.memory.succeeds (none_wanted _ _ _ c.min-items.ensures none)));
+      no_memory = λ _. not_made c.from_residual-in_err-with_capacity-2.result _ c.from_residual-in_err-with_capacity-2.ensures.0;
+    })
+
+pub returns-in_err-with_capacity-3 : goal.returns-in_err-with_capacity-3
+returns-in_err-with_capacity-3 g c =
+    (record {
+      state = not_made c.from_residual-in_err-with_capacity-3.result _ c.from_residual-in_err-with_capacity-3.ensures.0;
+      room = not_made c.from_residual-in_err-with_capacity-3.result _ c.from_residual-in_err-with_capacity-3.ensures.0;
+      made = not_made c.from_residual-in_err-with_capacity-3.result _ c.from_residual-in_err-with_capacity-3.ensures.0;
+      none = λ none. absurd (false≢true (c.in_err-with_capacity-3.ensures.succeeds (none_fits _ _ _ _ c.min-items.ensures none)));
+      no_memory = λ _. not_made c.from_residual-in_err-with_capacity-3.result _ c.from_residual-in_err-with_capacity-3.ensures.0;
+    })

@@ -1,16 +1,10 @@
 use Rattle.std.proofs.Common.{◌∙◌, refl, sym}
 use Rattle.std.proofs.lemmas.Bool.{false≢true}
-use Rattle.iddqd_hash.proofs.MemberLemmas.{filed_at}
 use Rattle.iddqd_driver.proofs.InSyncLemmas.{Searched-none, Searched-next, Searched-head, Searched-all, HasLesserHit-found}
 use Rattle.iddqd_driver.proofs.keyed_items.validation.has_lesser.Goals as goal
 
 pub loop-at-init : goal.loop-at-init
 loop-at-init g c = rw c.into_iter-at-iterator.ensures.into_iter_gives (Searched-none _ _ _ _ _ _ c.indexes_under-at-items.ensures)
-
-pub is_lesser_hit-requires : goal.is_lesser_hit-requires
-is_lesser_hit-requires g c =
-    let left = rw c.in-Some.ensures.steps at c.loop-at.invariant in
-    c.requires c.in-Some.at (filed_at _ _ (Searched-head _ _ _ _ _ _ _ left))
 
 pub returns-then-is_lesser_hit : goal.returns-then-is_lesser_hit
 returns-then-is_lesser_hit g c =

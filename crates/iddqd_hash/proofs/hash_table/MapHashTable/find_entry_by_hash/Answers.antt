@@ -5,19 +5,27 @@ use Rattle.iddqd_hash.specs.Asks.{CanAsk, Hits, Misses}
 use Rattle.iddqd_hash.specs.HashTable.{entries, under}
 use Rattle.iddqd_hash.specs.MapHashTable.{indexes_under, filed_from, filed}
 use Rattle.iddqd_hash.specs.MapHashTableEntry.{entry_pair}
-use Rattle.iddqd_hash.proofs.AskLemmas.{CanAsk-by, CanAsk-takes, CanAsk-asked}
+use Rattle.iddqd_hash.proofs.AskLemmas.{CanAskAgain-by, CanAsk-takes, CanAsk-asked}
 use Rattle.iddqd_hash.proofs.MapHashTableLemmas.{under_filed, LooksUp-follows}
 use Rattle.iddqd_hash.proofs.hash_table.MapHashTable.find_entry_by_hash.Goals as goal
 
-pub place_of-place-requires : goal.place_of-place-requires
+pub place_of-place-requires-clause-each : goal.place_of-place-requires-clause-each
 unfolding filed
-place_of-place-requires g c =
+place_of-place-requires-clause-each g c = λ x here y is.
+    let xs : List ℕ = indexes_under c.args.hash (filed_from (entries c.self.inside.table)) in
+    let takes : g.row.F.Denot → ℕ → Type 0 = λ f ix. g.F.FnMut.pre f (ix, tt) in
+    let ask : g.row.F.Denot → ℕ → Bool → g.row.F.Denot → Type 0 = λ f ix b f'. Called g.F.FnMut f (ix, tt) b f' in
+    rw is (CanAsk-takes takes ask c.args.f xs x (rw c.self.view_is c.requires) (Contains-permutation _ _ x (under_filed _ _ c.self.invariant) here))
+
+pub place_of-place-requires-clause-again : goal.place_of-place-requires-clause-again
+unfolding filed
+place_of-place-requires-clause-again g c =
     let xs : List ℕ = indexes_under c.args.hash (filed_from (entries c.self.inside.table)) in
     let takes : g.row.F.Denot → ℕ → Type 0 = λ f ix. g.F.FnMut.pre f (ix, tt) in
     let ask : g.row.F.Denot → ℕ → Bool → g.row.F.Denot → Type 0 = λ f ix b f'. Called g.F.FnMut f (ix, tt) b f' in
     let filed_too : (x : ℕ) → Contains (under c.args.hash (entries c.self.inside.table)) x → Contains xs x =
     λ x h. Contains-permutation _ _ x (under_filed _ _ c.self.invariant) h in
-    CanAsk-by _ _ (λ s. CanAsk takes ask s.0.now xs) _ (λ s x here i y is. rw is (CanAsk-takes takes ask _ xs x i (filed_too x here)))
+    CanAskAgain-by _ _ (λ s. CanAsk takes ask s.0.now xs) _ (λ s x here i y is. rw is (CanAsk-takes takes ask _ xs x i (filed_too x here)))
     (λ s x r t here i called.
     let stepped : ask s.0.now called.shown.now r t.0.now = search rules in
     let at_x : ask s.0.now x r t.0.now = rw called.shows at stepped in

@@ -2,15 +2,22 @@ use Rattle.std.proofs.Common.{◌≡◌, refl, rules, Contains}
 use Rattle.std.proofs.lemmas.List.Sorted.{Contains-permutation}
 use Rattle.iddqd_hash.specs.HashTable.{entries, under}
 use Rattle.iddqd_hash.specs.MapHashTable.{AsksKey, indexes_under, filed, filed_from}
-use Rattle.iddqd_hash.proofs.AskLemmas.{CanAsk-by}
+use Rattle.iddqd_hash.proofs.AskLemmas.{CanAskAgain-by}
 use Rattle.iddqd_hash.proofs.IndexLemmas.{FindsPlace-follows}
 use Rattle.iddqd_hash.proofs.MapHashTableLemmas.{under_filed}
 use Rattle.iddqd_hash.proofs.hash_table.MapHashTable.place_of_key.Goals as goal
 
-pub place_of-requires : goal.place_of-requires
+pub place_of-requires-clause-each : goal.place_of-requires-clause-each
 unfolding filed
-place_of-requires g c =
-    CanAsk-by _ _ (λ s. s.0.now ≡ c.args.lookup) _ (λ s x here i y is.
+place_of-requires-clause-each g c = λ x here y is.
+    let filed : Contains (indexes_under c.args.hash (filed_from (entries c.self.inside.table))) x =
+    Contains-permutation _ _ x (under_filed _ _ c.self.invariant) here in
+    rw is (c.requires x (rw (← c.self.view_is) filed))
+
+pub place_of-requires-clause-again : goal.place_of-requires-clause-again
+unfolding filed
+place_of-requires-clause-again g c =
+    CanAskAgain-by _ _ (λ s. s.0.now ≡ c.args.lookup) _ (λ s x here i y is.
     let under_hash : Contains (under c.args.hash (entries c.self.inside.table)) x = here in
     let filed : Contains (indexes_under c.args.hash (filed_from (entries c.self.inside.table))) x =
     Contains-permutation _ _ x (under_filed _ _ c.self.invariant) under_hash in

@@ -1,15 +1,8 @@
 use Rattle.std.proofs.Common.{rules}
-use Rattle.iddqd.specs.Compaction.{CanRemap, remapped}
+use Rattle.iddqd.specs.Compaction.{remapped}
 use Rattle.iddqd_hash.specs.MapHashTable.{filed}
-use Rattle.iddqd_hash.proofs.RenameLemmas.{filed_from_value, distinct_renamed, Renames-from_rewrites}
+use Rattle.iddqd_hash.proofs.RenameLemmas.{distinct_renamed, Renames-from_rewrites}
 use Rattle.iddqd_hash.proofs.hash_table.MapHashTable.remap_indexes.Goals as goal
-
-pub rewrite-requires : goal.rewrite-requires
-unfolding filed
-rewrite-requires c = λ v here.
-    let may : CanRemap c.args.remap.now v.now =
-    c.requires.can_remap v.now (rw (← c.self.view_is) (filed_from_value _ c.self.invariant v.now here)) in
-    search rules
 
 pub invariant_of-self : goal.invariant_of-self
 unfolding filed

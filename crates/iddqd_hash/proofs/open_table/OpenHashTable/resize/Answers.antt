@@ -1,10 +1,8 @@
-use Rattle.std.proofs.Common.{◌≡◌, ◌∙◌, ◌≤◌, None, length, replicate, sym, ap, arith}
+use Rattle.std.proofs.Common.{◌≡◌, ◌∙◌, None, length, replicate, sym, ap, arith}
 use Rattle.std.proofs.lemmas.Grind.{common_steps}
-use Rattle.std.proofs.lemmas.List.{with_items_is}
-use Rattle.std.proofs.lemmas.List.Sorted.{length_permutation}
-use Rattle.iddqd_hash.specs.OpenTable.{usable_of, slots_of, pairs}
+use Rattle.iddqd_hash.specs.OpenTable.{slots_of}
 use Rattle.iddqd_hash.proofs.OpenCellLemmas.{cells_long}
-use Rattle.iddqd_hash.proofs.OpenTableLemmas.{entries-table_of, room-table_of, memory-table_of, IsSound-placed}
+use Rattle.iddqd_hash.proofs.OpenResizeLemmas.{resize-fits, resize-sound, resize-contents, resize-room, resize-memory}
 use Rattle.iddqd_hash.proofs.open_table.OpenHashTable.resize.Goals as goal
 
 pub move_cells-requires-clause-same_length : goal.move_cells-requires-clause-same_length
@@ -30,58 +28,27 @@ move_cells-requires-clause-no_pair g c =
 
 pub move_cells-requires-clause-fits : goal.move_cells-requires-clause-fits
 move_cells-requires-clause-fits g c =
-    let fits : length (pairs (slots_of g.C.Cell.slot c.self.inside.tags.items c.self.inside.cells.items)) ≤ usable_of c.args.count =
-    rw (← c.self.view_is, entries-table_of) at c.requires.fits in
-    rw (c.as_mut_slice.ensures.len ∙ c.in_ok-tags.ensures.len, c.as_slice.ensures.value) (omega (arith, fits))
+    resize-fits g.C.Cell.slot c.self.inside.tags c.self.inside.cells c.self.inside.len c.self.inside.used c.self.invariant.sound c.args.self.now (sym c.self.view_is) _ c.requires.power c.requires.fits _ _ c.as_slice.ensures.value (c.as_mut_slice.ensures.len ∙ c.in_ok-tags.ensures.len)
 
 pub invariant_of-self : goal.invariant_of-self
 invariant_of-self g c =
-    let long : length c.move_cells.new.tags ≡ c.args.count =
-    c.move_cells.auto.tags ∙ c.as_mut_slice.ensures.len ∙ c.in_ok-tags.ensures.len in
-    let fits : length (pairs (slots_of g.C.Cell.slot c.self.inside.tags.items c.self.inside.cells.items)) ≤ usable_of c.args.count =
-    rw (← c.self.view_is, entries-table_of) at c.requires.fits in
-    let tags-is =
-    with_items_is c.in_ok-tags.tags c.move_cells.new.tags (c.move_cells.auto.tags ∙ c.as_mut_slice.ensures.len) in
-    let cells-is =
-    with_items_is c.in_ok-cells.cells c.move_cells.new.cells (c.move_cells.auto.cells ∙ c.as_mut_slice-2.ensures.len) in
-    let same = length_permutation _ _ (rw c.as_slice.ensures.value at c.move_cells.ensures.moved) in
     record {
-      sound = rw (tags-is, c.replace.ensures.after, cells-is)
-          (IsSound-placed c.move_cells.new.tags (slots_of g.C.Cell.slot c.move_cells.new.tags c.move_cells.new.cells) c.self.inside.len (rw long c.requires.power) c.move_cells.ensures.probed c.move_cells.ensures.unmarked
-          (omega (arith, same, c.self.invariant.sound.counted)) (rw long (omega (arith, fits, c.self.invariant.sound.counted))));
+      sound = resize-sound g.C.Cell.slot c.self.inside.tags c.self.inside.cells c.self.inside.len c.self.inside.used c.self.invariant.sound c.args.self.now (sym c.self.view_is) _ c.requires.power c.requires.fits c.in_ok-tags.tags c.in_ok-cells.cells _ _ _ _ (c.move_cells.auto.tags ∙ c.as_mut_slice.ensures.len) c.in_ok-tags.ensures.len (c.move_cells.auto.cells ∙ c.as_mut_slice-2.ensures.len) c.replace.ensures.after c.as_slice.ensures.value c.move_cells.ensures.probed c.move_cells.ensures.moved c.move_cells.ensures.unmarked;
       exact_tags = c.in_ok-tags.ensures.exact;
       exact_cells = rw c.replace.ensures.after c.in_ok-cells.ensures.exact;
     }
 
 pub returns-clause-contents : goal.returns-clause-contents
 returns-clause-contents g c =
-    let tags-is =
-    with_items_is c.in_ok-tags.tags c.move_cells.new.tags (c.move_cells.auto.tags ∙ c.as_mut_slice.ensures.len) in
-    let cells-is =
-    with_items_is c.in_ok-cells.cells c.move_cells.new.cells (c.move_cells.auto.cells ∙ c.as_mut_slice-2.ensures.len) in
-    rw (← c.self.view_is, entries-table_of, entries-table_of, c.replace.ensures.after, tags-is, cells-is) (rw c.as_slice.ensures.value at c.move_cells.ensures.moved)
+    resize-contents g.C.Cell.slot c.self.inside.tags c.self.inside.cells c.self.inside.len c.self.inside.used c.self.invariant.sound c.args.self.now (sym c.self.view_is) _ c.requires.power c.requires.fits c.in_ok-tags.tags c.in_ok-cells.cells _ _ _ _ (c.move_cells.auto.tags ∙ c.as_mut_slice.ensures.len) c.in_ok-tags.ensures.len (c.move_cells.auto.cells ∙ c.as_mut_slice-2.ensures.len) c.replace.ensures.after c.as_slice.ensures.value c.move_cells.ensures.probed c.move_cells.ensures.moved
 
 pub returns-clause-room : goal.returns-clause-room
 returns-clause-room g c =
-    let long : length (slots_of g.C.Cell.slot c.move_cells.new.tags c.move_cells.new.cells) ≡ c.args.count =
-    c.move_cells.ensures.probed.same_length ∙ c.move_cells.auto.tags ∙ c.as_mut_slice.ensures.len
-    ∙ c.in_ok-tags.ensures.len in
-    let tags-is =
-    with_items_is c.in_ok-tags.tags c.move_cells.new.tags (c.move_cells.auto.tags ∙ c.as_mut_slice.ensures.len) in
-    let cells-is =
-    with_items_is c.in_ok-cells.cells c.move_cells.new.cells (c.move_cells.auto.cells ∙ c.as_mut_slice-2.ensures.len) in
-    rw (← c.self.view_is, entries-table_of, room-table_of, c.replace.ensures.after, tags-is, cells-is) (omega (arith, long, c.self.invariant.sound.counted, length_permutation _ _ (rw c.as_slice.ensures.value at c.move_cells.ensures.moved)))
+    resize-room g.C.Cell.slot c.self.inside.tags c.self.inside.cells c.self.inside.len c.self.inside.used c.self.invariant.sound c.args.self.now (sym c.self.view_is) _ c.requires.power c.requires.fits c.in_ok-tags.tags c.in_ok-cells.cells _ _ _ _ (c.move_cells.auto.tags ∙ c.as_mut_slice.ensures.len) c.in_ok-tags.ensures.len (c.move_cells.auto.cells ∙ c.as_mut_slice-2.ensures.len) c.replace.ensures.after c.as_slice.ensures.value c.move_cells.ensures.probed c.move_cells.ensures.moved
 
 pub returns-clause-memory : goal.returns-clause-memory
 returns-clause-memory g c =
-    let long : length (slots_of g.C.Cell.slot c.move_cells.new.tags c.move_cells.new.cells) ≡ c.args.count =
-    c.move_cells.ensures.probed.same_length ∙ c.move_cells.auto.tags ∙ c.as_mut_slice.ensures.len
-    ∙ c.in_ok-tags.ensures.len in
-    let tags-is =
-    with_items_is c.in_ok-tags.tags c.move_cells.new.tags (c.move_cells.auto.tags ∙ c.as_mut_slice.ensures.len) in
-    let cells-is =
-    with_items_is c.in_ok-cells.cells c.move_cells.new.cells (c.move_cells.auto.cells ∙ c.as_mut_slice-2.ensures.len) in
-    rw (memory-table_of, c.replace.ensures.after, tags-is, cells-is) long
+    resize-memory g.C.Cell.slot c.self.inside.tags c.self.inside.cells c.self.inside.len c.self.inside.used c.self.invariant.sound c.args.self.now (sym c.self.view_is) _ c.requires.power c.requires.fits c.in_ok-tags.tags c.in_ok-cells.cells _ _ _ _ (c.move_cells.auto.tags ∙ c.as_mut_slice.ensures.len) c.in_ok-tags.ensures.len (c.move_cells.auto.cells ∙ c.as_mut_slice-2.ensures.len) c.replace.ensures.after c.as_slice.ensures.value c.move_cells.ensures.probed c.move_cells.ensures.moved
 
 pub destroy_empty-requires : goal.destroy_empty-requires
 destroy_empty-requires g c = grind (arith, common_steps)

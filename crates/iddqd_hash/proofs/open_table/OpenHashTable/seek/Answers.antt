@@ -1,5 +1,6 @@
 use Rattle.std.proofs.Common.{◌≡◌, ◌∙◌, ◌<◌, length, arith}
-use Rattle.std.specs.Fn.{CalledAt}
+use Rattle.std.specs.Fn.{TakesAt, CalledAt}
+use Rattle.iddqd_hash.proofs.AskLemmas.{CanAsk-joined}
 use Rattle.iddqd_hash.proofs.OpenTableLemmas.{entries-table_of, IfSome-table_of, power_from, empty_from, FindsPlace-table_of, Misses-nothing}
 use Rattle.iddqd_hash.proofs.open_table.OpenHashTable.seek.Goals as goal
 
@@ -19,7 +20,8 @@ find_cell-requires-clause-probed g c =
 
 pub find_cell-requires-clause-callable : goal.find_cell-requires-clause-callable
 find_cell-requires-clause-callable g c =
-    rw (c.as_slice.ensures.value, c.as_slice-2.ensures.value) (rw (← c.self.view_is, entries-table_of) at c.requires)
+    let can = CanAsk-joined (TakesAt g.F.FnMut) (CalledAt g.F.FnMut) _ _ c.requires.each c.requires.again in
+    rw (c.as_slice.ensures.value, c.as_slice-2.ensures.value) (rw (← c.self.view_is, entries-table_of) at can)
 
 pub returns-then-count-eq0-clause-place : goal.returns-then-count-eq0-clause-place
 returns-then-count-eq0-clause-place g c =

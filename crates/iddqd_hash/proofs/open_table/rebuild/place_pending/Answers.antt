@@ -69,3 +69,7 @@ replace_pair-requires-clause-same_length g c =
 pub put-requires-clause-same_length : goal.put-requires-clause-same_length
 put-requires-clause-same_length g c =
     omega (arith, cells_long g.C.Cell.slot c.args.tags.now c.args.cells.now, c.requires.partly_placed.same_length, c.take-hash.auto.tags, c.take-hash.auto.cells, c.placing.auto.tags, c.placing.auto.cells)
+
+pub free_place-place-requires-in-placing-clause-power : goal.free_place-place-requires-in-placing-clause-power
+free_place-place-requires-in-placing-clause-power g c =
+    rw (c.replace_pair.auto.tags, c.placing.auto.tags, c.take-hash.auto.tags) c.requires.power

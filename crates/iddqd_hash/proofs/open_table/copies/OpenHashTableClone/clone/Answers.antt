@@ -28,3 +28,11 @@ pub returns-clause-memory : goal.returns-clause-memory
 unfolding memory table_of
 returns-clause-memory g c =
     rw (← c.self.view_is) (omega (arith, c.in_ok-cloned_cells.ensures.len, c.as_slice-3.ensures.len, cells_long g.C.Cell.slot c.self.inside.tags.items c.self.inside.cells.items, cells_long g.C.Cell.slot c.in_ok-copied_exactly.field-0.items c.in_ok-cloned_cells.field-0.items))
+
+pub cloned_cells-requires-clause-probed : goal.cloned_cells-requires-clause-probed
+cloned_cells-requires-clause-probed g c =
+    rw (c.as_slice-2.ensures.value, c.as_slice-3.ensures.value) c.self.invariant.sound.probed
+
+pub cloned_cells-requires-clause-len : goal.cloned_cells-requires-clause-len
+cloned_cells-requires-clause-len g c =
+    rw (c.as_slice-2.ensures.value, c.as_slice-3.ensures.value) c.self.invariant.sound.counted

@@ -64,3 +64,9 @@ returns-in-None-clause-steps g c =
     let on = c.self.invariant.goes_on _ c.in_ok-from.was in
     let ended = rest-none _ _ _ c.self.invariant.probed _ _ on c.in-None.ensures.1 c.in-None.ensures.2 in
     (sym c.self.view_is ∙ rw c.in_ok-from.was ended, refl)
+
+pub next-requires-clause-inside : goal.next-requires-clause-inside
+next-requires-clause-inside g c =
+    let inside =
+    place_inside _ _ _ c.self.invariant.probed _ _ (c.self.invariant.goes_on _ c.in_ok-from.was) c.in-Some.ensures.0 in
+    omega (arith, inside)
