@@ -195,17 +195,18 @@ module _ {F R : Type 0} (g : Mut F (ℕ × Unit {0}) R) (read : R → Ordering) 
 
       -- the last index of the leaf is Less, and a search in those before it ends in a gap
       pub arrives-in_leaf :
-          {a b c : Asking F} (i : ℕ) (r : Ordering)
+          {a b c : Asking F} (i k : ℕ) (r : Ordering)
           → is_gt r ≡ false
           → r ≢ Equal
           → AsksWithin g (Askable (in_order t h) None) 1 a b
           → ((answer : ℕ → Ordering)
           → IsSteadyRising g (in_order t h) None read answer a
           → answer (slice_index (in_order t h) (place_in t h (to_gap p last))) ≡ r)
-          → (let ys : List ℕ = take (last - at) (drop at row) in SearchesWithin g read ys (digits (length ys)) None b (Err i) c)
+          → k ≡ digits (length (take (last - at) (drop at row)))
+          → SearchesWithin g read (take (last - at) (drop at row)) k None b (Err i) c
           → Arrives g read (in_order t h) (row_asks + 1) (place_in t h (to_gap p at))
           (place_in t h (to_gap p at) + i) a c
-      arrives-in_leaf i r gt ne asked says s limit start d =
+      arrives-in_leaf i k r gt ne asked says most s limit start d =
           let xs : List ℕ = in_order t h in
           let ys : List ℕ = take (last - at) (drop at row) in
           let count : length ys ≡ last - at =

@@ -94,8 +94,8 @@ returns-clause-arrives g c arrived =
     omega (arith, length-take (last - c.args.self.now.at) (drop c.args.self.now.at c.args.self.now.row.now)) in
     let moved = (IsAt-moved _ _ _ _ _ _ c.requires.tree c.requires.stands.at inside).1 in
     let there : place_in c.args.root.now c.args.height (to_gap c.args.self.now.path (c.args.self.now.at + c.in-Err.i)) ≡ place_in c.args.root.now c.args.height (to_gap c.args.self.now.path c.args.self.now.at) + c.in-Err.i = omega arith in
-    rw there (arrives-in_leaf g.F.FnMut read _ _ last _ _ _ c.requires.tree c.requires.stands.at (omega arith) lt c.in-Err.i c.compare.result
+    rw there (arrives-in_leaf g.F.FnMut read _ _ last _ _ _ c.requires.tree c.requires.stands.at (omega arith) lt c.in-Err.i _ c.compare.result
     (sym c.is_gt.ensures ∙ c.if-is_gt.false) (c.compare.ensures.unequal refl c.requires.unequal)
     (c.compare.ensures.asks _ (Contains-at _ _ _ is.1.0 ix))
     (told g.F.FnMut read _ _ _ c.compare.result _ (is.1.0, ix) c.compare.ensures.steady)
-    c.in-Err.ensures)
+    refl c.in-Err.ensures)
