@@ -1,3 +1,4 @@
+use Rattle.std.proofs.lemmas.Bool.{false≢true}
 use Rattle.iddqd_order.proofs.Names.{◌+◌, arith, in_order, Askable, None}
 use Rattle.iddqd_order.proofs.AskLemmas.{asks_more, CanAsk-later}
 use Rattle.iddqd_order.proofs.NearbyLemmas.{advances-then}
@@ -49,3 +50,17 @@ loop-height-preserved g c =
       some = omega arith;
       advanced = (limit + 1 + 1, omega arith, advances-then g.F.FnMut (g.H.Reads.reading c.args.how.now) (c.seek_in_leaf.ensures.goes_on c.if-seek_in_leaf.false _ _ c.loop-height.invariant.advanced.2) (c.seek_over.ensures.advances c.if-not-seek_over.false));
     }
+
+pub returns-then-not-has_passed-clause-found : goal.returns-then-not-has_passed-clause-found
+returns-then-not-has_passed-clause-found g c found = absurd (false≢true found)
+
+pub returns-then-not-has_passed-clause-missed : goal.returns-then-not-has_passed-clause-missed
+returns-then-not-has_passed-clause-missed g c missed =
+    let some = c.requires.some in
+    asks_more g.F.FnMut (Askable (in_order c.args.root.now c.args.height) None) (omega arith) c.has_passed.ensures.asked
+
+pub returns-then-left-eq0-clause-found : goal.returns-then-left-eq0-clause-found
+returns-then-left-eq0-clause-found g c found = absurd (false≢true found)
+
+pub seek_over-requires-clause-end : goal.seek_over-requires-clause-end
+seek_over-requires-clause-end g c = let end = c.seek_in_leaf.ensures.end c.if-seek_in_leaf.false in omega arith

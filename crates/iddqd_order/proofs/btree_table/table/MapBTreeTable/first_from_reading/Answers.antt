@@ -19,3 +19,16 @@ returns g c =
       spot = record { is_spot = b.level; index = ap (slice_index (order_of c.args.self.now)) b.place ∙ get_or_from_slice_get (order_of c.args.self.now) (place_in c.args.self.now.root c.args.self.now.height c.gap-path.result) _ 0 (sym b.next) };
       place_is = b.place;
     }
+
+pub returns-in_err-ix : goal.returns-in_err-ix
+returns-in_err-ix g c =
+    let b = c.in_err-ix.ensures in
+    rw c.from_residual.ensures (record {
+      asked = c.find_lower.ensures.asked;
+      place = _;
+      within = b.within;
+      begins = rw c.gap-path.ensures c.find_lower.ensures.begins;
+      index = b.next;
+      spot = tt;
+      place_is = tt;
+    })
