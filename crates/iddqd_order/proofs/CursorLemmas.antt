@@ -77,7 +77,12 @@ leaf_parent-one zero n p e = absurd (omega arith)
 leaf_parent-one (suc zero) n p e = refl
 leaf_parent-one (suc (suc h)) n p e = absurd (omega arith)
 
-leaf_parent-at : (h i : ℕ) (n : Node) (p : List ℕ) → 2 ≤ h → slice_index p h ≡ i
+pub leaf_parent-here : (h : ℕ) (n : Node) (p : List ℕ) → h ≡ 0 → leaf_parent h n p ≡ n
+unfolding leaf_parent
+leaf_parent-here zero n p e = refl
+leaf_parent-here (suc h) n p e = absurd (omega arith)
+
+pub leaf_parent-at : (h i : ℕ) (n : Node) (p : List ℕ) → 2 ≤ h → slice_index p h ≡ i
     → leaf_parent h n p ≡ leaf_parent (h - 1) (child n i) p
 unfolding leaf_parent
 leaf_parent-at zero i n p ge e = absurd (omega arith)

@@ -1,5 +1,6 @@
 -- A walk down a tree: what the search of a row says of the search of the tree.
 use Rattle.iddqd_order.proofs.Names.{◌*◌, LeadsToIndex, get_or_default, append-nil, cases_lt, get_or_at, get_or_append_left, sub-one, ◌≡◌, ◌≢◌, ◌∙◌, ℕ, zero, suc, ◌+◌, ◌-◌, ◌<◌, ◌≤◌, List, [], ◌∷◌, ◌++◌, length, get_or, drop, slice_index, Contains, refl, sym, ap, subst, arith, inl, inr, Option, Some, None, Result, Ok, Err, IfOk, length-append, append_assoc, sub-one, add-one, cases_lt, true≢false, get_or-append-add, length-map, Contains-append_cases, Ordering, Greater, Mut, Asking, Node, row, children, child, weave, before, after, flat, IsFormed, place_at_level, FullBelow, IsFullBelow, Askable, CanSearch, with_ties, IsRising, IsPlace, SearchesWithin, Searches, Finds, end_at, level_of, IfErr-weaker, index_at, Descends, FindsIn, most_in_row, row_asks, InGap}
+use Rattle.iddqd_order.specs.Descent.{Seeks}
 use Rattle.iddqd.proofs.StoreLemmas.{contains_cases}
 use Rattle.iddqd_order.proofs.AskLemmas.{asks_none, asks_wider, CanAsk-fewer, CanAsk-later, Steady-fewer}
 pub use Rattle.iddqd_order.proofs.NodeLemmas.{lists-one_more, lists-at, child-within, child-formed, path-here, path-above, holds-here, below-holds}
@@ -327,6 +328,38 @@ module _ {F R : Type 0} (g : Mut F (ℕ × Unit {0}) R) (read : R → Ordering) 
         searches = rw (on, ← shifted-end end) (SearchesWithin-more g read sought le (Searches-part g read sought (leads-below l n i a b ne f s) (end_at end (place_at_level (level_of end) (l - 1) (child n i) p)) d.searches));
         reaches = below-holds (level_of end) l n p ne (child-within l n i ne f s.missed) d.reaches;
         lower_end = IfErr-weaker end _ _ (λ k q. let here = counts_here n full l full_below k counts (λ up. q.1 (omega arith)) in (full-at k l n p here.0 (λ _. q.0), here.1)) d.lower_end;
+      }
+
+  -- a walk to a gap ends in a leaf
+  pub Seeks-leaf :
+      (l : ℕ) (n : Node) (p : List ℕ) (a b : Asking F)
+      → l ≡ 0
+      → IsFormed l n
+      → SearchesWithin g read (row n) row_asks sought a (Err (slice_index p l)) b
+      → Seeks g read sought l n a p b
+  Seeks-leaf (suc h) n p a b e f s = absurd (omega arith)
+  Seeks-leaf zero n p a b e f s = record {
+    searches =
+        rw (flat-leaf zero n refl, place_at_level-leaf zero zero n p refl)
+        (SearchesWithin-more g read sought (omega arith) s);
+    reaches = reaches-here InGap zero n p s.missed;
+  }
+
+  -- or below the node
+  pub Seeks-below :
+      (l i : ℕ) (n : Node) (p : List ℕ) (a b c : Asking F)
+      → l ≢ 0
+      → slice_index p l ≡ i
+      → IsFormed l n
+      → SearchesWithin g read (row n) row_asks sought a (Err i) b
+      → Seeks g read sought (l - 1) (child n i) b p c
+      → Seeks g read sought l n a p c
+  Seeks-below l i n p a b c ne at f s d =
+      let on : place_at_level 0 l n p ≡ length (before i (row n) (lists (l - 1) (children n))) + place_at_level 0 (l - 1) (child n i) p =
+      rw at at (place_at_level-below 0 l n p ne (λ e. absurd (omega arith))) in
+      record {
+        searches = rw on (SearchesWithin-more g read sought (omega arith) (Searches-part g read sought (leads-below l n i a b ne f s) (Err _) d.searches));
+        reaches = below-holds 0 l n p ne (rw at (child-within l n i ne f s.missed)) (rw at d.reaches);
       }
 
   -- a find ends at an index of the node

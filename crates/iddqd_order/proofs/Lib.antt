@@ -16,6 +16,7 @@ pub mod MemberLemmas
 mod MendLemmas
 pub mod MoveLemmas
 mod Names
+pub mod NearbyLemmas
 pub mod NodeLemmas
 mod NodeRenameLemmas
 mod OrderedTableLemmas

@@ -1,12 +1,16 @@
 -- Walks between places, which are found by answers of which none is Equal.
-use Rattle.iddqd_order.proofs.Names.{◌≡◌, ◌≢◌, ◌↔◌, ℕ, ◌-◌, ◌≤◌, List, [], length, drop, slice_index, refl, ap, Option, Bool, arith, None, Err, length-drop, take_all, Ordering, Less, Equal, Greater, ordering_then, Mut, Asking, AsksWithin, Askable, IsTrue, Compares, IsRising, IsSteadyRising, Searches, Steps, next_behind, part, false, Back, Front}
+use Rattle.iddqd_order.proofs.Names.{◌≡◌, ◌≢◌, ◌↔◌, ℕ, ◌-◌, ◌≤◌, List, [], length, drop, slice_index, refl, ap, Option, Bool, arith, None, Err, length-drop, take_all, Ordering, Less, Equal, Greater, ordering_then, Mut, Asking, AsksWithin, Askable, IsTrue, Compares, IsRising, IsSteadyRising, Searches, SearchesWithin, Node, IsTree, in_order, Steps, next_behind, part, false, Back, Front}
 use Rattle.std.specs.Iterator.{YieldsFirst, YieldsLast}
 use Rattle.std.specs.Ordering.{is_eq}
 use Rattle.std.specs.declared.ops.Bound.{Bound}
 use Rattle.std.specs.declared.ops.Bound.TheVariants.{Included, Excluded, Unbounded}
-use Rattle.iddqd_order.specs.Range.{Ends, IsBoundBy}
+use Rattle.iddqd_order.specs.Descent.{walk_asks}
+use Rattle.iddqd_order.specs.Range.{Ends, EndsAt, IsBoundBy}
+use Rattle.iddqd_order.specs.Search.{SearchAsks}
 use Rattle.iddqd_order.proofs.AskLemmas.{Steady-later}
 use Rattle.iddqd_order.proofs.CursorLemmas.{left-ahead, left-back, left-length}
+use Rattle.iddqd_order.proofs.PartLemmas.{SearchesWithin-more}
+use Rattle.iddqd_order.proofs.ReckoningLemmas.{reckoning-tree}
 
 -- where Equal counts as another answer
 pub never-equal : (e o : Ordering) → e ≢ Equal → ordering_then o e ≢ Equal
@@ -73,6 +77,38 @@ pub bound-met :
     → IsBoundBy g read e xs a i
 bound-met g read xs e ne a b i s answer rises =
     s.place (λ ix. ordering_then (answer ix) e) (steady-counted g read xs e ne answer a rises)
+
+-- by a walk from the root
+pub bound-sought :
+    {F R : Type 0} (g : Mut F (ℕ × Unit {0}) R) (read : R → Ordering) (t : Option Node) (h : ℕ) (e : Ordering)
+    → e ≢ Equal
+    → (a b : Asking F) (i : ℕ)
+    → IsTree t h
+    → SearchesWithin g (λ r. ordering_then (read r) e) (in_order t h) (walk_asks t h) None a (Err i) b
+    → SearchAsks g (in_order t h) None a b × IsBoundBy g read e (in_order t h) a i
+bound-sought g read t h e ne a b i tree s =
+    let few = reckoning-tree t h 0 tree (omega arith) (omega arith) in
+    let all = SearchesWithin-more g (λ r. ordering_then (read r) e) None (omega arith) s in
+    (all.asked, bound-met g read (in_order t h) e ne a b i all)
+
+-- and so does a search for the end of a range
+pub ends-met :
+    {F R : Type 0} (g : Mut F (ℕ × Unit {0}) R) (read : R → Ordering) (xs : List ℕ) (e : Ordering)
+    → e ≢ Equal
+    → (a b : Asking F) (i j : ℕ)
+    → EndsAt xs (λ to. Searches g (λ r. ordering_then (read r) e) xs None a (Err to) b) i j
+    → EndsAt xs (IsBoundBy g read e xs a) i j
+ends-met g read xs e ne a b i j s = record {
+  to = s.to;
+  to_within = s.to_within;
+  end = bound-met g read xs e ne a b s.to s.end;
+  ahead = s.ahead;
+  same = s.same;
+}
+
+-- a range without an upper bound
+pub ends-last : (xs : List ℕ) (i j : ℕ) → i ≤ length xs → j ≡ length xs → EndsAt xs (λ to. to ≡ length xs) i j
+ends-last xs i j le e = record { to = j; to_within = omega arith; end = e; ahead = omega arith; same = refl }
 
 -- a bound by the answers after some asks is a bound by the answers before them
 pub bound-before :

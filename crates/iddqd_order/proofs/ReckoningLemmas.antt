@@ -1,6 +1,7 @@
 -- How many indexes a tree has at least, and so how many levels it has and how many asks a search takes at most.
-use Rattle.iddqd_order.proofs.Names.{◌≡◌, ℕ, zero, suc, ◌+◌, ◌*◌, ◌/◌, ◌^◌, ◌<◌, ◌≤◌, List, [], ◌∷◌, length, All, arith, inl, inr, length-append, eqb, nat_eq, mul-le-mul_right, pow-suc, one-le-pow, pow-le-pow_right, IsDistinct, cases_lt, length-map, All-head, All-tail, All-map, Any-from_list_any, eqb-true, length-le_from_distinct_below, Node, digits, bound, row, children, weave, flat, IsFormed, least_in_row, most_levels, MOST_INDEXES, row_asks}
+use Rattle.iddqd_order.proofs.Names.{◌≡◌, ℕ, zero, suc, ◌+◌, ◌*◌, ◌/◌, ◌^◌, ◌<◌, ◌≤◌, List, [], ◌∷◌, length, All, arith, inl, inr, length-append, eqb, nat_eq, mul-le-mul_right, pow-suc, one-le-pow, pow-le-pow_right, IsDistinct, cases_lt, length-map, All-head, All-tail, All-map, Any-from_list_any, eqb-true, length-le_from_distinct_below, Node, digits, bound, row, children, weave, flat, IsFormed, least_in_row, most_levels, MOST_INDEXES, Option, Some, None, IsTree, in_order, row_asks}
 use Rattle.iddqd_order.proofs.DigitLemmas.{digits-half}
+use Rattle.iddqd_order.specs.Descent.{walk_asks}
 use Rattle.iddqd_order.proofs.NodeLemmas.{lists}
 
 -- lists of at least b - 1 indexes each, woven
@@ -37,28 +38,49 @@ least m (suc h) n f le =
 power_pos : (h : ℕ) → 1 ≤ 6 ^ h
 power_pos h = one-le-pow h 6 (omega arith)
 
--- a sixth of a number has two digits less, or more
-pub digits-six : (h n : ℕ) → 6 ^ h ≤ n → 2 * h + 1 ≤ digits n
-digits-six zero n le = let half = digits-half n (omega arith) in omega arith
-digits-six (suc h) n le =
-    let power : 6 ^ suc h ≡ 6 ^ h * 6 = pow-suc 6 h in
-    let pos = power_pos h in
+digits-power : (k n : ℕ) → 2 ^ k ≤ n → k + 1 ≤ digits n
+digits-power zero n le = let half = digits-half n (omega arith) in omega arith
+digits-power (suc k) n le =
+    let power : 2 ^ suc k ≡ 2 ^ k * 2 = pow-suc 2 k in
+    let pos = one-le-pow k 2 (omega arith) in
     let half = digits-half n (omega arith) in
-    let quarter = digits-half (n / 2) (omega arith) in
-    let rest = digits-six h (n / 2 / 2) (omega arith) in
+    let rest = digits-power k (n / 2) (omega arith) in
     omega arith
 
--- four asks in each level are within the bound, and two are left over
+-- the binary digits of the number of indexes in a tree of h levels above its leaves
+digits-tree : (h k n : ℕ) → k ≤ h + 1 → k ≤ 3 → 2 * 6 ^ h ≤ n + 1 → 2 * h + k ≤ digits n
+digits-tree zero k n low few many = let digits = digits-power 0 n (omega arith) in omega arith
+digits-tree (suc zero) k n low few many = let digits = digits-power 3 n (omega arith) in omega arith
+digits-tree (suc (suc zero)) k n low few many = let digits = digits-power 6 n (omega arith) in omega arith
+digits-tree (suc (suc (suc h))) k n low few many =
+    let power : 6 ^ suc (suc (suc h)) ≡ 6 ^ suc (suc h) * 6 = pow-suc 6 (suc (suc h)) in
+    let pos = power_pos (suc (suc h)) in
+    let half = digits-half n (omega arith) in
+    let quarter = digits-half (n / 2) (omega arith) in
+    let rest = digits-tree (suc (suc h)) k (n / 2 / 2) (omega arith) few (omega arith) in
+    omega arith
+
+-- four asks in each level are within the bound, and two in each of k leaves are left over
 pub reckoning :
-    (h : ℕ) (n : Node)
+    (h k : ℕ) (n : Node)
     → IsFormed h n
     → 1 ≤ length (row n)
-    → row_asks * (h + 1) + 2 ≤ bound (length (flat h n))
-reckoning h n f one =
-    let pos = power_pos h in
+    → k ≤ h + 1
+    → k ≤ 3
+    → row_asks * (h + 1) + 2 * k ≤ bound (length (flat h n))
+reckoning h k n f one low few =
     let many = least 1 h n f one in
-    let few = digits-six h (length (flat h n)) (omega arith) in
+    let digits = digits-tree h k (length (flat h n)) low few (omega arith) in
     omega arith
+
+pub reckoning-tree :
+    (t : Option Node) (h k : ℕ)
+    → IsTree t h
+    → k ≤ h + 1
+    → k ≤ 3
+    → walk_asks t h + 2 * k ≤ bound (length (in_order t h))
+reckoning-tree None h k e low few = omega arith
+reckoning-tree (Some n) h k t low few = reckoning h k n t.0 t.1 low few
 
 -- as many indexes as there are lie in at most twelve levels
 pub twelve_levels :

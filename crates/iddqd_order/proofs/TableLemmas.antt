@@ -76,7 +76,7 @@ module _ {F R : Type 0} (g : Mut F (ℕ × Unit {0}) R) (read : R → Ordering) 
       → EndsIn g read sought (record { root = Some n; height = h; reserved = blocks }) a (Ok spot) b
   unfolding order_of
   EndsIn-spot h blocks n spot a b le t d = record {
-    searches = SearchesWithin-more g read sought (let asks = reckoning h n t.0 t.1 in omega arith) d.searches;
+    searches = SearchesWithin-more g read sought (let asks = reckoning h 1 n t.0 t.1 (omega arith) (omega arith) in omega arith) d.searches;
     holds = d.reaches;
     fits = tt;
   }
@@ -89,7 +89,7 @@ module _ {F R : Type 0} (g : Mut F (ℕ × Unit {0}) R) (read : R → Ordering) 
       → EndsIn g read sought (record { root = Some n; height = h; reserved = blocks }) a (Err gap) b
   unfolding order_of
   EndsIn-gap h blocks n gap a b le t d = record {
-    searches = SearchesWithin-more g read sought (let asks = reckoning h n t.0 t.1 in omega arith) d.searches;
+    searches = SearchesWithin-more g read sought (let asks = reckoning h 1 n t.0 t.1 (omega arith) (omega arith) in omega arith) d.searches;
     holds = tt;
     fits = record {
       tree = t;

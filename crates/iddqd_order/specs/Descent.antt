@@ -8,7 +8,7 @@ use Rattle.iddqd_order.specs.declared.btree_table.node.Node.{Node}
 use Rattle.iddqd_order.specs.declared.btree_table.spot.Spot.{Spot}
 use Rattle.iddqd_order.specs.Gap.{Fits, gap_place}
 use Rattle.iddqd_order.specs.MapBTreeTable.{Order, order_of, IsSpot, spot_place}
-use Rattle.iddqd_order.specs.Node.{flat, Stop, AtIndex, InGap, Reaches, place_at_level, IsFullBelow}
+use Rattle.iddqd_order.specs.Node.{flat, Stop, AtIndex, InGap, Reaches, ReachesGap, place, place_at_level, IsFullBelow}
 use Rattle.iddqd_order.specs.Search.{SearchesWithin, Searches}
 use Rattle.iddqd_order.specs.Digits.{row_asks}
 
@@ -16,6 +16,11 @@ use Rattle.iddqd_order.specs.Digits.{row_asks}
 abbrev pub level_of : Result ℕ ℕ → ℕ
 level_of (Ok l) = l
 level_of (Err k) = 0
+
+-- how often a walk from the root asks at most
+abbrev pub walk_asks : Option Node → ℕ → ℕ
+walk_asks None h = 0
+walk_asks (Some n) h = row_asks * (h + 1)
 
 -- whether a walk ends at an index or in a gap
 abbrev pub stop_of : Result ℕ ℕ → Stop
@@ -49,6 +54,11 @@ module _ {F R : Type 0} (g : Mut F (ℕ × Unit {0}) R) (read : R → Ordering) 
         (end_at end (place_at_level (level_of end) h n p)) new
     pub reaches : Reaches (stop_of end) (level_of end) h n p
     pub lower_end : IfErr end (λ k. IsFullBelow k h n p × (h < k → k ≡ full))
+
+  -- the walk asks at most four times a level and writes the path p, which goes to a gap
+  pub record Seeks (h : ℕ) (n : Node) (old : Asking F) (p : List ℕ) (new : Asking F) : Type 0 where
+    pub searches : SearchesWithin g read (flat h n) (row_asks * (h + 1)) sought old (Err (place h n p)) new
+    pub reaches : ReachesGap h n p
 
   -- the walk asks at most four times a level, and ends at the index `found`, or in a gap if that is `None`
   pub record FindsIn (h : ℕ) (n : Node) (old : Asking F) (found : Option ℕ) (new : Asking F) : Type 0 where

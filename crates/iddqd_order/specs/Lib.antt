@@ -10,6 +10,7 @@ pub mod IntoIter
 pub mod Iter
 pub mod KeyOrder
 pub mod MapBTreeTable
+pub mod Nearby
 pub mod Node
 pub mod OrderedIter
 pub mod OrderedTable

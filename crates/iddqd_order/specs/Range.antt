@@ -42,6 +42,15 @@ pub record IsPart (xs : List ℕ) (from to : ℕ) (walk : Range) : Type 0 where
   pub to_within : to ≤ length xs
   pub ahead : indexes_ahead walk ≡ part from to xs
 
+-- A range of the indexes xs begins at gap `from` and ends at gap `at`. That is the gap `to` where `IsEnd` says that it
+-- ends, or `from` if `to` comes before it.
+pub record EndsAt (xs : List ℕ) (IsEnd : ℕ → Type 0) (from at : ℕ) : Type 0 where
+  pub to : ℕ
+  pub to_within : to ≤ length xs
+  pub end : IsEnd to
+  pub ahead : from ≤ at
+  pub same : part from at xs ≡ part from to xs
+
 -- how a bound reads a key: as its query compares with the key
 abbrev pub bound_reading : {Q K : Type 0} → (Q → K → Ordering) → Bound (Bor Q) → Bound (K → Ordering)
 bound_reading compare b = bound_map (λ q. compare q.now) b

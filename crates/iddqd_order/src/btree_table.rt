@@ -25,6 +25,7 @@ pub mod gap;
 pub mod into_iter;
 pub mod iter;
 mod memory;
+mod nearby;
 mod node;
 mod path;
 pub mod prepared_insert;

@@ -4,11 +4,11 @@
 //! towards the back also keeps the node above the leaf, and descends about once in nine leaves. Descending at each
 //! leaf took twice as long for 1,000 indexes, and 1.4 times as long for a million.
 ghost use Rattle.std.specs.Prelude.{◌≡◌, ℕ, ◌<◌, ◌≤◌, length, slice_index, IfSome, IsNone};
-ghost use Rattle.iddqd_order.specs.Cursor.{AreBeside, AtEdge, Compares, StepsOver, Steps, IsGap, Stands, edge_of, gap_of, leaf, leaf_parent, opposite, to_gap};
+ghost use Rattle.iddqd_order.specs.Cursor.{AreBeside, AtEdge, Compares, StepsOver, Steps, IsGap, Stands, edge_of, gap_of, leaf_parent, opposite, to_gap};
 ghost use Rattle.iddqd_order.specs.Shape.{most_in_row, most_levels};
 ghost use Rattle.iddqd_order.specs.declared.btree_table.node.Node.{Node as NodeOf};
 ghost use Rattle.iddqd_order.specs.Node.{flat, ReachesGap, IsFormed, place};
-ghost use Rattle.iddqd_order.specs.Tree.{IsTree, ReachesGapIn, in_order, place_in};
+ghost use Rattle.iddqd_order.specs.Tree.{IsTree, in_order};
 
 use crate::btree_table::node::Node;
 use crate::btree_table::path::Path;
@@ -72,21 +72,15 @@ impl<'a> Cursor<'a> {
         }
     }
 
-    // A cursor at the gap to which a path goes.
-    pub(super) fn new(root: &'a Option<Node>, height: usize, path: &Path) -> Cursor<'a>
-        requires tree { IsTree root.now height }
-        requires goes { ReachesGapIn root.now height path.now }
-        ensures stands { Stands root.now height result }
-        ensures gap { gap_of root.now height result ≡ place_in root.now height path.now }
+    // The same cursor.
+    pub(super) fn copied(&self) -> Cursor<'a>
+        ensures { result ≡ self.now }
     {
-        match root {
-            None => Cursor::at_end(root, height, End::Front),
-            Some(node) => Cursor {
-                path: *path,
-                row: node.leaf(height, path),
-                at: path.leaf_place(),
-                leaf_parent: None,
-            },
+        Cursor {
+            path: self.path,
+            row: self.row,
+            at: self.at,
+            leaf_parent: self.leaf_parent,
         }
     }
 
@@ -124,7 +118,7 @@ impl<'a> Cursor<'a> {
 
     // At the end of a leaf, moves over the next index into the next leaf, and returns the index.
     #[inline(never)]
-    fn next_leaf(&mut self, root: &'a Option<Node>, height: usize) -> Option<ItemIndex>
+    pub(super) fn next_leaf(&mut self, root: &'a Option<Node>, height: usize) -> Option<ItemIndex>
         requires tree { IsTree root.now height }
         requires stands { Stands root.now height self.old }
         requires end { length self.old.row.now ≤ self.old.at }
@@ -258,19 +252,6 @@ impl Node {
             return self.row.as_slice();
         }
         self.children[place].edge(level - 1, path, end)
-    }
-
-    // The leaf to which a path goes.
-    fn leaf(&self, level: usize, path: &Path) -> &[ItemIndex]
-        requires formed { IsFormed level self.now }
-        requires levels { level < most_levels }
-        requires goes { ReachesGap level self.now path.now }
-        ensures { result.now ≡ leaf level self.now path.now }
-    {
-        if level == 0 {
-            return self.row.as_slice();
-        }
-        self.children[path.get(level)].leaf(level - 1, path)
     }
 
     // The node above the leaf to which a path goes. None if this node is the leaf.

@@ -1,9 +1,11 @@
 //! Searches of a tree: one walk down from the root, at most four asks a level.
 //!
-//! A tree with h levels above its leaves has at least `2 * 6^h - 1` indexes. So four asks a level, and one more
-//! at the front, are within the bound of `4 + 2 * digits(len)`.
-ghost use Rattle.std.specs.Prelude.{◌≡◌, ℕ, ◌+◌, ◌*◌, ◌<◌, ◌≤◌, Some, None, IfSome, IsNone, Contains, length, slice_index};
-ghost use Rattle.iddqd_order.specs.Descent.{Descends, FindsIn};
+//! A tree with h levels above its leaves has at least `2 * 6^h - 1` indexes. So four asks a level, and one more at the
+//! front or two in each of up to three leaves, are within the bound of `4 + 2 * digits(len)`.
+ghost use Rattle.std.specs.Prelude.{◌≡◌, ◌≢◌, ℕ, ◌+◌, ◌*◌, ◌<◌, ◌≤◌, Some, None, IfSome, IsNone, Contains, length, slice_index};
+ghost use Rattle.std.specs.declared.cmp.Ordering.{Ordering};
+ghost use Rattle.iddqd_order.specs.Cursor.{leaf, leaf_parent};
+ghost use Rattle.iddqd_order.specs.Descent.{Descends, FindsIn, Seeks};
 ghost use Rattle.iddqd_order.specs.Digits.{row_asks};
 ghost use Rattle.iddqd_order.specs.MapBTreeTable.{StandsAt};
 ghost use Rattle.iddqd_order.specs.Node.{flat, IsFormed, LeadsToIndex};
@@ -17,6 +19,7 @@ use crate::btree_table::reading::Reads;
 use crate::btree_table::row::{CAPACITY, Row};
 use crate::btree_table::search::search;
 use iddqd::item_index::ItemIndex;
+use std::cmp::Ordering;
 
 impl Node {
     // Searches from this node down, and returns the index that it hits.
@@ -81,6 +84,44 @@ impl Node {
                         return Err(full);
                     }
                     level -= 1;
+                    node = &node.children[i];
+                }
+            }
+        }
+    }
+
+    // Searches from this node down, where no answer is read as Equal, and records its way to a gap in `path`. Returns
+    // the leaf of that gap, and the node above the leaf, or this node if it is the leaf.
+    pub(super) fn seek<R, F: FnMut(ItemIndex) -> R, H: Reads<R>>(
+        &self,
+        height: usize,
+        asking: &mut Asking<F>,
+        how: &H,
+        path: &mut Path,
+    ) -> (&[ItemIndex], &Node)
+        requires formed { IsFormed height self.now }
+        requires levels { height < most_levels }
+        requires path { length path.old ≡ most_levels }
+        requires unequal { (r : R) → H.reading how.now r ≢ Ordering.Equal }
+        requires can_search { CanSearch F.FnMut (flat height self.now) None asking.old }
+        ensures path { length path.new ≡ most_levels }
+        ensures seeks { Seeks F.FnMut (H.reading how.now) None height self.now asking.old path.new asking.new }
+        ensures leaf { result.0.now ≡ leaf height self.now path.new }
+        ensures parent { result.1.now ≡ leaf_parent height self.now path.new }
+    {
+        let mut above = self;
+        let mut node = self;
+        let mut level = height;
+        loop {
+            match search_row(&node.row, asking, how, &None) {
+                Ok(_) => unreachable!(),
+                Err(i) => {
+                    path.set(level, i);
+                    if level == 0 {
+                        return (node.row.as_slice(), above);
+                    }
+                    level -= 1;
+                    above = node;
                     node = &node.children[i];
                 }
             }

@@ -12,17 +12,15 @@
 ghost use Rattle.std.specs.Prelude.{◌≡◌, ◌≢◌, None, length};
 ghost use Rattle.std.specs.declared.cmp.Ordering.{Ordering};
 ghost use Rattle.std.specs.declared.cmp.Ordering.TheVariants.{Less, Equal, Greater};
-ghost use Rattle.iddqd_order.specs.Cursor.{edge_of};
+ghost use Rattle.iddqd_order.specs.Cursor.{Stands, edge_of, gap_of};
 ghost use Rattle.iddqd_order.specs.MapBTreeTable.{order_of};
-ghost use Rattle.iddqd_order.specs.Range.{bound_reading, Begins, Ends, IsBoundBy, IsPart, WalksBetween, WalksBetweenBy, WalksFrom};
+ghost use Rattle.iddqd_order.specs.Range.{bound_reading, Begins, Ends, EndsAt, IsBoundBy, WalksBetween, WalksBetweenBy, WalksFrom};
 ghost use Rattle.iddqd_order.specs.Search.{CanSearch, SearchAsks};
-ghost use Rattle.iddqd_order.specs.Tree.{ReachesGapIn, place_in};
+ghost use Rattle.iddqd_order.specs.Tree.{IsTree};
 
 use crate::btree_table::asking::Asking;
 use crate::btree_table::cursor::{Cursor, End};
-use crate::btree_table::front::Start;
 use crate::btree_table::node::Node;
-use crate::btree_table::path::Path;
 use crate::btree_table::reading::{
     AsOrdering, ByQuery, EqualAsGreater, EqualAsLess, Reads, by_query,
 };
@@ -62,42 +60,30 @@ impl<'a> Model for Range<'a> {
 
 #[tactic(auto, unfolding(crate::specs::Range::indexes_ahead))]
 impl<'a> Range<'a> {
-    ghost use Rattle.std.specs.Prelude.{◌↔◌, [], IsTrue, drop};
-    ghost use Rattle.iddqd_order.specs.Cursor.{part};
+    ghost use Rattle.std.specs.Prelude.{◌↔◌, ◌≤◌, [], IsTrue};
+    ghost use Rattle.iddqd_order.specs.Cursor.{Stands, gap_of, part};
     ghost use Rattle.iddqd_order.specs.Range.{indexes_ahead};
-    ghost use Rattle.iddqd_order.specs.Tree.{IsTree, ReachesGapIn, in_order, place_in};
+    ghost use Rattle.iddqd_order.specs.Tree.{IsTree, in_order};
 
-    // The indexes of a tree between two gaps; none if the second comes first.
-    fn new(root: &'a Option<Node>, height: usize, front: &Path, back: &Path) -> Range<'a>
+    // The indexes of a tree between two gaps.
+    fn new(
+        root: &'a Option<Node>,
+        height: usize,
+        front: &Cursor<'a>,
+        back: &Cursor<'a>,
+    ) -> Range<'a>
         requires tree { IsTree root.now height }
-        requires front { ReachesGapIn root.now height front.now }
-        requires back { ReachesGapIn root.now height back.now }
+        requires front { Stands root.now height front.now }
+        requires back { Stands root.now height back.now }
+        requires ahead { gap_of root.now height front.now ≤ gap_of root.now height back.now }
         ensures { indexes_ahead result
-            ≡ part (place_in root.now height front.now) (place_in root.now height back.now) (in_order root.now height) }
-    {
-        let mut back = *back;
-        if back.compare(front, height).is_lt() {
-            back = *front;
-        }
-        Range {
-            root,
-            height,
-            front: Cursor::new(root, height, front),
-            back: Cursor::new(root, height, &back),
-        }
-    }
-
-    // The indexes of a tree behind a gap.
-    fn from(root: &'a Option<Node>, height: usize, front: &Path) -> Range<'a>
-        requires tree { IsTree root.now height }
-        requires goes { ReachesGapIn root.now height front.now }
-        ensures { indexes_ahead result ≡ drop (place_in root.now height front.now) (in_order root.now height) }
+            ≡ part (gap_of root.now height front.now) (gap_of root.now height back.now) (in_order root.now height) }
     {
         Range {
             root,
             height,
-            front: Cursor::new(root, height, front),
-            back: Cursor::at_end(root, height, End::Back),
+            front: front.copied(),
+            back: back.copied(),
         }
     }
 
@@ -225,8 +211,9 @@ impl MapBTreeTable {
         ensures { WalksBetweenBy F.FnMut G.FnMut (order_of self.now) from.old to.old result from.new to.new }
     {
         let front = self.find_bound(from, &AsOrdering, Ordering::Less);
-        let back = self.find_bound(to, &AsOrdering, Ordering::Greater);
-        self.walk_between(&front, &back)
+        let back = self.find_end(&front, to, &AsOrdering, Ordering::Greater);
+        let (root, height) = self.tree();
+        Range::new(root, height, &front, &back)
     }
 
     /// The indexes whose keys are within two bounds; none if the lower bound is above the upper one. The asking
@@ -262,8 +249,9 @@ impl MapBTreeTable {
             (bound_reading H.reading upper.entry) asking.old result asking.new }
     {
         let front = self.find_lower(lower, asking);
-        let back = self.find_upper(upper, asking);
-        self.walk_between(&front, &back)
+        let back = self.find_upper(&front, upper, asking);
+        let (root, height) = self.tree();
+        Range::new(root, height, &front, &back)
     }
 
     // `iter_from_by`, `iter_from`, `iter_after_by` and `iter_after`, generic over how an answer is read. Equal is read
@@ -280,97 +268,110 @@ impl MapBTreeTable {
     {
         let front = self.find_bound(asking, how, at_equal);
         let (root, height) = self.tree();
-        Range::from(root, height, &front)
+        let back = Cursor::at_end(root, height, End::Back);
+        Range::new(root, height, &front, &back)
     }
 
-    // The path to the gap where a range with this lower bound begins.
+    // The cursor at the gap where a range with this lower bound begins.
     pub(super) fn find_lower<R, H: Reads<R>, F: FnMut(ItemIndex) -> R>(
         &self,
         lower: Bound<&H>,
         asking: &mut Asking<F>,
-    ) -> Path
+    ) -> Cursor<'_>
         requires { CanSearch F.FnMut (order_of self.now) None asking.old }
-        ensures goes { ReachesGapIn self.now.root self.now.height result }
+        ensures tree { IsTree self.now.root self.now.height }
+        ensures stands { Stands self.now.root self.now.height result }
         ensures asked { SearchAsks F.FnMut (order_of self.now) None asking.old asking.new }
         ensures begins { Begins F.FnMut (order_of self.now) (bound_reading H.reading lower.entry) asking.old
-            (place_in self.now.root self.now.height result) }
+            (gap_of self.now.root self.now.height result) }
     {
         match lower {
             Bound::Included(how) => self.find_bound(asking, how, Ordering::Less),
             Bound::Excluded(how) => self.find_bound(asking, how, Ordering::Greater),
-            Bound::Unbounded => self.end_path(End::Front),
+            Bound::Unbounded => self.end_cursor(End::Front),
         }
     }
 
-    // The path to the gap where a range with this upper bound ends.
-    fn find_upper<R, H: Reads<R>, F: FnMut(ItemIndex) -> R>(
-        &self,
+    // The cursor at the gap where a range with this upper bound ends that begins at `front`.
+    fn find_upper<'a, R, H: Reads<R>, F: FnMut(ItemIndex) -> R>(
+        &'a self,
+        front: &Cursor<'a>,
         upper: Bound<&H>,
         asking: &mut Asking<F>,
-    ) -> Path
-        requires { CanSearch F.FnMut (order_of self.now) None asking.old }
-        ensures goes { ReachesGapIn self.now.root self.now.height result }
+    ) -> Cursor<'a>
+        requires stands { Stands self.now.root self.now.height front.now }
+        requires can_search { CanSearch F.FnMut (order_of self.now) None asking.old }
+        ensures stands { Stands self.now.root self.now.height result }
         ensures asked { SearchAsks F.FnMut (order_of self.now) None asking.old asking.new }
-        ensures ends { Ends F.FnMut (order_of self.now) (bound_reading H.reading upper.entry) asking.old
-            (place_in self.now.root self.now.height result) }
+        ensures ends { EndsAt (order_of self.now)
+            (Ends F.FnMut (order_of self.now) (bound_reading H.reading upper.entry) asking.old)
+            (gap_of self.now.root self.now.height front.now) (gap_of self.now.root self.now.height result) }
     {
         match upper {
-            Bound::Included(how) => self.find_bound(asking, how, Ordering::Greater),
-            Bound::Excluded(how) => self.find_bound(asking, how, Ordering::Less),
-            Bound::Unbounded => self.end_path(End::Back),
+            Bound::Included(how) => self.find_end(front, asking, how, Ordering::Greater),
+            Bound::Excluded(how) => self.find_end(front, asking, how, Ordering::Less),
+            Bound::Unbounded => self.end_cursor(End::Back),
         }
     }
 
-    // The path to the gap where what is sought would go, with Equal read as `at_equal`.
+    // The cursor at the gap where what is sought would go, with Equal read as `at_equal`.
     #[inline(always)]
     fn find_bound<R, F: FnMut(ItemIndex) -> R, H: Reads<R>>(
         &self,
         asking: &mut Asking<F>,
         how: &H,
         at_equal: Ordering,
-    ) -> Path
+    ) -> Cursor<'_>
         requires can_search { CanSearch F.FnMut (order_of self.now) None asking.old }
         requires unequal { at_equal ≢ Equal }
-        ensures goes { ReachesGapIn self.now.root self.now.height result }
+        ensures tree { IsTree self.now.root self.now.height }
+        ensures stands { Stands self.now.root self.now.height result }
         ensures asked { SearchAsks F.FnMut (order_of self.now) None asking.old asking.new }
         ensures bound { IsBoundBy F.FnMut (H.reading how.now) at_equal (order_of self.now) asking.old
-            (place_in self.now.root self.now.height result) }
+            (gap_of self.now.root self.now.height result) }
     {
         // No answer is read as Equal.
+        let (root, height) = self.tree();
         match at_equal {
-            Ordering::Less => {
-                match self.descend(Start::Root, asking, &EqualAsLess(how), &None) {
-                    Ok(_) => unreachable!(),
-                    Err(gap) => gap.path,
-                }
-            }
-            Ordering::Greater => {
-                match self.descend(Start::Root, asking, &EqualAsGreater(how), &None) {
-                    Ok(_) => unreachable!(),
-                    Err(gap) => gap.path,
-                }
-            }
+            Ordering::Less => Cursor::seek(root, height, asking, &EqualAsLess(how)),
+            Ordering::Greater => Cursor::seek(root, height, asking, &EqualAsGreater(how)),
             Ordering::Equal => unreachable!(),
         }
     }
 
-    // The path to the first or last gap.
-    fn end_path(&self, end: End) -> Path
-        ensures goes { ReachesGapIn self.now.root self.now.height result }
-        ensures gap { place_in self.now.root self.now.height result ≡ edge_of end (length (order_of self.now)) }
+    // The same for the end of a range that begins at `front`: if the end comes before `front`, it is `front`.
+    #[inline(always)]
+    fn find_end<'a, R, F: FnMut(ItemIndex) -> R, H: Reads<R>>(
+        &'a self,
+        front: &Cursor<'a>,
+        asking: &mut Asking<F>,
+        how: &H,
+        at_equal: Ordering,
+    ) -> Cursor<'a>
+        requires stands { Stands self.now.root self.now.height front.now }
+        requires can_search { CanSearch F.FnMut (order_of self.now) None asking.old }
+        requires unequal { at_equal ≢ Equal }
+        ensures stands { Stands self.now.root self.now.height result }
+        ensures asked { SearchAsks F.FnMut (order_of self.now) None asking.old asking.new }
+        ensures ends { EndsAt (order_of self.now)
+            (IsBoundBy F.FnMut (H.reading how.now) at_equal (order_of self.now) asking.old)
+            (gap_of self.now.root self.now.height front.now) (gap_of self.now.root self.now.height result) }
     {
         let (root, height) = self.tree();
-        Cursor::at_end(root, height, end).gap()
+        match at_equal {
+            Ordering::Less => front.seek_end(root, height, asking, &EqualAsLess(how)),
+            Ordering::Greater => front.seek_end(root, height, asking, &EqualAsGreater(how)),
+            Ordering::Equal => unreachable!(),
+        }
     }
 
-    // The indexes between two gaps; none if the second comes first.
-    fn walk_between(&self, front: &Path, back: &Path) -> Range<'_>
-        requires front { ReachesGapIn self.now.root self.now.height front.now }
-        requires back { ReachesGapIn self.now.root self.now.height back.now }
-        ensures { IsPart (order_of self.now) (place_in self.now.root self.now.height front.now)
-            (place_in self.now.root self.now.height back.now) result }
+    // The cursor at the first or last gap.
+    fn end_cursor(&self, end: End) -> Cursor<'_>
+        ensures tree { IsTree self.now.root self.now.height }
+        ensures stands { Stands self.now.root self.now.height result }
+        ensures gap { gap_of self.now.root self.now.height result ≡ edge_of end (length (order_of self.now)) }
     {
         let (root, height) = self.tree();
-        Range::new(root, height, front, back)
+        Cursor::at_end(root, height, end)
     }
 }

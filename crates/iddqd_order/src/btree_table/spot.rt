@@ -58,7 +58,7 @@ impl MapBTreeTable {
         requires { CanSearch F.FnMut (order_of self.now) None asking.old }
         ensures { FindsFrom F.FnMut self.now (bound_reading H.reading lower.entry) asking.old result asking.new }
     {
-        let path = self.find_lower(lower, asking);
+        let path = self.find_lower(lower, asking).gap();
         let (ix, level) = self.behind(&path)?;
         Some((ix, Spot { path, level }))
     }

@@ -22,5 +22,5 @@ returns g c =
     let read = g.H.Reads.reading c.args.how.now in
     let tree = rw c.in-Some.is at c.self.invariant.tree in
     let d = c.find.ensures in
-    let asks = reckoning _ _ tree.0 tree.1 in
+    let asks = reckoning _ 1 _ tree.0 tree.1 (omega arith) (omega arith) in
     rw (← c.self.view_is, c.in-Some.is) (Finds-from_searches g.F.FnMut read _ d.end _ _ _ (SearchesWithin-more g.F.FnMut read None (omega arith) d.searches) d.index)

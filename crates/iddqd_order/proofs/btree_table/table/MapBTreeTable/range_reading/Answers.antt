@@ -1,22 +1,29 @@
-use Rattle.iddqd_order.proofs.Names.{arith, None, Askable, order_of}
+use Rattle.iddqd_order.proofs.Names.{◌∙◌, arith, None, Askable, order_of}
 use Rattle.iddqd_order.proofs.AskLemmas.{asks_more, asks_then, CanAsk-later}
 use Rattle.iddqd_order.proofs.RangeLemmas.{ends-before}
+use Rattle.iddqd_order.proofs.TreeLemmas.{place_in-within}
 use Rattle.iddqd_order.proofs.btree_table.table.MapBTreeTable.range_reading.Goals as goal
 
-pub find_upper-back-requires : goal.find_upper-back-requires
-find_upper-back-requires g c =
+pub find_upper-back-requires-clause-can_search : goal.find_upper-back-requires-clause-can_search
+find_upper-back-requires-clause-can_search g c =
     CanAsk-later g.F.FnMut (Askable (order_of c.args.self.now) None) c.find_lower-front.ensures.asked.after c.requires
 
 pub returns : goal.returns
+unfolding order_of
 returns g c =
     let low = c.find_lower-front.ensures in let high = c.find_upper-back.ensures in
+    let t = c.tree-height.ensures in
     record {
       asked =
           asks_more g.F.FnMut (Askable (order_of c.args.self.now) None) (omega arith)
           (asks_then g.F.FnMut (Askable (order_of c.args.self.now) None) low.asked high.asked);
       from = _;
-      to = _;
-      ahead = c.walk_between.ensures;
+      to = high.ends.to;
+      ahead = record {
+        from_within = place_in-within _ _ _ t.tree low.stands.at.gap.goes;
+        to_within = high.ends.to_within;
+        ahead = (rw (t.root, t.height) at c.new.ensures) ∙ high.ends.same;
+      };
       begins = low.begins;
-      ends = ends-before g.F.FnMut _ _ _ low.asked high.ends;
+      ends = ends-before g.F.FnMut _ _ _ low.asked high.ends.end;
     }
