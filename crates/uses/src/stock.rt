@@ -1,7 +1,11 @@
 //! A stock of parts in an `IdHashMap`, an item for each kind. A duplicate is merged, parts are taken and exchanged, and
 //! memory isn't refused where room was reserved ahead.
-ghost use Rattle.std.specs.Prelude.{◌≡◌, ◌⊎◌, ◌≤◌, ◌==◌, ◌↔◌, ℕ, false, true, length, min, Some, IsOk, IfOk, IfErr, IfSome, OnOk, OnErr};
+//!
+//! The map's own hasher is quick, and its seed is fixed. Keys that strangers choose want one whose seed is drawn anew,
+//! as std's `RandomState`. A hasher of one's own is two traits, and its ghost members say what it computes.
+ghost use Rattle.std.specs.Prelude.{◌≡◌, ◌⊎◌, ◌≤◌, ◌==◌, ◌↔◌, ◌+◌, ◌*◌, ◌%◌, ◌^◌, ℕ, false, true, length, min, Some, IsOk, IfOk, IfErr, IfSome, OnOk, OnErr};
 ghost use Rattle.std.specs.Bool.{OnTrue, OnFalse};
+ghost use Rattle.std.specs.List.{fold};
 ghost use Rattle.iddqd_maps.specs.Bulk.{inserted_all};
 ghost use Rattle.iddqd_maps.specs.Compaction.{compacted};
 ghost use Rattle.iddqd_maps.specs.LiveItems.{live_items, live_pairs};
@@ -16,13 +20,15 @@ ghost use Rattle.uses.specs.Stock.{has_kind, same_kind, sum_of, with_count, with
 ghost use Rattle.uses.specs.Updates.{UpdatesAt};
 ghost use Rattle.uses.specs.declared.stock.Part.{Part};
 
-use crate::hashers::Base31;
 use iddqd_maps::item_set::{IntoValues, Iter, Values};
 use iddqd_maps::{
     Here, IdHashItem, IdHashMap, InsertRefusal, ItemIndex, OverwriteRefusal, ReplaceRefusal,
     ValidateCompact, ValidateRefusal, ValidationError,
 };
 use std::alloc::{AllocError, Global};
+use std::hash::{BuildHasher, Hasher, RandomState};
+use std::io;
+use std::random::RandomSource;
 
 /// So many parts of a kind.
 #[derive(Clone, Copy, Debug, PartialEq, Eq)]
@@ -41,7 +47,52 @@ impl IdHashItem for Part {
     }
 }
 
+/// A hasher that takes the bytes as the digits of a number to the base 31.
+#[derive(Clone, Copy)]
+pub struct Base31(u64);
+
+impl Hasher for Base31 {
+    ghost write = { λ h bytes. record { 0 = fold (λ sum byte. (sum * 31 % 2 ^ 64 + byte) % 2 ^ 64) h.0 bytes } };
+
+    ghost finish = { λ h. h.0 };
+
+    fn finish(&self) -> u64 {
+        self.0
+    }
+
+    fn write(&mut self, bytes: &[u8]) {
+        for byte in bytes {
+            self.0 = self.0.wrapping_mul(31).wrapping_add(u64::from(*byte));
+        }
+    }
+}
+
+impl BuildHasher for Base31 {
+    type Hasher = Base31;
+
+    ghost build_hasher = { λ s. s };
+
+    fn build_hasher(&self) -> Base31 {
+        *self
+    }
+}
+
 type Stock = IdHashMap<Part>;
+
+/// A stock whose kinds strangers choose: the seed is drawn from the system.
+pub fn guarded(
+    rt: &impl RandomSource,
+    alloc: Global,
+) -> io::Result<IdHashMap<Part, RandomState>> {
+    Ok(IdHashMap::with_hasher(alloc, RandomState::new(rt)?))
+}
+
+/// A stock for at most so many kinds.
+pub fn within(alloc: Global, limit: u32) -> Stock
+    ensures { result ≡ empty_map limit }
+{
+    IdHashMap::with_limit(alloc, limit)
+}
 
 /// An empty stock with room for so many kinds, or for as many as there are indexes.
 pub fn with_room(alloc: Global, kinds: usize) -> Result<Stock, AllocError>
@@ -297,5 +348,25 @@ fn script(alloc: Global, stock: &mut Stock) -> Result<String, AllocError> {
 
 /// What the calls answer.
 pub fn line(alloc: Global) -> Result<String, AllocError> {
-    script(alloc, &mut IdHashMap::with_limit(alloc, 2))
+    script(alloc, &mut within(alloc, 2))
+}
+
+// How many parts of a kind there are after they were added, under any hasher.
+fn count_under<S: BuildHasher>(stock: &mut IdHashMap<Part, S>) -> Option<u32> {
+    let kind = 90_125;
+    let _ = stock.insert_unique(Part { kind, count: 7 });
+    match stock.get(&kind) {
+        Some(part) => Some(part.count),
+        None => None,
+    }
+}
+
+/// What is found under a hasher of this module and under one with a drawn seed.
+pub fn hashed_line(rt: &impl RandomSource, alloc: Global) -> Result<String, AllocError> {
+    let own = count_under(&mut IdHashMap::with_hasher(alloc, Base31(7)));
+    let drawn = match guarded(rt, alloc) {
+        Ok(mut stock) => count_under(&mut stock),
+        Err(_) => None,
+    };
+    format!(in alloc; "stock under other hashers: {own:?}, {drawn:?}")
 }

@@ -1,10 +1,8 @@
 use Rattle.std.proofs.Common.{rules, ◌≡◌, Some, None, MatchOption, refl}
-use Rattle.uses.specs.Calendar.{HasNone}
-use Rattle.uses.specs.Diary.{Extends}
+use Rattle.uses.specs.Calendar.{HasNone, Extends}
 use Rattle.uses.specs.declared.calendar.Appointment.{Appointment}
-use Rattle.uses.proofs.CalendarLemmas.{no_start}
-use Rattle.uses.proofs.DiaryLemmas.{starts, extends}
-use Rattle.uses.proofs.diary.extend_starting.Goals as goal
+use Rattle.uses.proofs.CalendarLemmas.{no_start, starts, extends}
+use Rattle.uses.proofs.calendar.extend_starting.Goals as goal
 
 pub returns-clause-extended : goal.returns-clause-extended
 returns-clause-extended c =

@@ -1,9 +1,8 @@
 use Rattle.std.proofs.Common.{◌≡◌, Some, None, refl}
 use Rattle.std.specs.Prelude.{IfSome, option_copied}
 use Rattle.uses.specs.Calendar.{IsBooked, HasNone}
-use Rattle.uses.proofs.CalendarLemmas.{no_start}
-use Rattle.uses.proofs.DiaryLemmas.{starts}
-use Rattle.uses.proofs.diary.starting.Goals as goal
+use Rattle.uses.proofs.CalendarLemmas.{no_start, starts}
+use Rattle.uses.proofs.calendar.starting.Goals as goal
 
 pub returns-clause-found : goal.returns-clause-found
 returns-clause-found c =

@@ -1,9 +1,7 @@
 use Rattle.std.proofs.Common.{◌≡◌, Some, None, MatchOption, refl}
-use Rattle.uses.specs.Calendar.{HasNone}
-use Rattle.uses.specs.Diary.{Cancels}
-use Rattle.uses.proofs.CalendarLemmas.{no_start}
-use Rattle.uses.proofs.DiaryLemmas.{starts}
-use Rattle.uses.proofs.diary.cancel.Goals as goal
+use Rattle.uses.specs.Calendar.{HasNone, Cancels}
+use Rattle.uses.proofs.CalendarLemmas.{no_start, starts}
+use Rattle.uses.proofs.calendar.cancel.Goals as goal
 
 pub returns-clause-cancelled : goal.returns-clause-cancelled
 returns-clause-cancelled c =

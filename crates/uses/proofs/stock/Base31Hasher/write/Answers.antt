@@ -1,7 +1,7 @@
 use Rattle.std.proofs.Common.{◌≡◌, ◌+◌, ◌*◌, ◌%◌, ◌^◌, ℕ, get_or, take}
 use Rattle.std.specs.List.{fold}
 use Rattle.std.proofs.lemmas.List.Sums.{fold_more}
-use Rattle.uses.proofs.hashers.Base31Hasher.write.Goals as goal
+use Rattle.uses.proofs.stock.Base31Hasher.write.Goals as goal
 
 abbrev added : ℕ → ℕ → ℕ
 added sum byte = (sum * 31 % 2 ^ 64 + byte) % 2 ^ 64

@@ -1,6 +1,6 @@
 use Rattle.std.proofs.Common.{◌≡◌, ◌+◌, ◌*◌, ◌%◌, ◌^◌, take}
 use Rattle.std.specs.List.{fold}
-use Rattle.uses.proofs.hashers.Base31Hasher.write.Given as goal
+use Rattle.uses.proofs.stock.Base31Hasher.write.Given as goal
 
 -- the number of the bytes so far
 abbrev pub invariant-loop-byte : goal.invariant-loop-byte
