@@ -3,7 +3,6 @@ pub mod CalendarLemmas
 pub mod ExchangeLemmas
 pub mod WordLemmas
 pub mod LockerLemmas
-pub mod StockLemmas
 pub mod UpdateLemmas
 pub mod RemakeLemmas
 pub mod GuestLemmas

@@ -25,7 +25,7 @@ use iddqd_maps::item_set::Iter;
 use std::alloc::{AllocError, Global};
 
 /// An appointment. Numbers are unique, and no two start at the same minute.
-#[derive(Clone, Copy, Debug, PartialEq, Eq)]
+#[derive(Clone, Copy, Debug)]
 pub struct Appointment {
     pub number: u32,
     pub start: u32,
@@ -62,7 +62,7 @@ pub struct Calendar {
 }
 
 /// Why an appointment wasn't booked.
-#[derive(Clone, Copy, Debug, PartialEq, Eq)]
+#[derive(Clone, Copy, Debug)]
 pub enum BookingError {
     /// Another one has its number or its start.
     Taken,

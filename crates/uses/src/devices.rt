@@ -3,10 +3,10 @@
 //! A type without values names each key, and pairs of key indexes put the four together. The place of a key in them is
 //! the type that a look-up names.
 ghost use Rattle.std.specs.Prelude.{◌≡◌, ◌==◌, false, ◌↔◌, option_copied, IfOk, IfErr, OnOk, OnErr};
-ghost use Rattle.iddqd_maps.specs.Map.{FindsItem, Removes};
+ghost use Rattle.iddqd_maps.specs.Map.{FindsItem};
 ghost use Rattle.iddqd_maps.specs.Scan.{AnswersScan, HasNoHit};
 ghost use Rattle.iddqd_maps.specs.Store.{inserted, next_index};
-ghost use Rattle.uses.specs.Devices.{has_address, has_serial, is_named, share_key, with_ports};
+ghost use Rattle.uses.specs.Devices.{has_address, has_serial, share_key, with_ports};
 ghost use Rattle.uses.specs.Exchanges.{Exchanges, IsKeyTaken, IsWhyNot, IsWhyNotAdded, IsWhyNotTakenOver, TakesOver};
 ghost use Rattle.uses.specs.Updates.{Updates};
 
@@ -131,25 +131,11 @@ pub fn place(devices: &Devices, serial: u64) -> Option<ItemIndex>
     devices.find_by::<BySerial, _>(&serial)
 }
 
-/// The device at this address.
-pub fn at_address(devices: &Devices, address: u32) -> Option<&Device>
-    ensures { FindsItem devices.now.store (λ device. address == device.address) (option_copied result) }
-{
-    devices.get_by::<ByAddress, _>(&address)
-}
-
 /// Whether a device has this tag.
 pub fn is_tagged(devices: &Devices, tag: u32) -> bool
     ensures { (result ≡ false) ↔ HasNoHit devices.now.store (λ device. tag == device.tag) }
 {
     devices.contains_by::<ByTag, _>(&tag)
-}
-
-/// The device of this name.
-pub fn named<'a>(devices: &'a Devices, name: &str) -> Option<&'a Device>
-    ensures { FindsItem devices.now.store (is_named name.now) (option_copied result) }
-{
-    devices.get_by::<ByName, _>(name)
 }
 
 /// Notes how many ports the device at this address has; none exactly where there is no such device. It keeps its keys,
@@ -192,13 +178,6 @@ pub fn take_over(
     Ok((ix, places))
 }
 
-/// Takes the device of this name out. All others stay. It takes no memory.
-pub fn remove(devices: &mut Devices, name: &str) -> Option<Device>
-    ensures { Removes devices.old (is_named name.now) result devices.new }
-{
-    devices.remove_by::<ByName, _>(name)
-}
-
 fn made(
     alloc: Global,
     (serial, address, tag): (u64, u32, u32),
@@ -232,19 +211,14 @@ fn script(alloc: Global, devices: &mut Devices) -> Result<String, AllocError> {
     let third = add(devices, made(alloc, (3, 10, 300), "lamp")?).is_ok();
     let ports = set_ports(devices, 20, 8).is_some();
     let found = (
-        at_address(devices, 10).is_some(),
         is_tagged(devices, 300),
-        named(devices, "lamp").is_some(),
         with_serial(devices, 2).is_some(),
+        place(devices, 3),
     );
     let exchanged = exchange(devices, 2, made(alloc, (4, 20, 400), "lamp")?).is_ok();
     let displaced = displaced(devices, made(alloc, (5, 10, 400), "bell")?);
-    let removed = (
-        remove(devices, "bell").is_some(),
-        remove(devices, "door").is_some(),
-    );
     format!(in alloc;
-        "devices: {first}, {second}, {third}, {ports}, {found:?}, {exchanged}, {displaced}, {removed:?}"
+        "devices: {first}, {second}, {third}, {ports}, {found:?}, {exchanged}, {displaced}"
     )
 }
 

@@ -4,9 +4,8 @@ ghost use Rattle.std.specs.Prelude.{◌≡◌, ◌==◌, ◌≤◌, ◌<◌, ◌
 ghost use Rattle.std.specs.Option.{option_map};
 ghost use Rattle.std.proofs.Common.{rules};
 ghost use Rattle.iddqd_maps.specs.Groups.{AreHits, CountsHits, FindsSome};
-ghost use Rattle.iddqd_maps.specs.Map.{FindsItem};
 ghost use Rattle.iddqd_maps.specs.InGroups.{ListsHits};
-ghost use Rattle.iddqd_maps.specs.InOrder.{shown, FindsFirst, FindsLast, IteratesInOrder, ListsInOrder, PopsFirst, PopsLast};
+ghost use Rattle.iddqd_maps.specs.InOrder.{shown, FindsLast, IteratesInOrder, ListsInOrder, PopsFirst, PopsLast};
 ghost use Rattle.iddqd_maps.specs.Range.{indexes_ahead};
 ghost use Rattle.iddqd_maps.specs.Scan.{HasNoHit, IsHit};
 ghost use Rattle.iddqd_maps.specs.Store.{inserted, live_count, next_index};
@@ -113,13 +112,6 @@ pub fn add(ledger: &mut Ledger, order: Order) -> Result<ItemIndex, InsertRefusal
     ledger.insert_unique(order)
 }
 
-/// The order with this number.
-pub fn with_number(ledger: &Ledger, number: u64) -> Option<Order>
-    ensures { FindsItem ledger.now.store (λ order. number == order.number) result }
-{
-    ledger.get_by::<ByNumber, _>(&number).copied()
-}
-
 /// The indexes of a customer's orders, each once, in no particular order.
 pub fn indexes_of<'a>(
     ledger: &'a Ledger,
@@ -199,13 +191,6 @@ pub fn orders_by_day(ledger: &Ledger) -> Iter<'_, Order>
     ledger.iter_by::<ByDay>()
 }
 
-/// The order that is due first with its index; of those of one day, the one with the least index.
-pub fn first_due(ledger: &Ledger) -> Option<(ItemIndex, &Order)>
-    ensures { FindsFirst by_day ledger.now.store (option_map shown result) }
-{
-    ledger.first_by::<ByDay>()
-}
-
 /// The order that is due last with its index; of those of one day, the one with the greatest index.
 pub fn last_due(ledger: &Ledger) -> Option<(ItemIndex, &Order)>
     ensures { FindsLast by_day ledger.now.store (option_map shown result) }
@@ -252,15 +237,6 @@ pub fn close_before(ledger: &mut Ledger, day: u32) -> usize
     ensures memory { ledger.new.memory ≡ ledger.old.memory }
 {
     ledger.remove_range_by::<ByDay, _, _>(Bound::Unbounded, Bound::Excluded(&day), |_order| ())
-}
-
-/// Removes the orders of a day, and returns how many they were. It takes no memory.
-pub fn close_day(ledger: &mut Ledger, day: u32) -> usize
-    ensures dropped { Drops (λ order. order.day ≡ day) ledger.old.store ledger.new.store }
-    ensures count { result + live_count ledger.new.store ≡ live_count ledger.old.store }
-    ensures memory { ledger.new.memory ≡ ledger.old.memory }
-{
-    ledger.remove_group_by::<ByDay, _, _>(&day, |_order| ())
 }
 
 /// Removes those orders of a day that come to less than so much, and returns how many they were. It takes no memory.
@@ -389,13 +365,9 @@ fn script(alloc: Global, ledger: &mut Ledger) -> Result<String, AllocError> {
         orders_from(ledger, 20).next_back().is_some(),
         orders_by_day(ledger).len(),
     );
-    let ends = (first_due(ledger).is_some(), last_due(ledger).is_some());
+    let last = last_due(ledger).is_some();
     let early = close_before(ledger, 20);
-    let left = (
-        with_number(ledger, 2).is_some(),
-        with_number(ledger, 1).is_some(),
-        orders_of(ledger, &8).next().is_some(),
-    );
+    let left = (ledger.len(), orders_of(ledger, &8).next().is_some());
     let small = (drop_small(ledger, 20, 20), drop_small_until(ledger, 20, 40));
     let halved = (
         halve_all(ledger),
@@ -409,7 +381,7 @@ fn script(alloc: Global, ledger: &mut Ledger) -> Result<String, AllocError> {
         ledger.len(),
     );
     let later = (halved, numbered);
-    let gone = (forget(ledger, 7), close_day(ledger, 30));
+    let gone = forget(ledger, 7);
     let more = added_two(ledger);
     let taken = (
         take_first_due(ledger).is_some(),
@@ -417,7 +389,7 @@ fn script(alloc: Global, ledger: &mut Ledger) -> Result<String, AllocError> {
     );
     let changed = (small, later, gone);
     format!(in alloc;
-        "ledger: {added:?}, {counts:?}, {walk:?}, {ends:?}, {early}, {left:?}, {changed:?}, {more:?}, {taken:?}"
+        "ledger: {added:?}, {counts:?}, {walk:?}, {last}, {early}, {left:?}, {changed:?}, {more:?}, {taken:?}"
     )
 }
 

@@ -1,7 +1,6 @@
 //! People by their numbers, in the order of the years in which they were born, and in that of their names. The year is
 //! computed, and a name may be asked for by its beginning.
 ghost use Rattle.std.specs.Prelude.{◌≡◌, ◌/◌, IfErr, OnOk, OnErr};
-ghost use Rattle.iddqd_maps.specs.Groups.{CountsHits};
 ghost use Rattle.iddqd_maps.specs.InOrder.{IteratesInOrder};
 ghost use Rattle.iddqd_maps.specs.Store.{inserted};
 ghost use Rattle.uses.specs.Exchanges.{IsWhyNotAdded};
@@ -99,13 +98,6 @@ pub fn born_in(people: &People, year: u32) -> Range<'_, Person>
     people.group_by::<ByYear, _>(&year)
 }
 
-/// How many people were born in a year.
-pub fn count_born_in(people: &People, year: u32) -> usize
-    ensures { CountsHits people.now.store (was_born year) result }
-{
-    people.count_by::<ByYear, _>(&year)
-}
-
 /// The people whose names begin with a text with their indexes, by name.
 pub fn beginning_with<'a>(people: &'a People, text: &str) -> Range<'a, Person>
     ensures { IteratesInOrder by_name (begins text.now) people.now.store result }
@@ -133,8 +125,7 @@ fn script(alloc: Global, people: &mut People) -> Result<String, AllocError> {
     );
     let years = (
         born_in(people, 1815).next().is_some(),
-        count_born_in(people, 1816),
-        count_born_in(people, 1817),
+        born_in(people, 1817).next().is_some(),
     );
     let names = (
         beginning_with(people, "Ad").next().is_some(),

@@ -5,11 +5,11 @@ ghost use Rattle.std.specs.Prelude.{◌≡◌, ◌==◌, ◌↔◌, false, IfOk,
 ghost use Rattle.iddqd_maps.specs.Map.{FindsItem, Removes};
 ghost use Rattle.iddqd_maps.specs.Scan.{AnswersScan, HasNoHit};
 ghost use Rattle.iddqd_maps.specs.ThreeKeys.{AreTaken};
-ghost use Rattle.uses.specs.Exchanges.{Exchanges, ExchangesIfFound, IsWhyNot, IsWhyNotChanged};
+ghost use Rattle.uses.specs.Exchanges.{Exchanges, ExchangesIfFound, IsWhyNot, IsWhyNotChanged, IsWhyNotTakenOver, TakesOver};
 ghost use Rattle.uses.specs.Seats.{has_guest, has_place, has_ticket, same_guest, same_place, same_ticket, share_key, with_guest, with_payment, with_place, with_ticket};
 ghost use Rattle.uses.specs.Updates.{Updates};
 
-use iddqd_maps::{ItemIndex, ReplaceRefusal, TriClash, TriHashItem, TriHashMap};
+use iddqd_maps::{ItemIndex, OverwriteRefusal, ReplaceRefusal, TriClash, TriHashItem, TriHashMap};
 use std::alloc::{AllocError, Global};
 
 /// A seat. No two have the place, the guest or the ticket of another.
@@ -88,6 +88,19 @@ pub fn exchange_ticket(seats: &mut Seats, ticket: u32, seat: Seat) -> Result<Sea
     ensures unchanged { OnErr result (seats.new ≡ seats.old) }
 {
     seats.replace3(&ticket, seat)
+}
+
+/// Gives a seat out, and takes those back that have its place, its guest or its ticket. If one has, it takes no memory.
+/// It is refused only where none has, and there are as many seats as the limit allows or there is no memory.
+pub fn give_out(
+    seats: &mut Seats,
+    seat: Seat,
+) -> Result<(ItemIndex, [Option<Seat>; 3]), OverwriteRefusal<Seat>>
+    ensures given { IfOk result (λ given. TakesOver share_key 3 seat seats.old given.0 given.1 seats.new) }
+    ensures refused { IfErr result (IsWhyNotTakenOver share_key seat seats.old) }
+    ensures unchanged { OnErr result (seats.new.store ≡ seats.old.store) }
+{
+    seats.insert_overwrite(seat)
 }
 
 /// Gives the seat at a place to another guest, and returns what it was; none exactly where there is no such seat. It is

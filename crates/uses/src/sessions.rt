@@ -109,13 +109,6 @@ pub fn with_id(sessions: &Sessions, id: u64) -> Option<Session>
     sessions.get_by::<ById, _>(&id).copied()
 }
 
-/// The session with this token.
-pub fn with_token(sessions: &Sessions, token: u64) -> Option<Session>
-    ensures { FindsItem sessions.now.store (λ session. token == session.token) result }
-{
-    sessions.get_by::<ByToken, _>(&token).copied()
-}
-
 /// The session that ends at this tick.
 pub fn ending_at(sessions: &Sessions, tick: u64) -> Option<Session>
     ensures { FindsItem sessions.now.store (ends_at tick) result }
@@ -172,13 +165,6 @@ pub fn is_ending_at(sessions: &Sessions, tick: u64) -> bool
     sessions.parts().right().contains_key(&tick)
 }
 
-/// Closes the session with this id, and returns it. All others stay. It takes no memory.
-pub fn close(sessions: &mut Sessions, id: u64) -> Option<Session>
-    ensures { Removes sessions.old (λ session. id == session.id) result sessions.new }
-{
-    sessions.remove_by::<ById, _>(&id)
-}
-
 /// Closes the session that ends at this tick, and returns it. All others stay. It takes no memory.
 pub fn close_at(sessions: &mut Sessions, tick: u64) -> Option<Session>
     ensures { Removes sessions.old (ends_at tick) result sessions.new }
@@ -219,13 +205,11 @@ fn script(alloc: Global, sessions: &mut Sessions) -> Result<String, AllocError> 
     let expired = expire(sessions, 150);
     let left = (
         with_id(sessions, 1).is_some(),
-        with_token(sessions, 22).is_some(),
+        ending_at(sessions, 200).is_some(),
     );
     let closed = (
-        ending_at(sessions, 200).is_some(),
         close_at(sessions, 90).is_some(),
         close_at(sessions, 200).is_some(),
-        close(sessions, 2).is_some(),
     );
     format!(in alloc;
         "sessions: {first}, {second}, {third}, {next:?}, {extended}, {after:?}, {expired}, {left:?}, {closed:?}"

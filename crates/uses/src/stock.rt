@@ -4,7 +4,6 @@
 //! The map's own hasher is quick, and its seed is fixed. Keys that strangers choose want one whose seed is drawn anew,
 //! as std's `RandomState`. A hasher of one's own is two traits, and its ghost members say what it computes.
 ghost use Rattle.std.specs.Prelude.{◌≡◌, ◌⊎◌, ◌≤◌, ◌==◌, ◌↔◌, ◌+◌, ◌*◌, ◌%◌, ◌^◌, ℕ, false, true, length, min, Some, IsOk, IfOk, IfErr, IfSome, OnOk, OnErr};
-ghost use Rattle.std.specs.Bool.{OnTrue, OnFalse};
 ghost use Rattle.std.specs.List.{fold};
 ghost use Rattle.iddqd_maps.specs.Bulk.{inserted_all};
 ghost use Rattle.iddqd_maps.specs.Compaction.{compacted};
@@ -16,7 +15,7 @@ ghost use Rattle.iddqd_maps.specs.Sizes.{insertable};
 ghost use Rattle.iddqd_maps.specs.Store.{IsFull, cleared, empty, empty_within, get, inserted, live_count, next_index, rebound, slot_limit};
 ghost use Rattle.iddqd_maps.specs.Validation.{Tells, Validates, not_compact_text};
 ghost use Rattle.uses.specs.Exchanges.{Exchanges, IsWhyNot, IsWhyNotAt, IsWhyNotTakenOver, TakesOverOne};
-ghost use Rattle.uses.specs.Stock.{has_kind, same_kind, sum_of, with_count, with_one_less};
+ghost use Rattle.uses.specs.Stock.{has_kind, same_kind, sum_of, with_count};
 ghost use Rattle.uses.specs.Updates.{UpdatesAt};
 ghost use Rattle.uses.specs.declared.stock.Part.{Part};
 
@@ -31,7 +30,7 @@ use std::io;
 use std::random::RandomSource;
 
 /// So many parts of a kind.
-#[derive(Clone, Copy, Debug, PartialEq, Eq)]
+#[derive(Clone, Copy, Debug)]
 pub struct Part {
     pub kind: u32,
     pub count: u32,
@@ -183,31 +182,6 @@ pub fn part_of_kind(stock: &Stock, kind: u32) -> Option<Part>
     stock.get(&kind).copied()
 }
 
-/// Takes one part of a kind, and returns whether there was one.
-pub fn take_one(stock: &mut Stock, kind: u32) -> bool
-    ensures taken { OnTrue result ((was : Part) × (1 ≤ was.count)
-        × Exchanges same_kind (has_kind kind) (with_one_less was) stock.old was stock.new) }
-    ensures none { OnFalse result ((ix : ℕ) (part : Part) →
-        get stock.old.store ix ≡ Some part → part.kind ≡ kind → part.count ≡ 0) }
-    ensures unchanged { OnFalse result (stock.new ≡ stock.old) }
-{
-    let Some(part) = stock.get(&kind) else {
-        return false;
-    };
-    if part.count == 0 {
-        return false;
-    }
-    // The count isn't 0 here, so the closure may subtract.
-    let taken = stock.change(
-        &kind,
-        |was: &Part| Part {
-            kind: was.kind,
-            count: was.count - 1,
-        },
-    );
-    taken.is_ok()
-}
-
 /// Whether the parts stand under the indexes from 0 on, or why not.
 pub fn check(stock: &Stock) -> Result<(), ValidateRefusal<ValidationError>>
     ensures dense { Validates (length stock.now.store.free ≡ 0) result }
@@ -341,9 +315,8 @@ fn script(alloc: Global, stock: &mut Stock) -> Result<String, AllocError> {
     let first = merge(stock, Part { kind: 4, count: 2 });
     let second = merge(stock, Part { kind: 4, count: 3 });
     let count = part_of_kind(stock, 4);
-    let taken = (take_one(stock, 4), take_one(stock, 5));
     let is_dense = check(stock).is_ok();
-    format!(in alloc; "stock: {first:?}, {second:?}, {count:?}, {taken:?}, {is_dense}")
+    format!(in alloc; "stock: {first:?}, {second:?}, {count:?}, {is_dense}")
 }
 
 /// What the calls answer.
