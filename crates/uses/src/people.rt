@@ -1,13 +1,15 @@
 //! People by their numbers, in the order of the years in which they were born, and in that of their names. The year is
 //! computed, and a name may be asked for by its beginning.
-ghost use Rattle.std.specs.Prelude.{◌≡◌, ◌/◌, IfErr, OnOk, OnErr};
+ghost use Rattle.std.specs.Prelude.{◌≡◌, ◌/◌, true, IfErr, OnOk, OnErr};
 ghost use Rattle.iddqd_maps.specs.InOrder.{IteratesInOrder};
+ghost use Rattle.iddqd_maps.specs.OrderedQuery.{is_equal};
 ghost use Rattle.iddqd_maps.specs.Store.{inserted};
 ghost use Rattle.uses.specs.Exchanges.{IsWhyNotAdded};
 ghost use Rattle.uses.specs.People.{begins, by_name, by_year, shares_number, was_born};
 
 use iddqd_maps::by_hash::ByHash;
 use iddqd_maps::by_order_multi::{ByOrderMulti, ByOrderMultiOf};
+use iddqd_maps::id_ord_map::Iter;
 use iddqd_maps::in_order::InOrder;
 use iddqd_maps::item_index::ItemIndex;
 use iddqd_maps::key_index::{Here, Left, Right};
@@ -18,6 +20,7 @@ use iddqd_maps::no_conflict::NoConflict;
 use iddqd_maps::ordered_walk::Range;
 use iddqd_maps::pair::Pair;
 use iddqd_maps::pair_conflict::PairConflict;
+use iddqd_maps::ranges_at::RangesAt;
 use iddqd_maps::refusal::InsertRefusal;
 use iddqd_maps::starts_with::StartsWith;
 use std::alloc::{AllocError, Global};
@@ -103,6 +106,17 @@ pub fn beginning_with<'a>(people: &'a People, text: &str) -> Range<'a, Person>
     ensures { IteratesInOrder by_name (begins text.now) people.now.store result }
 {
     people.group_by::<ByName, _>(StartsWith(text))
+}
+
+/// The items of any map in the order of a key, and beside them those with one key: both are in one order.
+pub fn all_and_group<P, Q, T, X, S>(map: &Map<T, X, S>, query: Q) -> (Iter<'_, T>, Range<'_, T>)
+where
+    X: RangesAt<P, Q, T, S>,
+    Q: Copy,
+    ensures all { IteratesInOrder X.sorts_by (λ item. true) map.now.store result.0 }
+    ensures group { IteratesInOrder X.sorts_by (is_equal (X.compare query)) map.now.store result.1 }
+{
+    (map.iter_by::<P>(), map.group_by::<P, Q>(query))
 }
 
 fn added(
