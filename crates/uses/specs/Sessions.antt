@@ -26,7 +26,7 @@ by_end x y = nat_cmp x.ends y.ends
 
 -- the sessions share a key
 abbrev pub share_key : Session → Session → Bool
-share_key x y = (x.id == y.id || x.token == y.token) || eq_by_cmp nat_cmp x.ends y.ends
+share_key x y = x.id == y.id || eq_by_cmp nat_cmp x.ends y.ends
 
 -- the session stands at the index, and none ends before it
 abbrev pub EndsFirst : Store Session → ℕ → Session → Type 0

@@ -1,5 +1,5 @@
 //! Callers of the maps and of keyed items, a module each. All are proved. The program prints what those answer that
-//! have a `line`; `board` and `intake` are proved only.
+//! have a `line`; `board` is proved only.
 #![tactic(auto)]
 
 mod appointments;
@@ -9,9 +9,9 @@ mod calendar;
 mod devices;
 mod guests;
 mod handles;
-mod intake;
 mod ledger;
 mod lockers;
+mod orders;
 mod people;
 mod purchases;
 mod registry;
@@ -55,6 +55,7 @@ fn print_all(rt: &(impl Print + RandomSource), alloc: Global) -> io::Result<()> 
     print(rt, devices::line(alloc))?;
     print(rt, sessions::line(alloc))?;
     print(rt, ledger::line(alloc))?;
+    print(rt, orders::line(alloc))?;
     print(rt, calendar::line(alloc))?;
     print(rt, registry::line(alloc))?;
     print_keys(rt, alloc)

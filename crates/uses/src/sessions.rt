@@ -1,8 +1,7 @@
-//! A mix of hashes and an order: sessions by their ids and tokens, and in the order in which they end.
-ghost use Rattle.std.specs.Prelude.{◌≡◌, ◌↔◌, ◌==◌, ◌+◌, ℕ, false, true, IfNone, IfSome, IfOk, IfErr, OnOk, OnErr, filter, nat_lt};
+//! A mix of a hash and an order: sessions by their ids, and in the order in which they end.
+ghost use Rattle.std.specs.Prelude.{◌≡◌, ◌↔◌, ◌==◌, ℕ, false, true, IfNone, IfSome, IfOk, IfErr, OnOk, OnErr};
 ghost use Rattle.iddqd_maps.specs.InOrder.{ListsInOrder};
 ghost use Rattle.iddqd_maps.specs.Iter.{indexes_left};
-ghost use Rattle.iddqd_maps.specs.LiveItems.{live_pairs};
 ghost use Rattle.iddqd_maps.specs.Map.{FindsItem, Removes};
 ghost use Rattle.iddqd_maps.specs.Range.{indexes_ahead};
 ghost use Rattle.iddqd_maps.specs.Scan.{HasNoHit};
@@ -26,11 +25,10 @@ use iddqd_maps::refusal::{InsertRefusal, ReplaceRefusal};
 use std::alloc::{AllocError, Global};
 use std::ops::Bound;
 
-/// A session. No two have the same id or token, or end at the same tick of the clock.
+/// A session. No two have the same id, or end at the same tick of the clock.
 #[derive(Clone, Copy, Debug)]
 pub struct Session {
     pub id: u64,
-    pub token: u64,
     pub ends: u64,
     pub user: u32,
 }
@@ -48,19 +46,6 @@ impl KeyOf<Session> for Id {
     }
 }
 
-/// Names the token.
-pub enum Token {}
-
-impl KeyOf<Session> for Token {
-    type Key = u64;
-
-    ghost key_of = { λ session. session.token };
-
-    fn key(session: &Session) -> &u64 {
-        &session.token
-    }
-}
-
 /// Names the tick at which it ends.
 pub enum Ends {}
 
@@ -75,20 +60,16 @@ impl KeyOf<Session> for Ends {
 }
 
 /// Which keys of a refused session are taken, and by which sessions.
-pub type Taken = PairConflict<PairConflict<ItemIndex, ItemIndex>, ItemIndex>;
+pub type Taken = PairConflict<ItemIndex, ItemIndex>;
 
-type Names = Pair<ByHash<Id, u64>, ByHash<Token, u64>>;
-
-type ById = Left<Left<Here>>;
-
-type ByToken = Left<Right<Here>>;
+type ById = Left<Here>;
 
 type ByEnd = Right<Here>;
 
-/// Sessions by their ids and tokens, and in the order in which they end.
-pub type Sessions = Map<Session, Pair<Names, ByOrder<Ends, u64>>>;
+/// Sessions by their ids, and in the order in which they end.
+pub type Sessions = Map<Session, Pair<ByHash<Id, u64>, ByOrder<Ends, u64>>>;
 
-/// Opens a session, unless another one has its id, its token or its end.
+/// Opens a session, unless another one has its id or its end.
 pub fn open(
     sessions: &mut Sessions,
     session: Session,
@@ -107,13 +88,6 @@ pub fn with_id(sessions: &Sessions, id: u64) -> Option<Session>
     ensures { FindsItem sessions.now.store (λ session. id == session.id) result }
 {
     sessions.get_by::<ById, _>(&id).copied()
-}
-
-/// The session that ends at this tick.
-pub fn ending_at(sessions: &Sessions, tick: u64) -> Option<Session>
-    ensures { FindsItem sessions.now.store (ends_at tick) result }
-{
-    sessions.get_by::<ByEnd, _>(&tick).copied()
 }
 
 /// Lets the session with this id end at another tick, and returns what it was; none exactly where there is no such
@@ -172,47 +146,25 @@ pub fn close_at(sessions: &mut Sessions, tick: u64) -> Option<Session>
     sessions.remove_by::<ByEnd, _>(&tick)
 }
 
-/// Removes the sessions that have ended, and returns how many they were. It takes no memory.
-pub fn expire(sessions: &mut Sessions, now: u64) -> usize
-    ensures stay { live_pairs sessions.new.store
-        ≡ filter (λ pair. nat_lt now pair.1.ends) (live_pairs sessions.old.store) }
-    ensures count { result + live_count sessions.new.store ≡ live_count sessions.old.store }
-    ensures memory { sessions.new.memory ≡ sessions.old.memory }
-{
-    sessions.retain(|session| session.ends > now)
-}
-
-fn opened(sessions: &mut Sessions, id: u64, token: u64, ends: u64) -> bool {
-    open(
-        sessions,
-        Session {
-            id,
-            token,
-            ends,
-            user: 7,
-        },
-    )
-    .is_ok()
+fn opened(sessions: &mut Sessions, id: u64, ends: u64) -> bool {
+    let user = 7;
+    open(sessions, Session { id, ends, user }).is_ok()
 }
 
 fn script(alloc: Global, sessions: &mut Sessions) -> Result<String, AllocError> {
-    let first = opened(sessions, 1, 11, 100);
-    let second = opened(sessions, 2, 22, 90);
-    let third = opened(sessions, 3, 11, 80);
+    let first = opened(sessions, 1, 100);
+    let second = opened(sessions, 2, 90);
+    let third = opened(sessions, 3, 90);
     let next = next_to_end(sessions);
     let extended = extend(sessions, 2, 200).is_ok();
     let after = next_to_end(sessions);
-    let expired = expire(sessions, 150);
-    let left = (
-        with_id(sessions, 1).is_some(),
-        ending_at(sessions, 200).is_some(),
-    );
     let closed = (
         close_at(sessions, 90).is_some(),
         close_at(sessions, 200).is_some(),
+        with_id(sessions, 2).is_some(),
     );
     format!(in alloc;
-        "sessions: {first}, {second}, {third}, {next:?}, {extended}, {after:?}, {expired}, {left:?}, {closed:?}"
+        "sessions: {first}, {second}, {third}, {next:?}, {extended}, {after:?}, {closed:?}"
     )
 }
 
