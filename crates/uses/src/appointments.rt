@@ -123,8 +123,7 @@ fn script(alloc: Global, appointments: &mut Appointments) -> Result<String, Allo
     );
     let closed = close_room(appointments, 1);
     format!(in alloc;
-        "appointments: {added:?}, {found:?}, {walks:?}, {closed}, {}",
-        appointments.len()
+        "appointments: {added:?}, {found:?}, {walks:?}, {closed}"
     )
 }
 

@@ -196,8 +196,7 @@ fn script(alloc: Global, artifacts: &mut Artifacts) -> Result<String, AllocError
     );
     let removed = remove(artifacts, "serde", "1.0").is_some();
     format!(in alloc;
-        "artifacts: {first}, {second}, {third}, {resized}, {found:?}, {next:?}, {removed}, {}",
-        artifacts.len()
+        "artifacts: {first}, {second}, {third}, {resized}, {found:?}, {next:?}, {removed}"
     )
 }
 

@@ -11,7 +11,7 @@ ghost use Rattle.uses.specs.Exchanges.{IsWhyNotAdded, IsWhyNotTakenOver, TakesOv
 
 use iddqd_maps::by_hash::ByHash;
 use iddqd_maps::item_index::ItemIndex;
-use iddqd_maps::key_index::{Here, Left, Right};
+use iddqd_maps::key_index::{Here, Left};
 use iddqd_maps::key_of::KeyOf;
 use iddqd_maps::map::Map;
 use iddqd_maps::pair::Pair;

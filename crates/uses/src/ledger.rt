@@ -1,7 +1,8 @@
 //! A mix with equal keys: orders by their numbers, by their customers, and in the order of their days. Many orders may
 //! have one customer, and many may be due on one day. `orders` has the calls on each of these keys alone.
-ghost use Rattle.std.specs.Prelude.{◌≡◌, ◌<◌, ◌+◌, IfOk, IfErr, OnOk, OnErr};
+ghost use Rattle.std.specs.Prelude.{◌≡◌, ◌==◌, ◌<◌, ◌+◌, IfOk, IfErr, OnOk, OnErr};
 ghost use Rattle.std.proofs.Common.{rules};
+ghost use Rattle.iddqd_maps.specs.Groups.{AreHits};
 ghost use Rattle.iddqd_maps.specs.Scan.{HasNoHit};
 ghost use Rattle.iddqd_maps.specs.Store.{inserted, live_count, next_index};
 ghost use Rattle.iddqd_maps.specs.Drops.{Drops};
@@ -9,9 +10,10 @@ ghost use Rattle.uses.specs.Exchanges.{IsWhyNotAdded};
 ghost use Rattle.uses.specs.Ledger.{shares_number};
 ghost use Rattle.uses.specs.declared.ledger.Order.{Order};
 
+use iddqd_maps::hashed_group::Group;
 use iddqd_maps::{
-    ByHash, ByHashMulti, ByOrderMulti, CloneFor, DefaultHashBuilder, Here, InsertRefusal, ItemIndex,
-    KeyOf, Left, Map, NoConflict, Pair, PairConflict, Right,
+    ByHash, ByHashMulti, ByHashMultiOf, ByOrderMulti, CloneFor, DefaultHashBuilder, Field, Here,
+    InsertRefusal, ItemIndex, KeyOf, Map, NoConflict, Pair, PairConflict, Right,
 };
 use std::alloc::{AllocError, Global};
 use std::ops::Bound;
@@ -69,8 +71,6 @@ pub type Taken = PairConflict<ItemIndex, PairConflict<NoConflict, NoConflict>>;
 
 type Shared = Pair<ByHashMulti<Customer, u32>, ByOrderMulti<Day, u32>>;
 
-type ByCustomer = Right<Left<Here>>;
-
 type ByDay = Right<Right<Here>>;
 
 type Keys = Pair<ByHash<Number, u64>, Shared>;
@@ -100,13 +100,14 @@ pub fn add(ledger: &mut Ledger, order: Order) -> Result<ItemIndex, InsertRefusal
     ledger.insert_unique(order)
 }
 
-/// Removes the orders of a customer, and returns how many they were. It takes no memory.
-pub fn forget(ledger: &mut Ledger, customer: u32) -> usize
-    ensures dropped { Drops (λ order. order.customer ≡ customer) ledger.old.store ledger.new.store }
-    ensures count { result + live_count ledger.new.store ≡ live_count ledger.old.store }
-    ensures memory { ledger.new.memory ≡ ledger.old.memory }
+/// The indexes of a customer's orders, each once, in no particular order.
+pub fn indexes_of<'a>(
+    ledger: &'a Ledger,
+    customer: &'a u32,
+) -> Group<'a, Order, Field<Customer, u32>, &'a u32>
+    ensures { AreHits ledger.now.store (λ order. customer.now == order.customer) result.rest }
 {
-    ledger.remove_hashed_group_by::<ByCustomer, _, _>(&customer, |_order| ())
+    ByHashMultiOf::group(ledger.parts().right().left(), customer)
 }
 
 /// Removes the orders of earlier days, and returns how many they were. It takes no memory.
@@ -139,8 +140,12 @@ fn script(alloc: Global, ledger: &mut Ledger) -> Result<String, AllocError> {
         added(ledger, 3, 8, 20),
         added(ledger, 3, 9, 30),
     );
-    let gone = (close_before(ledger, 20), forget(ledger, 7), ledger.len());
-    format!(in alloc; "ledger: {added:?}, {gone:?}")
+    let gone = close_before(ledger, 20);
+    let left = (
+        indexes_of(ledger, &7).next().is_some(),
+        indexes_of(ledger, &9).next().is_some(),
+    );
+    format!(in alloc; "ledger: {added:?}, {gone}, {left:?}")
 }
 
 /// What the calls answer.

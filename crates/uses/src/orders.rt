@@ -3,16 +3,17 @@
 //!
 //! The calls are those of a mix as `ledger` is, at the place `Here`. A function over a mix of three keys takes six times
 //! the steps to prove, so the mix has callers of a few calls alone.
-ghost use Rattle.std.specs.Prelude.{◌≡◌, ◌==◌, ◌≤◌, ◌<◌, ◌+◌, ◌↔◌, ℕ, Ok, Some, None, true, false, length, filter, nat_le, IfOk, IfErr, OnOk, OnErr, OnSome};
+ghost use Rattle.std.specs.Prelude.{◌≡◌, ◌==◌, ◌≤◌, ◌<◌, ◌+◌, ◌↔◌, ℕ, Ok, Some, None, true, false, length, filter, nat_le, IfOk, IfErr, IfSome, IfNone, OnOk, OnErr, OnSome};
 ghost use Rattle.std.specs.Iterator.{UpTo};
 ghost use Rattle.std.specs.Option.{option_map};
 ghost use Rattle.iddqd_maps.specs.Append.{EachConflicts, KeepsOrMoves};
 ghost use Rattle.iddqd_maps.specs.Bulk.{inserted_count};
 ghost use Rattle.iddqd_maps.specs.Calls.{IsDuplicate};
 ghost use Rattle.iddqd_maps.specs.Drops.{Drops};
-ghost use Rattle.iddqd_maps.specs.Groups.{AreHits, CountsHits, FindsSome};
+ghost use Rattle.iddqd_maps.specs.Groups.{CountsHits, FindsSome};
 ghost use Rattle.iddqd_maps.specs.InGroups.{ListsHits};
 ghost use Rattle.iddqd_maps.specs.InOrder.{shown, FindsLast, IteratesInOrder, ListsInOrder, PopsFirst, PopsLast};
+ghost use Rattle.iddqd_maps.specs.Iter.{indexes_left};
 ghost use Rattle.iddqd_maps.specs.LiveItems.{live_pairs};
 ghost use Rattle.iddqd_maps.specs.Map.{room};
 ghost use Rattle.iddqd_maps.specs.OrderedQuery.{is_equal};
@@ -22,19 +23,15 @@ ghost use Rattle.iddqd_maps.specs.Scan.{HasNoHit, IsHit};
 ghost use Rattle.iddqd_maps.specs.Store.{cleared, get, inserted, live_count};
 ghost use Rattle.uses.specs.Exchanges.{IsWhyNotAdded};
 ghost use Rattle.uses.specs.Intake.{AddsAll, AddsUntil, IsHandedOnly};
-ghost use Rattle.uses.specs.Ledger.{by_day, halved, has_number, is_due_between, is_due_from, is_due_on, shares_number, unpriced};
+ghost use Rattle.uses.specs.Ledger.{by_day, halved, has_number, is_due_before, is_due_between, is_due_from, is_due_on, shares_number, unpriced, IsDueFirst};
 ghost use Rattle.uses.specs.Updates.{UpdatesAll};
 ghost use Rattle.uses.specs.declared.ledger.Order.{Order};
 
 use crate::ledger::{Customer, Day, Number, Order};
-use iddqd_maps::hashed_group::Group;
 use iddqd_maps::id_ord_map::Iter;
 use iddqd_maps::ordered_walk::Range;
 use iddqd_maps::ranges_at::RangesAt;
-use iddqd_maps::{
-    Appended, ByHash, ByHashMulti, ByHashMultiOf, ByOrderMulti, Field, GroupItems, Here, InGroups,
-    InOrder, InsertRefusal, ItemIndex, Map, OrderedParts, Stopped, btree_table,
-};
+use iddqd_maps::{Appended, ByHash, ByHashMulti, ByOrderMulti, Field, GroupItems, Here, InGroups, InOrder, InsertRefusal, ItemIndex, Map, OrderedParts, Stopped, btree_table};
 use std::alloc::{AllocError, Global};
 use std::ops::Bound;
 
@@ -82,6 +79,17 @@ pub fn orders_by_day(queue: &Queue) -> Iter<'_, Order>
     queue.iter_by::<ByDay>()
 }
 
+/// An order that is due first with its index: none is due before it.
+pub fn first_due(queue: &Queue) -> Option<(ItemIndex, Order)>
+    ensures first { IfSome result (λ found. IsDueFirst queue.now.store found.0 found.1) }
+    ensures none { IfNone result (live_count queue.now.store ≡ 0) }
+{
+    match queue.first_by::<ByDay>() {
+        Some((ix, order)) => Some((ix, *order)),
+        None => None,
+    }
+}
+
 /// The order that is due last with its index; of those of one day, the one with the greatest index.
 pub fn last_due(queue: &Queue) -> Option<(ItemIndex, &Order)>
     ensures { FindsLast by_day queue.now.store (option_map shown result) }
@@ -105,6 +113,28 @@ pub fn take_last_due(queue: &mut Queue) -> Option<Order>
     ensures count { OnSome result (live_count queue.old.store ≡ live_count queue.new.store + 1) }
 {
     queue.pop_last_by::<ByDay>()
+}
+
+/// The indexes of all orders, by day and then by index.
+pub fn indexes_by_day(queue: &Queue) -> btree_table::Iter<'_>
+    ensures { ListsInOrder by_day (λ order. true) queue.now.store (indexes_left result) }
+{
+    queue.parts().iter()
+}
+
+/// The indexes of the orders that are due before a day, by day and then by index.
+pub fn indexes_before<'a>(queue: &'a Queue, day: &u32) -> btree_table::Range<'a>
+    ensures { ListsInOrder by_day (is_due_before day.now) queue.now.store (indexes_ahead result) }
+{
+    let upper = Bound::Excluded(day);
+    queue.parts().range(Bound::Unbounded, upper)
+}
+
+/// Whether an order is due on a day, by one search.
+pub fn is_due(queue: &Queue, day: u32) -> bool
+    ensures { (result ≡ false) ↔ HasNoHit queue.now.store (is_due_on day) }
+{
+    queue.parts().contains_key(&day)
 }
 
 /// The indexes of the orders of a day, by index.
@@ -220,16 +250,6 @@ where
     (map.iter_by::<P>(), map.group_by::<P, Q>(query))
 }
 
-/// The indexes of a customer's orders, each once, in no particular order.
-pub fn indexes_of<'a>(
-    accounts: &'a Accounts,
-    customer: &'a u32,
-) -> Group<'a, Order, Field<Customer, u32>, &'a u32>
-    ensures { AreHits accounts.now.store (λ order. customer.now == order.customer) result.rest }
-{
-    ByHashMultiOf::group(accounts.parts(), customer)
-}
-
 /// The orders of a customer with their indexes, each once, in no particular order.
 pub fn orders_of<'a>(
     accounts: &'a Accounts,
@@ -259,6 +279,15 @@ pub fn has_order(accounts: &Accounts, customer: u32) -> bool
     ensures { (result ≡ false) ↔ HasNoHit accounts.now.store (λ order. customer == order.customer) }
 {
     accounts.contains_any_by::<ByCustomer, _>(&customer)
+}
+
+/// Removes the orders of a customer, and returns how many they were. It takes no memory.
+pub fn forget(accounts: &mut Accounts, customer: u32) -> usize
+    ensures dropped { Drops (λ order. order.customer ≡ customer) accounts.old.store accounts.new.store }
+    ensures count { result + live_count accounts.new.store ≡ live_count accounts.old.store }
+    ensures memory { accounts.new.memory ≡ accounts.old.memory }
+{
+    accounts.remove_hashed_group_by::<ByCustomer, _, _>(&customer, |_order| ())
 }
 
 /// Halves the amounts of a customer's orders, and returns how many they are. It takes no memory.
@@ -366,9 +395,9 @@ fn queue_script(queue: &mut Queue) -> (usize, usize, usize, bool, bool, usize) {
         count_of_day(queue, 20),
         halve_from(queue, 20),
         drop_small_until(queue, 20, 10),
-        take_first_due(queue).is_some(),
+        first_due(queue).is_some(),
         take_last_due(queue).is_some(),
-        queue.len(),
+        orders_by_day(queue).len(),
     )
 }
 

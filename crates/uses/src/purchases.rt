@@ -91,7 +91,7 @@ fn script(alloc: Global, purchases: &mut Purchases) -> Result<String, AllocError
     }
     let newest = newest_day(purchases, 7);
     let undone = (undo(purchases, 7, 30), newest_day(purchases, 7));
-    format!(in alloc; "purchases: {newest}, {undone:?}, {}", purchases.len())
+    format!(in alloc; "purchases: {newest}, {undone:?}")
 }
 
 /// What the calls answer.

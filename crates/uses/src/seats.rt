@@ -161,12 +161,14 @@ fn outcome(answer: &Result<Option<Seat>, Refusal>) -> Result<u32, &'static str> 
 
 fn script(alloc: Global, seats: &mut Seats) -> Result<String, AllocError> {
     for (place, guest, ticket) in [(1, 10, 100), (2, 20, 200)] {
-        let _ = seats.insert_unique(Seat {
+        let is_paid = false;
+        let seat = Seat {
             place,
             guest,
             ticket,
-            is_paid: false,
-        });
+            is_paid,
+        };
+        let _ = give_out(seats, seat);
     }
     let given = outcome(&give_to(seats, 1, 11));
     let reissued = outcome(&reissue(seats, 10, 101));

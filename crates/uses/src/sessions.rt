@@ -1,16 +1,12 @@
 //! A mix of a hash and an order: sessions by their ids, and in the order in which they end.
-ghost use Rattle.std.specs.Prelude.{◌≡◌, ◌↔◌, ◌==◌, ℕ, false, true, IfNone, IfSome, IfOk, IfErr, OnOk, OnErr};
-ghost use Rattle.iddqd_maps.specs.InOrder.{ListsInOrder};
-ghost use Rattle.iddqd_maps.specs.Iter.{indexes_left};
+ghost use Rattle.std.specs.Prelude.{◌≡◌, ◌==◌, true, IfOk, IfErr, OnOk, OnErr};
 ghost use Rattle.iddqd_maps.specs.Map.{FindsItem, Removes};
-ghost use Rattle.iddqd_maps.specs.Range.{indexes_ahead};
 ghost use Rattle.iddqd_maps.specs.Scan.{HasNoHit};
-ghost use Rattle.iddqd_maps.specs.Store.{inserted, live_count, next_index};
+ghost use Rattle.iddqd_maps.specs.Store.{inserted, next_index};
 ghost use Rattle.uses.specs.Exchanges.{ExchangesIfFound, IsKeyTaken, IsWhyNotAdded, IsWhyNotChanged};
-ghost use Rattle.uses.specs.Sessions.{by_end, ending, ends_at, ends_before, has_id, share_key, EndsFirst};
+ghost use Rattle.uses.specs.Sessions.{ending, ends_at, has_id, share_key};
 ghost use Rattle.uses.specs.declared.sessions.Session.{Session};
 
-use iddqd_maps::btree_table::{Iter, Range};
 use iddqd_maps::by_hash::ByHash;
 use iddqd_maps::by_order::ByOrder;
 use iddqd_maps::in_order::InOrder;
@@ -23,7 +19,6 @@ use iddqd_maps::pair::Pair;
 use iddqd_maps::pair_conflict::PairConflict;
 use iddqd_maps::refusal::{InsertRefusal, ReplaceRefusal};
 use std::alloc::{AllocError, Global};
-use std::ops::Bound;
 
 /// A session. No two have the same id, or end at the same tick of the clock.
 #[derive(Clone, Copy, Debug)]
@@ -106,39 +101,6 @@ pub fn extend(
     sessions.change_by::<ById, _, _>(&id, |session| Session { ends, ..*session })
 }
 
-/// The session that ends next; none exactly where there is no session.
-pub fn next_to_end(sessions: &Sessions) -> Option<Session>
-    ensures next { IfSome result (λ session. (ix : ℕ) × EndsFirst sessions.now.store ix session) }
-    ensures none { IfNone result (live_count sessions.now.store ≡ 0) }
-{
-    match sessions.first_by::<ByEnd>() {
-        Some((_, session)) => Some(*session),
-        None => None,
-    }
-}
-
-/// The indexes of all sessions, the first to end first.
-pub fn in_turn(sessions: &Sessions) -> Iter<'_>
-    ensures { ListsInOrder by_end (λ session. true) sessions.now.store (indexes_left result) }
-{
-    sessions.parts().right().iter()
-}
-
-/// The indexes of the sessions that end before a tick, the first to end first.
-pub fn ending_before<'a>(sessions: &'a Sessions, tick: &u64) -> Range<'a>
-    ensures { ListsInOrder by_end (ends_before tick.now) sessions.now.store (indexes_ahead result) }
-{
-    let upper = Bound::Excluded(tick);
-    sessions.parts().right().range(Bound::Unbounded, upper)
-}
-
-/// Whether a session ends at this tick, by one search.
-pub fn is_ending_at(sessions: &Sessions, tick: u64) -> bool
-    ensures { (result ≡ false) ↔ HasNoHit sessions.now.store (ends_at tick) }
-{
-    sessions.parts().right().contains_key(&tick)
-}
-
 /// Closes the session that ends at this tick, and returns it. All others stay. It takes no memory.
 pub fn close_at(sessions: &mut Sessions, tick: u64) -> Option<Session>
     ensures { Removes sessions.old (ends_at tick) result sessions.new }
@@ -155,17 +117,13 @@ fn script(alloc: Global, sessions: &mut Sessions) -> Result<String, AllocError> 
     let first = opened(sessions, 1, 100);
     let second = opened(sessions, 2, 90);
     let third = opened(sessions, 3, 90);
-    let next = next_to_end(sessions);
     let extended = extend(sessions, 2, 200).is_ok();
-    let after = next_to_end(sessions);
     let closed = (
         close_at(sessions, 90).is_some(),
         close_at(sessions, 200).is_some(),
         with_id(sessions, 2).is_some(),
     );
-    format!(in alloc;
-        "sessions: {first}, {second}, {third}, {next:?}, {extended}, {after:?}, {closed:?}"
-    )
+    format!(in alloc; "sessions: {first}, {second}, {third}, {extended}, {closed:?}")
 }
 
 /// What the calls answer.
