@@ -122,9 +122,7 @@ fn script(alloc: Global, appointments: &mut Appointments) -> Result<String, Allo
         in_room_from(appointments, 1, 10).next().is_some(),
     );
     let closed = close_room(appointments, 1);
-    format!(in alloc;
-        "appointments: {added:?}, {found:?}, {walks:?}, {closed}"
-    )
+    format!(in alloc; "appointments: {added:?}, {found:?}, {walks:?}, {closed}")
 }
 
 /// What the calls answer.

@@ -91,18 +91,18 @@ pub fn resize(artifacts: &mut Artifacts, name: &str, version: &str, size: u64) -
     artifacts.modify_by::<Here, _, _, _>((name, version), |artifact| artifact.size = size)
 }
 
-/// Puts an artifact in the place of another one, which is handed back. It is refused exactly where that one isn't there,
-/// or a third one has the new one's name and version. It takes no memory.
+/// Puts an artifact in the place of another one, which is handed back. It is refused exactly where that one isn't
+/// there, or a third one has the new one's name and version. It takes no memory.
 pub fn exchange(
     artifacts: &mut Artifacts,
     name: &str,
     version: &str,
     artifact: Artifact,
 ) -> Result<Artifact, ReplaceRefusal<Artifact, ItemIndex>>
-    ensures exchanged { let called = is_called name.now version.now in
-        IfOk result (λ was. Exchanges same_artifact called artifact artifacts.old was artifacts.new) }
-    ensures refused { let called = is_called name.now version.now in
-        IfErr result (IsWhyNot (IsTaken same_artifact) false called artifact artifacts.old) }
+    ensures exchanged { IfOk result (λ was.
+        Exchanges same_artifact (is_called name.now version.now) artifact artifacts.old was artifacts.new) }
+    ensures refused { IfErr result
+        (IsWhyNot (IsTaken same_artifact) false (is_called name.now version.now) artifact artifacts.old) }
     ensures unchanged { OnErr result (artifacts.new ≡ artifacts.old) }
 {
     artifacts.replace_by::<Here, _>((name, version), artifact)

@@ -1,4 +1,5 @@
-//! Lockers and their holders in a `BiHashMap`: each call that names one of two keys, and what an insert reports of them.
+//! Lockers and their holders in a `BiHashMap`: each call that names one of two keys, and what an insert reports of
+//! them.
 ghost use Rattle.std.specs.Prelude.{◌≡◌, ◌≤◌, ◌==◌, ◌↔◌, false, min, IfOk, IfErr, OnOk, OnErr};
 ghost use Rattle.iddqd_maps.specs.Map.{FindsItem, Removes};
 ghost use Rattle.iddqd_maps.specs.Scan.{AnswersScan, HasNoHit};

@@ -1,8 +1,8 @@
-//! Orders in maps with one key each: a queue by the day, in which many orders may be due on one day; accounts by the
-//! customer, of whom many orders may be; and an intake by the number.
+//! Orders in maps with one key each: a queue by the day, on which many may be due; accounts by the customer, who may
+//! have many; and an intake by the number.
 //!
-//! The calls are those of a mix as `ledger` is, at the place `Here`. A function over a mix of three keys takes six times
-//! the steps to prove, so the mix has callers of a few calls alone.
+//! The calls are those of a mix as `ledger` is one, at the place `Here`. A function over a mix of three keys takes six
+//! times the steps to prove, so `ledger` makes only a few calls.
 ghost use Rattle.std.specs.Prelude.{◌≡◌, ◌==◌, ◌≤◌, ◌<◌, ◌+◌, ◌↔◌, ℕ, Ok, Some, None, true, false, length, filter, nat_le, IfOk, IfErr, IfSome, IfNone, OnOk, OnErr, OnSome};
 ghost use Rattle.std.specs.Iterator.{UpTo};
 ghost use Rattle.std.specs.Option.{option_map};
@@ -31,7 +31,10 @@ use crate::ledger::{Customer, Day, Number, Order};
 use iddqd_maps::id_ord_map::Iter;
 use iddqd_maps::ordered_walk::Range;
 use iddqd_maps::ranges_at::RangesAt;
-use iddqd_maps::{Appended, ByHash, ByHashMulti, ByOrderMulti, Field, GroupItems, Here, InGroups, InOrder, InsertRefusal, ItemIndex, Map, OrderedParts, Stopped, btree_table};
+use iddqd_maps::{
+    Appended, ByHash, ByHashMulti, ByOrderMulti, Field, GroupItems, Here, InGroups, InOrder,
+    InsertRefusal, ItemIndex, Map, OrderedParts, Stopped, btree_table,
+};
 use std::alloc::{AllocError, Global};
 use std::ops::Bound;
 
@@ -386,7 +389,8 @@ fn order(number: u64, customer: u32, day: u32) -> Order {
     }
 }
 
-// How many of a day there are, how many were halved and dropped, whether there were a first and a last, and what is left.
+// How many of a day there are, how many were halved and dropped, whether there were a first and a last, and how many
+// are left.
 fn queue_script(queue: &mut Queue) -> (usize, usize, usize, bool, bool, usize) {
     for (number, day) in [(1, 20), (2, 10), (3, 20), (4, 30)] {
         let _ = queue.insert_unique(order(number, 7, day));

@@ -1,5 +1,5 @@
-//! People in the order of the years in which they were born, and in that of their names. The year is computed, and a name
-//! may be asked for by its beginning.
+//! People in the order of the years in which they were born, and in that of their names. The year is computed, and a
+//! name may be asked for by its beginning.
 ghost use Rattle.std.specs.Prelude.{◌/◌};
 ghost use Rattle.iddqd_maps.specs.InOrder.{IteratesInOrder};
 ghost use Rattle.uses.specs.People.{begins, by_name, by_year, was_born};

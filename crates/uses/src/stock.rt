@@ -79,10 +79,7 @@ impl BuildHasher for Base31 {
 type Stock = IdHashMap<Part>;
 
 /// A stock whose kinds strangers choose: the seed is drawn from the system.
-pub fn guarded(
-    rt: &impl RandomSource,
-    alloc: Global,
-) -> io::Result<IdHashMap<Part, RandomState>> {
+pub fn guarded(rt: &impl RandomSource, alloc: Global) -> io::Result<IdHashMap<Part, RandomState>> {
     Ok(IdHashMap::with_hasher(alloc, RandomState::new(rt)?))
 }
 

@@ -6,4 +6,4 @@ use Rattle.uses.proofs.orders.all_and_group.Goals as goal
 pub returns-clause-group : goal.returns-clause-group
 returns-clause-group g c =
     subst (λ order. IteratesInOrder order (is_equal (g.X.OrderedAt.compare c.args.query)) c.args.map.now.store c.group_by.result)
-    g.X.RangesAt.one_order c.group_by.ensures
+    g.met.X.RangesAt.one_order c.group_by.ensures
