@@ -82,13 +82,13 @@ pub fn orders_by_day(queue: &Queue) -> Iter<'_, Order>
     queue.iter_by::<ByDay>()
 }
 
-/// An order that is due first with its index: none is due before it.
-pub fn first_due(queue: &Queue) -> Option<(ItemIndex, Order)>
-    ensures first { IfSome result (λ found. IsDueFirst queue.now.store found.0 found.1) }
+/// An order that is due first: none is due before it.
+pub fn first_due(queue: &Queue) -> Option<Order>
+    ensures first { IfSome result (λ order. (ix : ℕ) × IsDueFirst queue.now.store ix order) }
     ensures none { IfNone result (live_count queue.now.store ≡ 0) }
 {
     match queue.first_by::<ByDay>() {
-        Some((ix, order)) => Some((ix, *order)),
+        Some((_, order)) => Some(*order),
         None => None,
     }
 }

@@ -16,8 +16,8 @@ at_most a b not_less = elim (cases_lt a b) [ inl less ↦ absurd (not_less (sym 
 pub returns-in-Some-clause-first : goal.returns-in-Some-clause-first
 returns-in-Some-clause-first c =
     let s = c.args.queue.now.store in
-    let ix = c.in-Some.ix in
+    let ix = c.in-Some.field-0-0 in
     let order = c.in-Some.order.now in
     let first : FindsFirst by_day s (Some (ix, order)) = rw c.in-Some.is at c.first_by.ensures in
     let (live, least) = FindsFirst-least by_day s (on_total (λ (x : Order). x.day) nat_cmp_total) ix order first in
-    (live, λ j other there. at_most other.day order.day (least j other there))
+    (ix, (live, λ j other there. at_most other.day order.day (least j other there)))
