@@ -1,20 +1,19 @@
 -- What asks along a table leave, where each item that is refused is removed before the next is asked about.
-use Rattle.std.proofs.Common.{◌≡◌, ◌≢◌, ◌∙◌, inl, inr, ℕ, List, [], ◌∷◌, ◌++◌, length, map, filter, cond, not, Bool, true, false, is_some, IsSome, Option, Some, None, refl, sym, ap, subst, arith, Ordering, nat_eq, append-nil, length-set}
-use Rattle.std.specs.Fn.{Called, Mut}
+use Rattle.std.proofs.Common.{◌≡◌, ◌≢◌, ◌∙◌, inl, inr, ℕ, List, [], ◌∷◌, ◌++◌, map, filter, cond, not, Bool, true, false, is_some, IsSome, Option, Some, None, refl, sym, ap, subst, Ordering, nat_eq, append-nil}
 use Rattle.std.specs.List.{Contains, FoldsTo, IsDistinct, cons_option}
 use Rattle.std.specs.Cmp.{IsTotalOrder}
-use Rattle.std.proofs.lemmas.Bool.{cases_eq, cases_lt, cond_both, eqb-false}
+use Rattle.std.proofs.lemmas.Bool.{cond_both, eqb-false}
 use Rattle.std.proofs.lemmas.Fn.{FoldsTo-push}
-use Rattle.std.proofs.lemmas.List.{map-append, append_assoc, get_or_past, get_or-set_same}
+use Rattle.std.proofs.lemmas.List.{map-append, append_assoc}
 use Rattle.std.proofs.lemmas.List.Elements.{All-contains, All-contains_itself, All-filter, All-from_recursion, filter-append, filter_map-append, filter_passes, Contains-append_cases}
 use Rattle.std.proofs.lemmas.List.Kept.{IsStrictlySortedBy-filter}
 use Rattle.std.proofs.lemmas.Map.Keys.{IsDistinct-head, IsDistinct-tail}
 use Rattle.iddqd.specs.Store.{Store, IsValid, get, removed}
 use Rattle.iddqd.proofs.StoreLemmas.{contains_head, contains_tail, contains_cases, contains_none, IsValid-removed}
 use Rattle.iddqd.proofs.LiveLemmas.{item_at, live_at, get-removed_at, get-removed_other}
-use Rattle.iddqd_order.specs.Retain.{Retains}
 use Rattle.iddqd_order.proofs.IndexListLemmas.{IsDistinct-filter}
 use Rattle.iddqd_keys.specs.Scan.{IsLive}
+use Rattle.iddqd_by_hash.proofs.RetainLemmas.{was_there}
 use Rattle.iddqd_by_order.specs.Ordered.{AreLive, Holds}
 use Rattle.iddqd_ord_map.specs.OrderedIndexing.{Sorts}
 use Rattle.iddqd_keys.proofs.KeyWalkLemmas.{IsInPlace-alike, pairs_at-first, pairs_at-last}
@@ -39,31 +38,6 @@ contains_kept t (x ∷ xs) j here passes = elim (contains_cases x j xs here) [
       (λ _. contains_tail x j (filter t xs) later) (λ _. later)
 ]
 
--- what a table keeps of its indexes, where the closure answers by a test in each state that it comes to
-module _ {F : Type 0} (g : Mut F (ℕ × Unit {0}) Bool) (I : F → Type 0) (test : ℕ → Bool)
-    (says : (f f' : F) (ix : ℕ) (b : Bool) → I f → Called g f (ix, tt) b f' → I f' × (b ≡ test ix)) where
-  kept_by_test :
-      (asks : List (ℕ × Bool)) (f last : F)
-      → I f
-      → FoldsTo (λ p (a : ℕ × Bool) q. Called g p (a.0, tt) a.1 q) f asks last
-      → map (λ (a : ℕ × Bool). a.0) (filter (λ (a : ℕ × Bool). a.1) asks)
-      ≡ filter test (map (λ (a : ℕ × Bool). a.0) asks)
-  kept_by_test [] f last i steps = refl
-  kept_by_test (a ∷ asks) f last i (next, asked, steps) =
-      let (later, same) = says f next a.0 a.1 i asked in
-      let rest = kept_by_test asks next last later steps in
-      let more : List (ℕ × Bool) = filter (λ (a : ℕ × Bool). a.1) asks in
-      let tested : List ℕ = filter test (map (λ (a : ℕ × Bool). a.0) asks) in
-      rw (← same)
-      (elim a.1 as (λ b. map (λ (a : ℕ × Bool). a.0) (cond b (a ∷ more) more) ≡ cond b (a.0 ∷ tested) tested) [
-        | true ↦ ap (λ l. a.0 ∷ l) rest
-        | false ↦ rest
-      ])
-
-  pub Retains-test : (f : F) (old new : List ℕ) → I f → Retains g f old new → new ≡ filter test old
-  Retains-test f old new i r =
-      r.kept.kept ∙ kept_by_test r.kept.asks f r.last i r.kept.were_asked ∙ ap (filter test) r.kept.each_once
-
 module _ {T : Type 0} where
   removed_all-push :
       (s : Store T) (ixs : List ℕ) (ix : ℕ)
@@ -84,29 +58,6 @@ module _ {T : Type 0} where
   refused-push asks a =
       ap (map (λ (a : (ℕ × T) × Bool). a.0.0)) (filter-append (λ (a : (ℕ × T) × Bool). not a.1) asks (a ∷ []))
       ∙ map-append (λ (a : (ℕ × T) × Bool). a.0.0) _ _
-
-  -- what there is after a removal was there before
-  from_removed : (s : Store T) (ix j : ℕ) (item : T) → get (removed s ix) j ≡ Some item → get s j ≡ Some item
-  from_removed s ix j item is = elim (cases_eq j ix) [
-    | inl same ↦
-        let here : get (removed s ix) ix ≡ Some item = subst (λ k. get (removed s ix) k ≡ Some item) same is in
-        elim (cases_lt ix (length s.items)) [
-          | inl within ↦ let gone = get_or-set_same s.items ix None None within in absurd (cc)
-          | inr past ↦
-              let long = length-set s.items ix None in
-              let gone : get (removed s ix) ix ≡ None =
-              get_or_past (removed s ix).items ix None (omega (arith, past, long)) in
-              absurd (cc)
-        ]
-    | inr other ↦ sym (get-removed_other s ix j other) ∙ is
-  ]
-
-  was_there :
-      (s : Store T) (ixs : List ℕ) (j : ℕ) (item : T)
-      → get (removed_all s ixs) j ≡ Some item
-      → get s j ≡ Some item
-  was_there s [] j item is = is
-  was_there s (ix ∷ ixs) j item is = from_removed s ix j item (was_there (removed s ix) ixs j item is)
 
   -- the same pairs, where the indexes have what they had
   pairs_at-same :

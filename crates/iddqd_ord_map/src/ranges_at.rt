@@ -38,7 +38,9 @@ pub trait SortedAt<P, T, S>: KeyIndex<T, S> {
 }
 
 /// A key index whose ranges in the order of the key at the place `P` are found by queries `Q`.
-pub trait RangesAt<P, Q, T, S>: OrderedAt<P, Q, T, S> {
+pub trait RangesAt<P, Q, T, S>: OrderedAt<P, Q, T, S> + SortedAt<P, T, S> {
+    ghost use Rattle.std.specs.Prelude.{◌≡◌};
+
     /// The indexes whose items have keys between two bounds, by key and then by index: none if the lower bound is above
     /// the upper one. It is one search for each bound that there is, and takes no memory.
     fn range_at(&self, items: &ItemSet<T>, state: &S, lower: Bound<Q>, upper: Bound<Q>) -> Range<'_>
@@ -50,6 +52,10 @@ pub trait RangesAt<P, Q, T, S>: OrderedAt<P, Q, T, S> {
     fn count_at(&self, items: &ItemSet<T>, state: &S, query: Q) -> usize
         requires indexed { Self.KeyIndex.indexes self.now state.now items.now.store }
         ensures { CountsHits items.now.store (is_equal (Self.OrderedAt.compare query)) result };
+
+    // Ranges go in the order of the table, so what `iter_by`, `first_by` and `last_by` of a map return is in one order
+    // with what `range_by` and `group_by` do.
+    ghost one_order: { Self.OrderedAt.order ≡ Self.SortedAt.sorts_by };
 }
 
 impl<T, S, E> SortedAt<Here, T, S> for ByOrderOf<E>
@@ -103,6 +109,10 @@ where
     E: OrdKey<T>,
     Q: ItemRangeQuery<T, E>,
 {
+    ghost use Rattle.std.proofs.Common.{refl};
+
+    ghost one_order = { refl };
+
     fn range_at(&self, items: &ItemSet<T>, state: &S, lower: Bound<Q>, upper: Bound<Q>) -> Range<'_>
         requires indexed { Sorts E.key_of E.cmp items.now.store (order_of self.now.table) }
         ensures { let within = is_within Q.compare_item lower upper in
@@ -121,6 +131,10 @@ where
     E: OrdKey<T>,
     Q: ItemRangeQuery<T, E>,
 {
+    ghost use Rattle.std.proofs.Common.{refl};
+
+    ghost one_order = { refl };
+
     fn range_at(&self, items: &ItemSet<T>, state: &S, lower: Bound<Q>, upper: Bound<Q>) -> Range<'_>
         requires indexed { IsSortedScan E.key_of E.cmp items.now.store (order_of self.now.table) }
         ensures { let within = is_within Q.compare_item lower upper in
@@ -139,6 +153,8 @@ where
     A: RangesAt<P, Q, T, S>,
     B: KeyIndex<T, S>,
 {
+    ghost one_order = { A.RangesAt.one_order };
+
     fn range_at(&self, items: &ItemSet<T>, state: &S, lower: Bound<Q>, upper: Bound<Q>) -> Range<'_>
         requires indexed { A.KeyIndex.indexes self.now.first state.now items.now.store
             × B.KeyIndex.indexes self.now.second state.now items.now.store }
@@ -158,6 +174,8 @@ where
     A: KeyIndex<T, S>,
     B: RangesAt<P, Q, T, S>,
 {
+    ghost one_order = { B.RangesAt.one_order };
+
     fn range_at(&self, items: &ItemSet<T>, state: &S, lower: Bound<Q>, upper: Bound<Q>) -> Range<'_>
         requires indexed { A.KeyIndex.indexes self.now.first state.now items.now.store
             × B.KeyIndex.indexes self.now.second state.now items.now.store }

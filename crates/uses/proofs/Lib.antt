@@ -1,12 +1,9 @@
 pub mod RegistryLemmas
 pub mod CalendarLemmas
-pub mod DiaryLemmas
 pub mod ExchangeLemmas
 pub mod WordLemmas
-pub mod BadgeLemmas
-pub mod StockLemmas
+pub mod LockerLemmas
 pub mod UpdateLemmas
 pub mod RemakeLemmas
-pub mod LeaseLemmas
 pub mod GuestLemmas
 pub mod IntakeLemmas

@@ -5,7 +5,7 @@ use Rattle.std.specs.Str.{bytes_eq}
 use Rattle.std.specs.String.{string_bytes}
 use Rattle.std.specs.Cmp.Lexicographic.{bytes_decides}
 use Rattle.std.proofs.lemmas.List.{length_push}
-use Rattle.iddqd_maps.specs.Store.{IsFull, Store, get, next_index, filled, inserted, slot_limit}
+use Rattle.iddqd_maps.specs.Store.{IsFull, Store, get, filled, inserted, slot_limit}
 use Rattle.iddqd_maps.specs.Scan.{IsHit, AnswersScan}
 use Rattle.iddqd_maps.proofs.CallerLemmas.{scan_hits}
 use Rattle.uses.specs.declared.registry.Entry.{Entry}
@@ -88,10 +88,6 @@ module _ (s : Store Entry) (dense : IsDense s) (entry : Entry) where
         omega (arith, names, slots, dense.all_named, length_push (names_of s.items) (name_of entry), length_push s.items (Some entry));
     unlimited = dense.unlimited;
   }
-
-  -- its number is that of the names before it
-  pub next-number : next_index s ≡ length (names_of s.items)
-  next-number = rw dense.none_free (sym dense.all_named)
 
 -- it is full exactly if there are as many names as indexes
 module _ (s : Store Entry) (dense : IsDense s) where

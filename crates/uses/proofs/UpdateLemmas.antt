@@ -4,14 +4,14 @@ use Rattle.std.specs.Prelude.{Result, Ok, Err}
 use Rattle.std.specs.Borrow.{MutBor}
 use Rattle.std.specs.Fn.{Called, Mut, Once}
 use Rattle.iddqd_maps.specs.Map.{MapState}
-use Rattle.iddqd_maps.specs.Modify.{Modifies, ModifiesAt}
+use Rattle.iddqd_maps.specs.Modify.{Modifies}
 use Rattle.iddqd_maps.specs.ModifyMany.{ModifiesEach, ModifiesHits, ModifiesWithin, WasCalled}
 use Rattle.iddqd_maps.specs.RangeRetain.{KeepsMisses}
 use Rattle.iddqd_maps.specs.Scan.{HasNoHit, IsHit}
 use Rattle.iddqd_maps.specs.Store.{Store, get, rebound}
 use Rattle.iddqd_maps.specs.Upsert.{MergesAt}
 use Rattle.iddqd_maps.proofs.CallerLemmas.{called_leaves}
-use Rattle.uses.specs.Updates.{Updates, UpdatesAll, UpdatesAt, UpdatesItem}
+use Rattle.uses.specs.Updates.{Updates, UpdatesAll, UpdatesItem}
 
 module _
     {F T : Type 0} (g : Once F (MutBor T × Unit {0}) (Unit {0} × (MutBor T × Unit {0}))) (f : F) (becomes : T → T)
@@ -27,15 +27,6 @@ module _
         let item = hit.modified in
         let is = called_leaves g f (λ was r is. is ≡ becomes was) (λ item left r called. leaves item left r called) item.was item.is r item.called in
         (hit.ix, item.was, hit.hit, item.left ∙ ap (rebound old.store hit.ix) is, hit.memory)
-
-    pub updates_at :
-        (ix : ℕ) (result : Option (Unit {0}))
-        → ModifiesAt g f old ix result new
-        → UpdatesAt old ix becomes result new
-    updates_at ix None none = none
-    updates_at ix (Some r) (item, memory) =
-        let is = called_leaves g f (λ was r is. is ≡ becomes was) (λ item left r called. leaves item left r called) item.was item.is r item.called in
-        ((item.was, item.live, item.left ∙ ap (rebound old.store ix) is), memory)
 
 -- and of a call that modifies many items
 module _

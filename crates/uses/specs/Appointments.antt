@@ -20,10 +20,6 @@ is_at room start appointment = is_eq (ordering_then (nat_cmp room appointment.ro
 abbrev pub same_place : Appointment → Appointment → Bool
 same_place x y = is_at x.room x.start y
 
--- the appointment at another time
-abbrev pub starting : ℕ → Appointment → Appointment
-starting start appointment = record appointment { start = start }
-
 -- the appointment is in this room
 abbrev pub is_in : ℕ → Appointment → Bool
 is_in room appointment = eq_by_cmp nat_cmp room appointment.room

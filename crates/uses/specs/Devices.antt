@@ -8,19 +8,7 @@ use Rattle.uses.specs.declared.devices.Device.{Device}
 abbrev pub is_named : List ℕ → Device → Bool
 is_named name device = bytes_eq name (string_bytes device.name)
 
--- it has this serial number
-abbrev pub has_serial : ℕ → Device → Bool
-has_serial serial device = serial == device.serial
-
--- it has this address
-abbrev pub has_address : ℕ → Device → Bool
-has_address address device = address == device.address
-
 -- the devices share a key
 abbrev pub share_key : Device → Device → Bool
 share_key x y =
     (x.serial == y.serial || x.address == y.address) || (x.tag == y.tag || is_named (string_bytes x.name) y)
-
--- the device, with so many ports
-abbrev pub with_ports : ℕ → Device → Device
-with_ports ports device = record device { ports = ports }

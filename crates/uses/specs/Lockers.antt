@@ -1,6 +1,12 @@
--- Lockers by their keys.
-use Rattle.std.specs.Prelude.{◌==◌, ℕ, Bool}
+-- Lockers by their keys, and why one isn't handed out.
+use Rattle.std.specs.Prelude.{◌≡◌, ◌==◌, ℕ, Bool, Option, Some, None}
+use Rattle.iddqd_maps.specs.Map.{MapState, room}
+use Rattle.iddqd_maps.specs.Scan.{HasNoHit}
 use Rattle.iddqd_maps.specs.Several.{either_key}
+use Rattle.iddqd_maps.specs.Store.{IsFull}
+use Rattle.uses.specs.Exchanges.{HasHit}
+use Rattle.uses.specs.declared.lockers.HandOutError.{HandOutError}
+use Rattle.uses.specs.declared.lockers.HandOutError.TheVariants.{NumberTaken, HolderTaken, BothTaken, Full, Memory}
 use Rattle.uses.specs.declared.lockers.Locker.{Locker}
 
 -- the locker has this number
@@ -26,3 +32,23 @@ same_holder x y = has_holder x.holder y
 -- they share a key
 abbrev pub share_key : Locker → Locker → Bool
 share_key = either_key same_number same_holder
+
+-- which keys are taken, if a locker with the number or one of the holder is reported
+abbrev pub taken_keys : Option ℕ → Option ℕ → HandOutError
+taken_keys (Some one) (Some other) = BothTaken
+taken_keys (Some one) None = NumberTaken
+taken_keys None other = HolderTaken
+
+-- why a locker with this number wasn't handed out to this holder
+abbrev pub IsWhyNotHandedOut : ℕ → ℕ → MapState Locker → HandOutError → Type 0
+IsWhyNotHandedOut number holder old NumberTaken =
+    HasHit old.store (has_number number) × HasNoHit old.store (has_holder holder)
+IsWhyNotHandedOut number holder old HolderTaken =
+    HasNoHit old.store (has_number number) × HasHit old.store (has_holder holder)
+IsWhyNotHandedOut number holder old BothTaken =
+    HasHit old.store (has_number number) × HasHit old.store (has_holder holder)
+IsWhyNotHandedOut number holder old Full =
+    HasNoHit old.store (has_number number) × HasNoHit old.store (has_holder holder) × IsFull old.store
+IsWhyNotHandedOut number holder old Memory =
+    HasNoHit old.store (has_number number) × HasNoHit old.store (has_holder holder) × (IsFull old.store → ⊥)
+    × (room old ≡ 0)

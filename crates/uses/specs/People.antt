@@ -1,15 +1,11 @@
 -- People by year of birth and by name.
-use Rattle.std.specs.Prelude.{◌/◌, ◌==◌, ℕ, Bool, List}
+use Rattle.std.specs.Prelude.{◌/◌, ℕ, Bool, List}
 use Rattle.std.specs.Cmp.Lexicographic.{slice_cmp}
 use Rattle.std.specs.Ordering.{eq_by_cmp, is_eq, nat_cmp}
 use Rattle.std.specs.String.{string_bytes}
 use Rattle.std.specs.declared.cmp.Ordering.{Ordering}
 use Rattle.iddqd_maps.specs.Beginnings.{begin_cmp}
 use Rattle.uses.specs.declared.people.Person.{Person}
-
--- the people have one number
-abbrev pub shares_number : Person → Person → Bool
-shares_number x y = x.number == y.number
 
 -- how two people compare by the years of their births
 abbrev pub by_year : Person → Person → Ordering

@@ -1,12 +1,8 @@
 -- Purchases by customer, the newest first.
-use Rattle.std.specs.Prelude.{◌==◌, ℕ, Bool}
+use Rattle.std.specs.Prelude.{ℕ, Bool}
 use Rattle.std.specs.Ordering.{eq_by_cmp, nat_cmp, ordering_then}
 use Rattle.std.specs.declared.cmp.Ordering.{Ordering}
 use Rattle.uses.specs.declared.purchases.Purchase.{Purchase}
-
--- the purchases have one number
-abbrev pub shares_number : Purchase → Purchase → Bool
-shares_number x y = x.number == y.number
 
 -- how two purchases compare by customer, and then by day, the later first
 abbrev pub newest_first : Purchase → Purchase → Ordering

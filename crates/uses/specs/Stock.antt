@@ -17,7 +17,3 @@ with_count count part = record part { count = count }
 -- the part, and as many of its kind as the first one has, up to the greatest count
 abbrev pub sum_of : Part → Part → Part
 sum_of more part = with_count (min (part.count + more.count) (2 ^ 32 - 1)) part
-
--- as many parts of the kind, but one
-abbrev pub with_one_less : Part → Part
-with_one_less part = with_count (part.count - 1) part

@@ -1,13 +1,11 @@
 //! Appointments by their rooms and starts, in that order: all of a room are a group, by the first part of the key.
-ghost use Rattle.std.specs.Prelude.{◌≡◌, ◌+◌, true, IfOk, IfErr, OnOk, OnErr};
-ghost use Rattle.std.specs.Option.{option_map};
+ghost use Rattle.std.specs.Prelude.{◌≡◌, ◌+◌, IfOk, IfErr, OnOk, OnErr};
 ghost use Rattle.iddqd_maps.specs.Drops.{Drops};
-ghost use Rattle.iddqd_maps.specs.Groups.{CountsHits};
-ghost use Rattle.iddqd_maps.specs.InOrder.{shown, FindsFirst, IteratesInOrder};
+ghost use Rattle.iddqd_maps.specs.InOrder.{IteratesInOrder};
 ghost use Rattle.iddqd_maps.specs.Map.{FindsItem};
 ghost use Rattle.iddqd_maps.specs.Store.{inserted, live_count, next_index};
-ghost use Rattle.uses.specs.Appointments.{by_room, is_at, is_in, is_in_from, same_place, starting};
-ghost use Rattle.uses.specs.Exchanges.{ExchangesIfFound, IsKeyTaken, IsWhyNotAdded, IsWhyNotChanged};
+ghost use Rattle.uses.specs.Appointments.{by_room, is_at, is_in, is_in_from, same_place};
+ghost use Rattle.uses.specs.Exchanges.{IsWhyNotAdded};
 
 use iddqd_maps::by_order::ByOrderOf;
 use iddqd_maps::in_order::InOrder;
@@ -18,7 +16,7 @@ use iddqd_maps::key_kinds::Field;
 use iddqd_maps::key_of::KeyOf;
 use iddqd_maps::map::Map;
 use iddqd_maps::ordered_walk::Range;
-use iddqd_maps::refusal::{InsertRefusal, ReplaceRefusal};
+use iddqd_maps::refusal::InsertRefusal;
 use std::alloc::{AllocError, Global};
 use std::ops::Bound;
 
@@ -79,29 +77,6 @@ pub fn at(appointments: &Appointments, room: u32, start: u32) -> Option<Appointm
     appointments.get_by::<Here, _>((&room, &start)).copied()
 }
 
-/// Moves an appointment to another time in its room, and returns what it was; `None` if and only if there is none. It
-/// is refused if another one is there then, or if memory ran out, which comes only past the capacity.
-pub fn move_to(
-    appointments: &mut Appointments,
-    room: u32,
-    start: u32,
-    to: u32,
-) -> Result<Option<Appointment>, ReplaceRefusal<Appointment, ItemIndex>>
-    ensures moved { let at = is_at room start in IfOk result
-        (λ found. ExchangesIfFound same_place at (starting to) appointments.old found appointments.new) }
-    ensures refused { IfErr result
-        (IsWhyNotChanged (IsKeyTaken same_place) true (is_at room start) (starting to) appointments.old) }
-    ensures unchanged { OnErr result (appointments.new ≡ appointments.old) }
-{
-    appointments.change_by::<Here, _, _>(
-        (&room, &start),
-        |appointment| Appointment {
-            start: to,
-            ..*appointment
-        },
-    )
-}
-
 /// The appointments in a room with their indexes, the earliest first.
 pub fn in_room(appointments: &Appointments, room: u32) -> Range<'_, Appointment>
     ensures { IteratesInOrder by_room (is_in room) appointments.now.store result }
@@ -115,20 +90,6 @@ pub fn in_room_from(appointments: &Appointments, room: u32, start: u32) -> Range
 {
     let (from, to) = (Part::Both(&room, &start), Part::First(&room));
     appointments.range_by::<Here, _>(Bound::Included(from), Bound::Included(to))
-}
-
-/// How many appointments are in a room.
-pub fn count_in(appointments: &Appointments, room: u32) -> usize
-    ensures { CountsHits appointments.now.store (is_in room) result }
-{
-    appointments.count_by::<Here, _>(Prefix(&room))
-}
-
-/// The first appointment in the first room with its index.
-pub fn first(appointments: &Appointments) -> Option<(ItemIndex, &Appointment)>
-    ensures { FindsFirst by_room appointments.now.store (option_map shown result) }
-{
-    appointments.first_by::<Here>()
 }
 
 /// Removes the appointments in a room, and returns how many they were. It takes no memory.
@@ -159,19 +120,9 @@ fn script(alloc: Global, appointments: &mut Appointments) -> Result<String, Allo
     let walks = (
         in_room(appointments, 1).next().is_some(),
         in_room_from(appointments, 1, 10).next().is_some(),
-        count_in(appointments, 3),
-        first(appointments).is_some(),
-    );
-    let moved = (
-        move_to(appointments, 1, 14, 9).is_err(),
-        move_to(appointments, 1, 14, 15).is_ok(),
-        at(appointments, 1, 15).is_some(),
     );
     let closed = close_room(appointments, 1);
-    format!(in alloc;
-        "appointments: {added:?}, {found:?}, {walks:?}, {moved:?}, {closed}, {}",
-        appointments.len()
-    )
+    format!(in alloc; "appointments: {added:?}, {found:?}, {walks:?}, {closed}")
 }
 
 /// What the calls answer.

@@ -1,14 +1,15 @@
 //! Artifacts by their names and versions: a key of two texts, both of which a look-up borrows.
-ghost use Rattle.std.specs.Prelude.{◌≡◌, false, None, IfOk, IfErr, IfSome, IfNone, OnOk, OnErr, option_copied};
+ghost use Rattle.std.specs.Prelude.{◌≡◌, ◌↔◌, false, None, IfOk, IfErr, IfSome, IfNone, OnOk, OnErr, option_copied};
 ghost use Rattle.iddqd_maps.specs.Map.{FindsItem, Removes, RemovesHit};
-ghost use Rattle.iddqd_maps.specs.Scan.{HasNoHit};
+ghost use Rattle.iddqd_maps.specs.OneKey.{IsTaken};
+ghost use Rattle.iddqd_maps.specs.Scan.{AnswersScan, HasNoHit};
 ghost use Rattle.iddqd_maps.specs.Store.{get, inserted, next_index, removed};
 ghost use Rattle.uses.specs.Artifacts.{IsReleased, Releases, is_called, same_artifact, with_size, with_version};
 ghost use Rattle.uses.specs.declared.artifacts.Artifact.{Artifact};
-ghost use Rattle.uses.specs.Exchanges.{IsWhyGoneAt, IsWhyNotAdded};
+ghost use Rattle.uses.specs.Exchanges.{Exchanges, IsWhyGoneAt, IsWhyNot, IsWhyNotAdded};
 ghost use Rattle.uses.specs.Updates.{Updates, UpdatesItem};
 
-use iddqd_maps::{Field, HashMapBy, Here, InsertRefusal, ItemIndex, KeyOf};
+use iddqd_maps::{Field, HashMapBy, Here, InsertRefusal, ItemIndex, KeyOf, ReplaceRefusal};
 use std::alloc::{AllocError, Global};
 
 /// An artifact. No two have the same name and version.
@@ -69,11 +70,42 @@ pub fn find<'a>(artifacts: &'a Artifacts, name: &str, version: &str) -> Option<&
     artifacts.get((name, version))
 }
 
+/// The index of the artifact with this name and version.
+pub fn index_of(artifacts: &Artifacts, name: &str, version: &str) -> Option<ItemIndex>
+    ensures { AnswersScan artifacts.now.store (is_called name.now version.now) result }
+{
+    artifacts.find_by::<Here, _>((name, version))
+}
+
+/// Whether there is an artifact with this name and version.
+pub fn is_there(artifacts: &Artifacts, name: &str, version: &str) -> bool
+    ensures { (result ≡ false) ↔ HasNoHit artifacts.now.store (is_called name.now version.now) }
+{
+    artifacts.contains_by::<Here, _>((name, version))
+}
+
 /// Notes the size of an artifact; `None` if and only if there is no such artifact. It takes no memory.
 pub fn resize(artifacts: &mut Artifacts, name: &str, version: &str, size: u64) -> Option<()>
     ensures { Updates artifacts.old (is_called name.now version.now) (with_size size) result artifacts.new }
 {
-    artifacts.modify((name, version), |artifact| artifact.size = size)
+    artifacts.modify_by::<Here, _, _, _>((name, version), |artifact| artifact.size = size)
+}
+
+/// Puts an artifact in the place of another one, which is handed back. It is refused exactly where that one isn't
+/// there, or a third one has the new one's name and version. It takes no memory.
+pub fn exchange(
+    artifacts: &mut Artifacts,
+    name: &str,
+    version: &str,
+    artifact: Artifact,
+) -> Result<Artifact, ReplaceRefusal<Artifact, ItemIndex>>
+    ensures exchanged { IfOk result (λ was.
+        Exchanges same_artifact (is_called name.now version.now) artifact artifacts.old was artifacts.new) }
+    ensures refused { IfErr result
+        (IsWhyNot (IsTaken same_artifact) false (is_called name.now version.now) artifact artifacts.old) }
+    ensures unchanged { OnErr result (artifacts.new ≡ artifacts.old) }
+{
+    artifacts.replace_by::<Here, _>((name, version), artifact)
 }
 
 /// Removes an artifact. It takes no memory.
@@ -149,8 +181,8 @@ fn script(alloc: Global, artifacts: &mut Artifacts) -> Result<String, AllocError
     let resized = resize(artifacts, "serde", "1.1", 80).is_some();
     let found = (
         find(artifacts, "serde", "1.1").is_some(),
-        find(artifacts, "serde", "").is_some(),
-        find(artifacts, "serde1", ".1").is_some(),
+        is_there(artifacts, "serde", ""),
+        index_of(artifacts, "serde1", ".1"),
     );
     let next = (
         release(artifacts, "serde", "1.1", String::from_str(alloc, "2.0")?).is_ok(),
@@ -164,8 +196,7 @@ fn script(alloc: Global, artifacts: &mut Artifacts) -> Result<String, AllocError
     );
     let removed = remove(artifacts, "serde", "1.0").is_some();
     format!(in alloc;
-        "artifacts: {first}, {second}, {third}, {resized}, {found:?}, {next:?}, {removed}, {}",
-        artifacts.len()
+        "artifacts: {first}, {second}, {third}, {resized}, {found:?}, {next:?}, {removed}"
     )
 }
 

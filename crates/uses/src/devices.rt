@@ -2,22 +2,21 @@
 //!
 //! A type without values names each key, and pairs of key indexes put the four together. The place of a key in them is
 //! the type that a look-up names.
-ghost use Rattle.std.specs.Prelude.{◌≡◌, ◌==◌, false, ◌↔◌, option_copied, IfOk, IfErr, OnOk, OnErr};
-ghost use Rattle.iddqd_maps.specs.Map.{FindsItem, Removes};
-ghost use Rattle.iddqd_maps.specs.Scan.{AnswersScan, HasNoHit};
+ghost use Rattle.std.specs.Prelude.{◌≡◌, ◌==◌, option_copied, IfOk, IfErr, OnOk, OnErr};
+ghost use Rattle.iddqd_maps.specs.Map.{FindsItem};
+ghost use Rattle.iddqd_maps.specs.Scan.{HasNoHit};
 ghost use Rattle.iddqd_maps.specs.Store.{inserted, next_index};
-ghost use Rattle.uses.specs.Devices.{has_address, has_serial, is_named, share_key, with_ports};
-ghost use Rattle.uses.specs.Exchanges.{Exchanges, IsKeyTaken, IsWhyNot, IsWhyNotAdded, IsWhyNotTakenOver, TakesOver};
-ghost use Rattle.uses.specs.Updates.{Updates};
+ghost use Rattle.uses.specs.Devices.{share_key};
+ghost use Rattle.uses.specs.Exchanges.{IsWhyNotAdded, IsWhyNotTakenOver, TakesOver};
 
 use iddqd_maps::by_hash::ByHash;
 use iddqd_maps::item_index::ItemIndex;
-use iddqd_maps::key_index::{Here, Left, Right};
+use iddqd_maps::key_index::{Here, Left};
 use iddqd_maps::key_of::KeyOf;
 use iddqd_maps::map::Map;
 use iddqd_maps::pair::Pair;
 use iddqd_maps::pair_conflict::PairConflict;
-use iddqd_maps::refusal::{InsertRefusal, OverwriteRefusal, ReplaceRefusal};
+use iddqd_maps::refusal::{InsertRefusal, OverwriteRefusal};
 use std::alloc::{AllocError, Global};
 
 /// A device. No two have the same serial number, address, tag or name.
@@ -94,12 +93,6 @@ type Labels = Pair<ByHash<Tag, u32>, ByHash<Name, String>>;
 
 type BySerial = Left<Left<Here>>;
 
-type ByAddress = Left<Right<Here>>;
-
-type ByTag = Right<Left<Here>>;
-
-type ByName = Right<Right<Here>>;
-
 /// Devices by each of the four keys.
 pub type Devices = Map<Device, Pair<Numbers, Labels>>;
 
@@ -124,58 +117,6 @@ pub fn with_serial(devices: &Devices, serial: u64) -> Option<&Device>
     devices.get_by::<BySerial, _>(&serial)
 }
 
-/// The index of the device with this serial number.
-pub fn place(devices: &Devices, serial: u64) -> Option<ItemIndex>
-    ensures { AnswersScan devices.now.store (λ device. serial == device.serial) result }
-{
-    devices.find_by::<BySerial, _>(&serial)
-}
-
-/// The device at this address.
-pub fn at_address(devices: &Devices, address: u32) -> Option<&Device>
-    ensures { FindsItem devices.now.store (λ device. address == device.address) (option_copied result) }
-{
-    devices.get_by::<ByAddress, _>(&address)
-}
-
-/// Whether a device has this tag.
-pub fn is_tagged(devices: &Devices, tag: u32) -> bool
-    ensures { (result ≡ false) ↔ HasNoHit devices.now.store (λ device. tag == device.tag) }
-{
-    devices.contains_by::<ByTag, _>(&tag)
-}
-
-/// The device of this name.
-pub fn named<'a>(devices: &'a Devices, name: &str) -> Option<&'a Device>
-    ensures { FindsItem devices.now.store (is_named name.now) (option_copied result) }
-{
-    devices.get_by::<ByName, _>(name)
-}
-
-/// Notes how many ports the device at this address has; none exactly where there is no such device. It keeps its keys,
-/// and no table is touched.
-pub fn set_ports(devices: &mut Devices, address: u32, ports: u32) -> Option<()>
-    ensures { Updates devices.old (has_address address) (with_ports ports) result devices.new }
-{
-    devices.modify_by::<ByAddress, _, _, _>(&address, |device| device.ports = ports)
-}
-
-/// Puts a device in the place of the one with this serial number, which is handed back. It is refused if no device has
-/// this serial number (`Missing`), or another device has a key of the new one.
-pub fn exchange(
-    devices: &mut Devices,
-    serial: u64,
-    device: Device,
-) -> Result<Device, ReplaceRefusal<Device, TakenKeys>>
-    ensures exchanged { IfOk result
-        (λ was. Exchanges share_key (has_serial serial) device devices.old was devices.new) }
-    ensures refused { IfErr result
-        (IsWhyNot (IsKeyTaken share_key) false (has_serial serial) device devices.old) }
-    ensures unchanged { OnErr result (devices.new ≡ devices.old) }
-{
-    devices.replace_by::<BySerial, _>(&serial, device)
-}
-
 /// Adds a device, and hands back those that share a key with it, up to four. If one does, it takes no memory. It is
 /// refused only where none does, and there are as many devices as the limit allows or there is no memory.
 pub fn take_over(
@@ -190,13 +131,6 @@ pub fn take_over(
     let mut places = [None, None, None, None];
     let ix = devices.overwrite_into(device, &mut places)?;
     Ok((ix, places))
-}
-
-/// Takes the device of this name out. All others stay. It takes no memory.
-pub fn remove(devices: &mut Devices, name: &str) -> Option<Device>
-    ensures { Removes devices.old (is_named name.now) result devices.new }
-{
-    devices.remove_by::<ByName, _>(name)
 }
 
 fn made(
@@ -230,22 +164,12 @@ fn script(alloc: Global, devices: &mut Devices) -> Result<String, AllocError> {
     let first = add(devices, made(alloc, (1, 10, 100), "door")?).is_ok();
     let second = add(devices, made(alloc, (2, 20, 200), "lamp")?).is_ok();
     let third = add(devices, made(alloc, (3, 10, 300), "lamp")?).is_ok();
-    let ports = set_ports(devices, 20, 8).is_some();
+    let displaced = displaced(devices, made(alloc, (5, 10, 200), "bell")?);
     let found = (
-        at_address(devices, 10).is_some(),
-        is_tagged(devices, 300),
-        named(devices, "lamp").is_some(),
         with_serial(devices, 2).is_some(),
+        with_serial(devices, 5).is_some(),
     );
-    let exchanged = exchange(devices, 2, made(alloc, (4, 20, 400), "lamp")?).is_ok();
-    let displaced = displaced(devices, made(alloc, (5, 10, 400), "bell")?);
-    let removed = (
-        remove(devices, "bell").is_some(),
-        remove(devices, "door").is_some(),
-    );
-    format!(in alloc;
-        "devices: {first}, {second}, {third}, {ports}, {found:?}, {exchanged}, {displaced}, {removed:?}"
-    )
+    format!(in alloc; "devices: {first}, {second}, {third}, {displaced}, {found:?}")
 }
 
 /// What the calls answer.

@@ -43,7 +43,7 @@ impl KeyedItem for Guest {
 type Guests = KeyedItems<Guest, DefaultHashBuilder>;
 
 /// Why a guest's arrival stays.
-#[derive(Clone, Copy, Debug, PartialEq, Eq)]
+#[derive(Clone, Copy, Debug)]
 pub enum ArrivalError {
     /// No guest with the name was found.
     Missing,

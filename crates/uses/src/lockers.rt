@@ -1,23 +1,18 @@
-//! Lockers and their holders: the calls of a map with two keys that `badges` doesn't make, and what each promises.
-ghost use Rattle.std.specs.Prelude.{◌≡◌, ◌⊎◌, ◌≤◌, ◌==◌, ◌↔◌, false, true, length, min, not, filter, Some, IfOk, IfErr, OnOk, OnErr};
-ghost use Rattle.iddqd_maps.specs.Compaction.{compacted};
-ghost use Rattle.iddqd_maps.specs.LiveItems.{live_items, live_pairs};
-ghost use Rattle.iddqd_maps.specs.Map.{FindsItem, Removes, RemovesAt, empty_map, room};
+//! Lockers and their holders in a `BiHashMap`: each call that names one of two keys, and what an insert reports of
+//! them.
+ghost use Rattle.std.specs.Prelude.{◌≡◌, ◌≤◌, ◌==◌, ◌↔◌, false, min, IfOk, IfErr, OnOk, OnErr};
+ghost use Rattle.iddqd_maps.specs.Map.{FindsItem, Removes};
 ghost use Rattle.iddqd_maps.specs.Scan.{AnswersScan, HasNoHit};
 ghost use Rattle.iddqd_maps.specs.Sizes.{insertable};
-ghost use Rattle.iddqd_maps.specs.Store.{cleared, empty, get, live_count, rebound, slot_limit};
-ghost use Rattle.iddqd_maps.specs.Validation.{Tells, Validates, not_compact_text};
+ghost use Rattle.iddqd_maps.specs.Store.{inserted};
 ghost use Rattle.iddqd_maps.specs.TwoKeys.{AreTaken};
-ghost use Rattle.uses.specs.Exchanges.{Exchanges, IsWhyNot, IsWhyNotAt, IsWhyNotTakenOver, TakesOver};
-ghost use Rattle.uses.specs.Lockers.{has_holder, has_number, opened_at, same_holder, same_number, share_key};
-ghost use Rattle.uses.specs.Updates.{Updates, UpdatesAt};
+ghost use Rattle.uses.specs.Exchanges.{Exchanges, IsWhyNot, IsWhyNotTakenOver, TakesOver};
+ghost use Rattle.uses.specs.Lockers.{has_holder, has_number, opened_at, same_holder, same_number, share_key, taken_keys, IsWhyNotHandedOut};
+ghost use Rattle.uses.specs.Updates.{Updates};
 
-use crate::hashers::Base31;
 use iddqd_maps::bi_hash_map::{BiClash, BiHashItem, BiHashMap};
 use iddqd_maps::item_index::ItemIndex;
-use iddqd_maps::item_set::{IntoValues, Iter, Values};
-use iddqd_maps::refusal::{OverwriteRefusal, ReplaceRefusal};
-use iddqd_maps::{ValidateCompact, ValidateRefusal, ValidationError};
+use iddqd_maps::refusal::{InsertRefusal, OverwriteRefusal, ReplaceRefusal};
 use std::alloc::{AllocError, Global};
 
 /// A locker. No two have the same number or the same holder.
@@ -49,45 +44,48 @@ impl BiHashItem for Locker {
 
 type Lockers = BiHashMap<Locker>;
 
-type Hashed = BiHashMap<Locker, Base31>;
-
 type Replaced = Result<Locker, ReplaceRefusal<Locker, BiClash>>;
 
-/// Lockers within a limit.
-pub fn within(alloc: Global, limit: u32) -> Lockers
-    ensures { result ≡ empty_map limit }
-{
-    BiHashMap::with_limit(alloc, limit)
+/// Why a locker wasn't handed out.
+#[derive(Clone, Copy, Debug)]
+pub enum HandOutError {
+    /// A locker has the number.
+    NumberTaken,
+    /// The holder has a locker.
+    HolderTaken,
+    /// A locker has the number, and the holder has that one or another.
+    BothTaken,
+    /// There are as many lockers as the limit allows.
+    Full,
+    /// There was no room for another locker, and memory ran out.
+    Memory,
 }
 
-/// The same under a hasher of one's own.
-pub fn hashed_within(alloc: Global, limit: u32, hasher: Base31) -> Hashed
-    ensures { result ≡ empty_map limit }
+/// Hands a locker out, or says which of its keys are taken.
+pub fn hand_out(lockers: &mut Lockers, locker: Locker) -> Result<(), HandOutError>
+    ensures new_number { OnOk result (HasNoHit lockers.old.store (has_number locker.number)) }
+    ensures new_holder { OnOk result (HasNoHit lockers.old.store (has_holder locker.holder)) }
+    ensures handed_out { OnOk result (lockers.new.store ≡ inserted lockers.old.store locker) }
+    ensures refused { IfErr result (IsWhyNotHandedOut locker.number locker.holder lockers.old) }
+    ensures unchanged { OnErr result (lockers.new.store ≡ lockers.old.store) }
 {
-    BiHashMap::with_limit_and_hasher(alloc, hasher, limit)
+    match lockers.insert_unique(locker) {
+        Ok(_) => Ok(()),
+        Err(InsertRefusal::Duplicate { at, .. }) => Err(taken(&at)),
+        Err(InsertRefusal::Full(_)) => Err(HandOutError::Full),
+        Err(InsertRefusal::Memory(_)) => Err(HandOutError::Memory),
+    }
 }
 
-/// Lockers under a hasher of one's own.
-pub fn hashed(alloc: Global, hasher: Base31) -> Hashed
-    ensures { result ≡ empty_map slot_limit }
+// Which keys are taken, of which one is.
+fn taken(at: &BiClash) -> HandOutError
+    ensures { result ≡ taken_keys at.now.key1 at.now.key2 }
 {
-    BiHashMap::with_hasher(alloc, hasher)
-}
-
-/// No lockers, and room for so many, or for as many as there are indexes.
-pub fn with_room(alloc: Global, count: usize) -> Result<Lockers, AllocError>
-    ensures none { IfOk result (λ lockers. lockers.store ≡ empty) }
-    ensures room { IfOk result (λ lockers. min count slot_limit ≤ room lockers) }
-{
-    BiHashMap::with_capacity(alloc, count)
-}
-
-/// The same under a hasher of one's own.
-pub fn hashed_with_room(alloc: Global, count: usize, hasher: Base31) -> Result<Hashed, AllocError>
-    ensures none { IfOk result (λ lockers. lockers.store ≡ empty) }
-    ensures room { IfOk result (λ lockers. min count slot_limit ≤ room lockers) }
-{
-    BiHashMap::with_capacity_and_hasher(alloc, hasher, count)
+    match (at.key1, at.key2) {
+        (Some(_), Some(_)) => HandOutError::BothTaken,
+        (Some(_), None) => HandOutError::NumberTaken,
+        (None, _) => HandOutError::HolderTaken,
+    }
 }
 
 /// Makes room for so many more lockers, and returns how many can come without memory.
@@ -97,46 +95,6 @@ pub fn make_room(lockers: &mut Lockers, more: usize) -> Result<usize, AllocError
 {
     lockers.try_reserve(more)?;
     Ok(lockers.room())
-}
-
-/// Closes the gaps, and gives back all memory that the lockers don't need. If memory runs out for it, the lockers stay
-/// as they were, or the gaps are closed already.
-pub fn pack(lockers: &mut Lockers) -> Result<(), AllocError>
-    ensures lockers { OnOk result (lockers.new.store ≡ compacted lockers.old.store) }
-    ensures memory { OnOk result (room lockers.new ≡ 0) }
-    ensures refused { OnErr result
-        ((lockers.new ≡ lockers.old) ⊎ (lockers.new.store ≡ compacted lockers.old.store)) }
-{
-    lockers.compact()?;
-    lockers.shrink_to_fit()
-}
-
-/// Forgets all lockers, and returns whether none is left.
-pub fn clear_out(lockers: &mut Lockers) -> bool
-    ensures lockers { lockers.new.store ≡ cleared lockers.old.store }
-    ensures memory { room lockers.old ≤ room lockers.new }
-    ensures empty { result ≡ true }
-{
-    lockers.clear();
-    lockers.is_empty()
-}
-
-/// Whether no slot is vacant, or how many are. It may run out of memory.
-pub fn check(lockers: &Lockers) -> Result<(), ValidateRefusal<ValidationError>>
-    ensures dense { Validates (length lockers.now.store.free ≡ 0) result }
-    ensures message { IfErr result (Tells (not_compact_text (length lockers.now.store.free))) }
-{
-    lockers.validate(ValidateCompact::Compact)
-}
-
-/// Keeps the lockers whose time of opening isn't 0, and returns how many they are.
-pub fn keep_opened(lockers: &mut Lockers) -> usize
-    ensures stay { live_pairs lockers.new.store
-        ≡ filter (λ pair. not (pair.1.opened == 0)) (live_pairs lockers.old.store) }
-    ensures count { result ≡ live_count lockers.new.store }
-{
-    lockers.retain(|locker| locker.opened != 0);
-    lockers.len()
 }
 
 /// Whether there is a locker of this number, and whether somebody has one.
@@ -168,32 +126,11 @@ pub fn numbered(lockers: &Lockers, number: u32) -> Option<Locker>
     lockers.get1(&number).copied()
 }
 
-/// The locker at an index.
-pub fn locker_at(lockers: &Lockers, ix: ItemIndex) -> Option<Locker>
-    ensures { result ≡ get lockers.now.store ix }
+/// The locker that somebody has.
+pub fn held_by(lockers: &Lockers, holder: u32) -> Option<Locker>
+    ensures { FindsItem lockers.now.store (λ locker. holder == locker.holder) result }
 {
-    lockers.get_at(ix).copied()
-}
-
-/// The indexes with their lockers.
-pub fn row(lockers: &Lockers) -> Iter<'_, Locker>
-    ensures { result ≡ live_pairs lockers.now.store }
-{
-    lockers.iter()
-}
-
-/// The lockers, in the order of their indexes.
-pub fn all(lockers: &Lockers) -> Values<'_, Locker>
-    ensures { result ≡ live_items lockers.now.store }
-{
-    lockers.values()
-}
-
-/// The lockers by value, in the order of their indexes.
-pub fn into_all(lockers: Lockers) -> IntoValues<Locker>
-    ensures { result ≡ live_items lockers.store }
-{
-    lockers.into_values()
+    lockers.get2(&holder).copied()
 }
 
 /// Hands a locker out, and takes those back that have its number or its holder. If one has, it takes no memory. It is
@@ -225,13 +162,6 @@ pub fn open_by(lockers: &mut Lockers, holder: u32, time: u32) -> Option<()>
     lockers.modify2(&holder, |locker| locker.opened = time)
 }
 
-/// The same of the locker at an index.
-pub fn open_at(lockers: &mut Lockers, ix: ItemIndex, time: u32) -> Option<()>
-    ensures { UpdatesAt lockers.old ix (opened_at time) result lockers.new }
-{
-    lockers.modify_at(ix, |locker| locker.opened = time)
-}
-
 /// Puts a locker in the place of that of a number, which is handed back. It is refused exactly where there is none, or
 /// another locker has its number or its holder.
 pub fn exchange(lockers: &mut Lockers, number: u32, locker: Locker) -> Replaced
@@ -255,17 +185,6 @@ pub fn exchange_of(lockers: &mut Lockers, holder: u32, locker: Locker) -> Replac
     lockers.replace2(&holder, locker)
 }
 
-/// Puts a locker in the place of that at an index, in the same way.
-pub fn exchange_at(lockers: &mut Lockers, ix: ItemIndex, locker: Locker) -> Replaced
-    ensures was { IfOk result (λ was. get lockers.old.store ix ≡ Some was) }
-    ensures exchanged { OnOk result (lockers.new.store ≡ rebound lockers.old.store ix locker) }
-    ensures refused { IfErr result
-        (IsWhyNotAt (AreTaken same_number same_holder) false ix locker lockers.old) }
-    ensures unchanged { OnErr result (lockers.new ≡ lockers.old) }
-{
-    lockers.replace_at(ix, locker)
-}
-
 /// Takes the locker of this number out. All others stay.
 pub fn take(lockers: &mut Lockers, number: u32) -> Option<Locker>
     ensures { Removes lockers.old (λ locker. number == locker.number) result lockers.new }
@@ -280,9 +199,28 @@ pub fn take_of(lockers: &mut Lockers, holder: u32) -> Option<Locker>
     lockers.remove2(&holder)
 }
 
-/// Takes the locker at an index out. All others stay.
-pub fn take_at(lockers: &mut Lockers, ix: ItemIndex) -> Option<Locker>
-    ensures { RemovesAt lockers.old ix result lockers.new }
-{
-    lockers.remove_at(ix)
+fn handed_out(lockers: &mut Lockers, number: u32, holder: u32) -> Result<(), HandOutError> {
+    let opened = 0;
+    hand_out(
+        lockers,
+        Locker {
+            number,
+            holder,
+            opened,
+        },
+    )
+}
+
+fn script(alloc: Global, lockers: &mut Lockers) -> Result<String, AllocError> {
+    let first = handed_out(lockers, 7, 1);
+    let second = handed_out(lockers, 7, 2);
+    let third = handed_out(lockers, 8, 1);
+    let opened = open_by(lockers, 1, 900).is_some();
+    let taken = (take(lockers, 7).is_some(), take_of(lockers, 1).is_some());
+    format!(in alloc; "lockers: {first:?}, {second:?}, {third:?}, {opened}, {taken:?}")
+}
+
+/// What the calls answer.
+pub fn line(alloc: Global) -> Result<String, AllocError> {
+    script(alloc, &mut BiHashMap::new(alloc))
 }

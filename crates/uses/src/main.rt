@@ -1,25 +1,20 @@
 //! Callers of the maps and of keyed items, a module each. All are proved. The program prints what those answer that
-//! have a `line`; `board`, `diary`, `intake` and `lockers` are proved only.
+//! have a `line`; `board` is proved only.
 #![tactic(auto)]
 
 mod appointments;
 mod artifacts;
-mod badges;
 mod board;
 mod calendar;
 mod devices;
-mod diary;
 mod guests;
 mod handles;
-mod hashers;
-mod intake;
-mod leases;
 mod ledger;
 mod lockers;
+mod orders;
 mod people;
 mod purchases;
 mod registry;
-mod routes;
 mod scores;
 mod seats;
 mod sessions;
@@ -50,18 +45,17 @@ fn print_keys(rt: &impl Print, alloc: Global) -> io::Result<()> {
 
 fn print_all(rt: &(impl Print + RandomSource), alloc: Global) -> io::Result<()> {
     print(rt, users::line(alloc))?;
-    print(rt, hashers::line(rt, alloc))?;
-    print(rt, routes::line(alloc))?;
     print(rt, stock::line(alloc))?;
+    print(rt, stock::hashed_line(rt, alloc))?;
+    print(rt, lockers::line(alloc))?;
     print(rt, guests::line(alloc))?;
     print(rt, scores::line(alloc))?;
     print(rt, words::line(alloc))?;
-    print(rt, badges::line(alloc))?;
-    print(rt, leases::line(alloc))?;
     print(rt, seats::line(alloc))?;
     print(rt, devices::line(alloc))?;
     print(rt, sessions::line(alloc))?;
     print(rt, ledger::line(alloc))?;
+    print(rt, orders::line(alloc))?;
     print(rt, calendar::line(alloc))?;
     print(rt, registry::line(alloc))?;
     print_keys(rt, alloc)

@@ -1,48 +1,25 @@
-//! People by their numbers, in the order of the years in which they were born, and in that of their names. The year is
-//! computed, and a name may be asked for by its beginning.
-ghost use Rattle.std.specs.Prelude.{◌≡◌, ◌/◌, IfErr, OnOk, OnErr};
-ghost use Rattle.iddqd_maps.specs.Groups.{CountsHits};
+//! People in the order of the years in which they were born, and in that of their names. The year is computed, and a
+//! name may be asked for by its beginning.
+ghost use Rattle.std.specs.Prelude.{◌/◌};
 ghost use Rattle.iddqd_maps.specs.InOrder.{IteratesInOrder};
-ghost use Rattle.iddqd_maps.specs.Store.{inserted};
-ghost use Rattle.uses.specs.Exchanges.{IsWhyNotAdded};
-ghost use Rattle.uses.specs.People.{begins, by_name, by_year, shares_number, was_born};
+ghost use Rattle.uses.specs.People.{begins, by_name, by_year, was_born};
 
-use iddqd_maps::by_hash::ByHash;
 use iddqd_maps::by_order_multi::{ByOrderMulti, ByOrderMultiOf};
 use iddqd_maps::in_order::InOrder;
-use iddqd_maps::item_index::ItemIndex;
-use iddqd_maps::key_index::{Here, Left, Right};
+use iddqd_maps::key_index::Here;
 use iddqd_maps::key_kinds::{Computed, ComputedKey};
 use iddqd_maps::key_of::KeyOf;
 use iddqd_maps::map::Map;
-use iddqd_maps::no_conflict::NoConflict;
 use iddqd_maps::ordered_walk::Range;
-use iddqd_maps::pair::Pair;
-use iddqd_maps::pair_conflict::PairConflict;
-use iddqd_maps::refusal::InsertRefusal;
 use iddqd_maps::starts_with::StartsWith;
 use std::alloc::{AllocError, Global};
 
-/// A person. No two have the same number.
+/// A person. Several may have one name, or be born in one year.
 #[derive(Drop)]
 pub struct Person {
-    pub number: u32,
     pub name: String,
     /// The day of birth, as 18151210.
     pub born: u32,
-}
-
-/// Names the number.
-pub enum Number {}
-
-impl KeyOf<Person> for Number {
-    type Key = u32;
-
-    ghost key_of = { λ person. person.number };
-
-    fn key(person: &Person) -> &u32 {
-        &person.number
-    }
 }
 
 /// Names the name.
@@ -71,26 +48,15 @@ impl ComputedKey<Person> for Year {
     }
 }
 
-/// The person who has the number of a refused one.
-pub type Taken = PairConflict<ItemIndex, PairConflict<NoConflict, NoConflict>>;
+type ByYear = Here;
 
-type Shared = Pair<ByOrderMultiOf<Computed<Year, u32>>, ByOrderMulti<Name, String>>;
+type ByName = Here;
 
-type ByYear = Right<Left<Here>>;
+/// People in the order of the years in which they were born.
+pub type People = Map<Person, ByOrderMultiOf<Computed<Year, u32>>>;
 
-type ByName = Right<Right<Here>>;
-
-/// People by their numbers, and in the order of their years of birth, and of their names.
-pub type People = Map<Person, Pair<ByHash<Number, u32>, Shared>>;
-
-/// Adds a person, unless another one has the number.
-pub fn add(people: &mut People, person: Person) -> Result<ItemIndex, InsertRefusal<Person, Taken>>
-    ensures stored { OnOk result (people.new.store ≡ inserted people.old.store person) }
-    ensures refused { IfErr result (IsWhyNotAdded shares_number person people.old) }
-    ensures unchanged { OnErr result (people.new.store ≡ people.old.store) }
-{
-    people.insert_unique(person)
-}
+/// People in the order of their names.
+pub type Names = Map<Person, ByOrderMulti<Name, String>>;
 
 /// The people who were born in a year with their indexes.
 pub fn born_in(people: &People, year: u32) -> Range<'_, Person>
@@ -99,52 +65,40 @@ pub fn born_in(people: &People, year: u32) -> Range<'_, Person>
     people.group_by::<ByYear, _>(&year)
 }
 
-/// How many people were born in a year.
-pub fn count_born_in(people: &People, year: u32) -> usize
-    ensures { CountsHits people.now.store (was_born year) result }
-{
-    people.count_by::<ByYear, _>(&year)
-}
-
 /// The people whose names begin with a text with their indexes, by name.
-pub fn beginning_with<'a>(people: &'a People, text: &str) -> Range<'a, Person>
-    ensures { IteratesInOrder by_name (begins text.now) people.now.store result }
+pub fn beginning_with<'a>(names: &'a Names, text: &str) -> Range<'a, Person>
+    ensures { IteratesInOrder by_name (begins text.now) names.now.store result }
 {
-    people.group_by::<ByName, _>(StartsWith(text))
+    names.group_by::<ByName, _>(StartsWith(text))
 }
 
-fn added(
-    alloc: Global,
-    people: &mut People,
-    number: u32,
-    name: &str,
-    born: u32,
-) -> Result<bool, AllocError> {
-    let name = String::from_str(alloc, name)?;
-    Ok(add(people, Person { number, name, born }).is_ok())
-}
-
-fn script(alloc: Global, people: &mut People) -> Result<String, AllocError> {
-    let added = (
-        added(alloc, people, 1, "Ada", 18151210)?,
-        added(alloc, people, 2, "Adam", 18150101)?,
-        added(alloc, people, 3, "Bo", 18160101)?,
-        added(alloc, people, 3, "Cy", 18150101)?,
-    );
-    let years = (
+// Whether somebody was born in that year, and in another one.
+fn years(alloc: Global, people: &mut People) -> Result<(bool, bool), AllocError> {
+    for (name, born) in [("Ada", 18151210), ("Bo", 18160101)] {
+        let name = String::from_str(alloc, name)?;
+        let _ = people.insert_unique(Person { name, born });
+    }
+    Ok((
         born_in(people, 1815).next().is_some(),
-        count_born_in(people, 1816),
-        count_born_in(people, 1817),
-    );
-    let names = (
-        beginning_with(people, "Ad").next().is_some(),
-        beginning_with(people, "").next().is_some(),
-        beginning_with(people, "Adams").next().is_some(),
-    );
-    format!(in alloc; "people: {added:?}, {years:?}, {names:?}")
+        born_in(people, 1817).next().is_some(),
+    ))
+}
+
+// Whether a name begins with a text, and with a longer one.
+fn beginnings(alloc: Global, names: &mut Names) -> Result<(bool, bool), AllocError> {
+    for (name, born) in [("Ada", 18151210), ("Adam", 18150101)] {
+        let name = String::from_str(alloc, name)?;
+        let _ = names.insert_unique(Person { name, born });
+    }
+    Ok((
+        beginning_with(names, "Ad").next().is_some(),
+        beginning_with(names, "Adams").next().is_some(),
+    ))
 }
 
 /// What the calls answer.
 pub fn line(alloc: Global) -> Result<String, AllocError> {
-    script(alloc, &mut Map::new(alloc))
+    let years = years(alloc, &mut Map::new(alloc))?;
+    let names = beginnings(alloc, &mut Map::new(alloc))?;
+    format!(in alloc; "people: {years:?}, {names:?}")
 }

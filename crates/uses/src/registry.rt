@@ -48,7 +48,7 @@ impl Model for Registry {
 }
 
 /// Why a name wasn't registered.
-#[derive(Clone, Copy, Debug, PartialEq, Eq)]
+#[derive(Clone, Copy, Debug)]
 pub enum RegisterError {
     /// It has this number.
     Taken(ItemIndex),

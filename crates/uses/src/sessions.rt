@@ -1,17 +1,12 @@
-//! A mix of hashes and an order: sessions by their ids and tokens, and in the order in which they end.
-ghost use Rattle.std.specs.Prelude.{◌≡◌, ◌↔◌, ◌==◌, ◌+◌, ℕ, false, true, IfNone, IfSome, IfOk, IfErr, OnOk, OnErr, filter, nat_lt};
-ghost use Rattle.iddqd_maps.specs.InOrder.{ListsInOrder};
-ghost use Rattle.iddqd_maps.specs.Iter.{indexes_left};
-ghost use Rattle.iddqd_maps.specs.LiveItems.{live_pairs};
+//! A mix of a hash and an order: sessions by their ids, and in the order in which they end.
+ghost use Rattle.std.specs.Prelude.{◌≡◌, ◌==◌, true, IfOk, IfErr, OnOk, OnErr};
 ghost use Rattle.iddqd_maps.specs.Map.{FindsItem, Removes};
-ghost use Rattle.iddqd_maps.specs.Range.{indexes_ahead};
 ghost use Rattle.iddqd_maps.specs.Scan.{HasNoHit};
-ghost use Rattle.iddqd_maps.specs.Store.{inserted, live_count, next_index};
+ghost use Rattle.iddqd_maps.specs.Store.{inserted, next_index};
 ghost use Rattle.uses.specs.Exchanges.{ExchangesIfFound, IsKeyTaken, IsWhyNotAdded, IsWhyNotChanged};
-ghost use Rattle.uses.specs.Sessions.{by_end, ending, ends_at, ends_before, has_id, share_key, EndsFirst};
+ghost use Rattle.uses.specs.Sessions.{ending, ends_at, has_id, share_key};
 ghost use Rattle.uses.specs.declared.sessions.Session.{Session};
 
-use iddqd_maps::btree_table::{Iter, Range};
 use iddqd_maps::by_hash::ByHash;
 use iddqd_maps::by_order::ByOrder;
 use iddqd_maps::in_order::InOrder;
@@ -24,13 +19,11 @@ use iddqd_maps::pair::Pair;
 use iddqd_maps::pair_conflict::PairConflict;
 use iddqd_maps::refusal::{InsertRefusal, ReplaceRefusal};
 use std::alloc::{AllocError, Global};
-use std::ops::Bound;
 
-/// A session. No two have the same id or token, or end at the same tick of the clock.
+/// A session. No two have the same id, or end at the same tick of the clock.
 #[derive(Clone, Copy, Debug)]
 pub struct Session {
     pub id: u64,
-    pub token: u64,
     pub ends: u64,
     pub user: u32,
 }
@@ -48,19 +41,6 @@ impl KeyOf<Session> for Id {
     }
 }
 
-/// Names the token.
-pub enum Token {}
-
-impl KeyOf<Session> for Token {
-    type Key = u64;
-
-    ghost key_of = { λ session. session.token };
-
-    fn key(session: &Session) -> &u64 {
-        &session.token
-    }
-}
-
 /// Names the tick at which it ends.
 pub enum Ends {}
 
@@ -75,20 +55,16 @@ impl KeyOf<Session> for Ends {
 }
 
 /// Which keys of a refused session are taken, and by which sessions.
-pub type Taken = PairConflict<PairConflict<ItemIndex, ItemIndex>, ItemIndex>;
+pub type Taken = PairConflict<ItemIndex, ItemIndex>;
 
-type Names = Pair<ByHash<Id, u64>, ByHash<Token, u64>>;
-
-type ById = Left<Left<Here>>;
-
-type ByToken = Left<Right<Here>>;
+type ById = Left<Here>;
 
 type ByEnd = Right<Here>;
 
-/// Sessions by their ids and tokens, and in the order in which they end.
-pub type Sessions = Map<Session, Pair<Names, ByOrder<Ends, u64>>>;
+/// Sessions by their ids, and in the order in which they end.
+pub type Sessions = Map<Session, Pair<ByHash<Id, u64>, ByOrder<Ends, u64>>>;
 
-/// Opens a session, unless another one has its id, its token or its end.
+/// Opens a session, unless another one has its id or its end.
 pub fn open(
     sessions: &mut Sessions,
     session: Session,
@@ -109,20 +85,6 @@ pub fn with_id(sessions: &Sessions, id: u64) -> Option<Session>
     sessions.get_by::<ById, _>(&id).copied()
 }
 
-/// The session with this token.
-pub fn with_token(sessions: &Sessions, token: u64) -> Option<Session>
-    ensures { FindsItem sessions.now.store (λ session. token == session.token) result }
-{
-    sessions.get_by::<ByToken, _>(&token).copied()
-}
-
-/// The session that ends at this tick.
-pub fn ending_at(sessions: &Sessions, tick: u64) -> Option<Session>
-    ensures { FindsItem sessions.now.store (ends_at tick) result }
-{
-    sessions.get_by::<ByEnd, _>(&tick).copied()
-}
-
 /// Lets the session with this id end at another tick, and returns what it was; none exactly where there is no such
 /// session. It is refused where another session has the tick, or memory ran out, which comes only past the capacity.
 pub fn extend(
@@ -139,46 +101,6 @@ pub fn extend(
     sessions.change_by::<ById, _, _>(&id, |session| Session { ends, ..*session })
 }
 
-/// The session that ends next; none exactly where there is no session.
-pub fn next_to_end(sessions: &Sessions) -> Option<Session>
-    ensures next { IfSome result (λ session. (ix : ℕ) × EndsFirst sessions.now.store ix session) }
-    ensures none { IfNone result (live_count sessions.now.store ≡ 0) }
-{
-    match sessions.first_by::<ByEnd>() {
-        Some((_, session)) => Some(*session),
-        None => None,
-    }
-}
-
-/// The indexes of all sessions, the first to end first.
-pub fn in_turn(sessions: &Sessions) -> Iter<'_>
-    ensures { ListsInOrder by_end (λ session. true) sessions.now.store (indexes_left result) }
-{
-    sessions.parts().right().iter()
-}
-
-/// The indexes of the sessions that end before a tick, the first to end first.
-pub fn ending_before<'a>(sessions: &'a Sessions, tick: &u64) -> Range<'a>
-    ensures { ListsInOrder by_end (ends_before tick.now) sessions.now.store (indexes_ahead result) }
-{
-    let upper = Bound::Excluded(tick);
-    sessions.parts().right().range(Bound::Unbounded, upper)
-}
-
-/// Whether a session ends at this tick, by one search.
-pub fn is_ending_at(sessions: &Sessions, tick: u64) -> bool
-    ensures { (result ≡ false) ↔ HasNoHit sessions.now.store (ends_at tick) }
-{
-    sessions.parts().right().contains_key(&tick)
-}
-
-/// Closes the session with this id, and returns it. All others stay. It takes no memory.
-pub fn close(sessions: &mut Sessions, id: u64) -> Option<Session>
-    ensures { Removes sessions.old (λ session. id == session.id) result sessions.new }
-{
-    sessions.remove_by::<ById, _>(&id)
-}
-
 /// Closes the session that ends at this tick, and returns it. All others stay. It takes no memory.
 pub fn close_at(sessions: &mut Sessions, tick: u64) -> Option<Session>
     ensures { Removes sessions.old (ends_at tick) result sessions.new }
@@ -186,50 +108,22 @@ pub fn close_at(sessions: &mut Sessions, tick: u64) -> Option<Session>
     sessions.remove_by::<ByEnd, _>(&tick)
 }
 
-/// Removes the sessions that have ended, and returns how many they were. It takes no memory.
-pub fn expire(sessions: &mut Sessions, now: u64) -> usize
-    ensures stay { live_pairs sessions.new.store
-        ≡ filter (λ pair. nat_lt now pair.1.ends) (live_pairs sessions.old.store) }
-    ensures count { result + live_count sessions.new.store ≡ live_count sessions.old.store }
-    ensures memory { sessions.new.memory ≡ sessions.old.memory }
-{
-    sessions.retain(|session| session.ends > now)
-}
-
-fn opened(sessions: &mut Sessions, id: u64, token: u64, ends: u64) -> bool {
-    open(
-        sessions,
-        Session {
-            id,
-            token,
-            ends,
-            user: 7,
-        },
-    )
-    .is_ok()
+fn opened(sessions: &mut Sessions, id: u64, ends: u64) -> bool {
+    let user = 7;
+    open(sessions, Session { id, ends, user }).is_ok()
 }
 
 fn script(alloc: Global, sessions: &mut Sessions) -> Result<String, AllocError> {
-    let first = opened(sessions, 1, 11, 100);
-    let second = opened(sessions, 2, 22, 90);
-    let third = opened(sessions, 3, 11, 80);
-    let next = next_to_end(sessions);
+    let first = opened(sessions, 1, 100);
+    let second = opened(sessions, 2, 90);
+    let third = opened(sessions, 3, 90);
     let extended = extend(sessions, 2, 200).is_ok();
-    let after = next_to_end(sessions);
-    let expired = expire(sessions, 150);
-    let left = (
-        with_id(sessions, 1).is_some(),
-        with_token(sessions, 22).is_some(),
-    );
     let closed = (
-        ending_at(sessions, 200).is_some(),
         close_at(sessions, 90).is_some(),
         close_at(sessions, 200).is_some(),
-        close(sessions, 2).is_some(),
+        with_id(sessions, 2).is_some(),
     );
-    format!(in alloc;
-        "sessions: {first}, {second}, {third}, {next:?}, {extended}, {after:?}, {expired}, {left:?}, {closed:?}"
-    )
+    format!(in alloc; "sessions: {first}, {second}, {third}, {extended}, {closed:?}")
 }
 
 /// What the calls answer.

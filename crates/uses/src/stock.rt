@@ -1,7 +1,10 @@
 //! A stock of parts in an `IdHashMap`, an item for each kind. A duplicate is merged, parts are taken and exchanged, and
 //! memory isn't refused where room was reserved ahead.
-ghost use Rattle.std.specs.Prelude.{◌≡◌, ◌⊎◌, ◌≤◌, ◌==◌, ◌↔◌, ℕ, false, true, length, min, Some, IsOk, IfOk, IfErr, IfSome, OnOk, OnErr};
-ghost use Rattle.std.specs.Bool.{OnTrue, OnFalse};
+//!
+//! The map's own hasher is quick, and its seed is fixed. Keys that strangers choose want one whose seed is drawn anew,
+//! as std's `RandomState`. A hasher of one's own is two traits, and its ghost members say what it computes.
+ghost use Rattle.std.specs.Prelude.{◌≡◌, ◌⊎◌, ◌≤◌, ◌==◌, ◌↔◌, ◌+◌, ◌*◌, ◌%◌, ◌^◌, ℕ, false, true, length, min, Some, IsOk, IfOk, IfErr, IfSome, OnOk, OnErr};
+ghost use Rattle.std.specs.List.{fold};
 ghost use Rattle.iddqd_maps.specs.Bulk.{inserted_all};
 ghost use Rattle.iddqd_maps.specs.Compaction.{compacted};
 ghost use Rattle.iddqd_maps.specs.LiveItems.{live_items, live_pairs};
@@ -12,20 +15,22 @@ ghost use Rattle.iddqd_maps.specs.Sizes.{insertable};
 ghost use Rattle.iddqd_maps.specs.Store.{IsFull, cleared, empty, empty_within, get, inserted, live_count, next_index, rebound, slot_limit};
 ghost use Rattle.iddqd_maps.specs.Validation.{Tells, Validates, not_compact_text};
 ghost use Rattle.uses.specs.Exchanges.{Exchanges, IsWhyNot, IsWhyNotAt, IsWhyNotTakenOver, TakesOverOne};
-ghost use Rattle.uses.specs.Stock.{has_kind, same_kind, sum_of, with_count, with_one_less};
+ghost use Rattle.uses.specs.Stock.{has_kind, same_kind, sum_of, with_count};
 ghost use Rattle.uses.specs.Updates.{UpdatesAt};
 ghost use Rattle.uses.specs.declared.stock.Part.{Part};
 
-use crate::hashers::Base31;
 use iddqd_maps::item_set::{IntoValues, Iter, Values};
 use iddqd_maps::{
     Here, IdHashItem, IdHashMap, InsertRefusal, ItemIndex, OverwriteRefusal, ReplaceRefusal,
     ValidateCompact, ValidateRefusal, ValidationError,
 };
 use std::alloc::{AllocError, Global};
+use std::hash::{BuildHasher, Hasher, RandomState};
+use std::io;
+use std::random::RandomSource;
 
 /// So many parts of a kind.
-#[derive(Clone, Copy, Debug, PartialEq, Eq)]
+#[derive(Clone, Copy, Debug)]
 pub struct Part {
     pub kind: u32,
     pub count: u32,
@@ -41,7 +46,49 @@ impl IdHashItem for Part {
     }
 }
 
+/// A hasher that takes the bytes as the digits of a number to the base 31.
+#[derive(Clone, Copy)]
+pub struct Base31(u64);
+
+impl Hasher for Base31 {
+    ghost write = { λ h bytes. record { 0 = fold (λ sum byte. (sum * 31 % 2 ^ 64 + byte) % 2 ^ 64) h.0 bytes } };
+
+    ghost finish = { λ h. h.0 };
+
+    fn finish(&self) -> u64 {
+        self.0
+    }
+
+    fn write(&mut self, bytes: &[u8]) {
+        for byte in bytes {
+            self.0 = self.0.wrapping_mul(31).wrapping_add(u64::from(*byte));
+        }
+    }
+}
+
+impl BuildHasher for Base31 {
+    type Hasher = Base31;
+
+    ghost build_hasher = { λ s. s };
+
+    fn build_hasher(&self) -> Base31 {
+        *self
+    }
+}
+
 type Stock = IdHashMap<Part>;
+
+/// A stock whose kinds strangers choose: the seed is drawn from the system.
+pub fn guarded(rt: &impl RandomSource, alloc: Global) -> io::Result<IdHashMap<Part, RandomState>> {
+    Ok(IdHashMap::with_hasher(alloc, RandomState::new(rt)?))
+}
+
+/// A stock for at most so many kinds.
+pub fn within(alloc: Global, limit: u32) -> Stock
+    ensures { result ≡ empty_map limit }
+{
+    IdHashMap::with_limit(alloc, limit)
+}
 
 /// An empty stock with room for so many kinds, or for as many as there are indexes.
 pub fn with_room(alloc: Global, kinds: usize) -> Result<Stock, AllocError>
@@ -130,31 +177,6 @@ pub fn part_of_kind(stock: &Stock, kind: u32) -> Option<Part>
     ensures kind { IfSome result (λ part. part.kind ≡ kind) }
 {
     stock.get(&kind).copied()
-}
-
-/// Takes one part of a kind, and returns whether there was one.
-pub fn take_one(stock: &mut Stock, kind: u32) -> bool
-    ensures taken { OnTrue result ((was : Part) × (1 ≤ was.count)
-        × Exchanges same_kind (has_kind kind) (with_one_less was) stock.old was stock.new) }
-    ensures none { OnFalse result ((ix : ℕ) (part : Part) →
-        get stock.old.store ix ≡ Some part → part.kind ≡ kind → part.count ≡ 0) }
-    ensures unchanged { OnFalse result (stock.new ≡ stock.old) }
-{
-    let Some(part) = stock.get(&kind) else {
-        return false;
-    };
-    if part.count == 0 {
-        return false;
-    }
-    // The count isn't 0 here, so the closure may subtract.
-    let taken = stock.change(
-        &kind,
-        |was: &Part| Part {
-            kind: was.kind,
-            count: was.count - 1,
-        },
-    );
-    taken.is_ok()
 }
 
 /// Whether the parts stand under the indexes from 0 on, or why not.
@@ -290,12 +312,31 @@ fn script(alloc: Global, stock: &mut Stock) -> Result<String, AllocError> {
     let first = merge(stock, Part { kind: 4, count: 2 });
     let second = merge(stock, Part { kind: 4, count: 3 });
     let count = part_of_kind(stock, 4);
-    let taken = (take_one(stock, 4), take_one(stock, 5));
     let is_dense = check(stock).is_ok();
-    format!(in alloc; "stock: {first:?}, {second:?}, {count:?}, {taken:?}, {is_dense}")
+    format!(in alloc; "stock: {first:?}, {second:?}, {count:?}, {is_dense}")
 }
 
 /// What the calls answer.
 pub fn line(alloc: Global) -> Result<String, AllocError> {
-    script(alloc, &mut IdHashMap::with_limit(alloc, 2))
+    script(alloc, &mut within(alloc, 2))
+}
+
+// How many parts of a kind there are after they were added, under any hasher.
+fn count_under<S: BuildHasher>(stock: &mut IdHashMap<Part, S>) -> Option<u32> {
+    let kind = 90_125;
+    let _ = stock.insert_unique(Part { kind, count: 7 });
+    match stock.get(&kind) {
+        Some(part) => Some(part.count),
+        None => None,
+    }
+}
+
+/// What is found under a hasher of this module and under one with a drawn seed.
+pub fn hashed_line(rt: &impl RandomSource, alloc: Global) -> Result<String, AllocError> {
+    let own = count_under(&mut IdHashMap::with_hasher(alloc, Base31(7)));
+    let drawn = match guarded(rt, alloc) {
+        Ok(mut stock) => count_under(&mut stock),
+        Err(_) => None,
+    };
+    format!(in alloc; "stock under other hashers: {own:?}, {drawn:?}")
 }

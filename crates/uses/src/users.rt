@@ -32,7 +32,7 @@ impl IdHashItem for User {
 }
 
 /// Why somebody wasn't signed up.
-#[derive(Clone, Copy, Debug, PartialEq, Eq)]
+#[derive(Clone, Copy, Debug)]
 pub enum SignUpError {
     /// A user has the name.
     Taken,
@@ -43,7 +43,7 @@ pub enum SignUpError {
 }
 
 /// Why a user keeps the name.
-#[derive(Clone, Copy, Debug, PartialEq, Eq)]
+#[derive(Clone, Copy, Debug)]
 pub enum RenameError {
     /// There is no such user.
     Missing,

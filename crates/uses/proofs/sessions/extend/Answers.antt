@@ -47,10 +47,7 @@ returns-clause-refused c =
           let made : item ≡ record session.now { ends = c.args.ends } = search rules in
           let ends : item ≡ ending c.args.ends one = subst (λ (x : Session). item ≡ ending c.args.ends x) shows made in
           let (j, apart, hit) = reported_other _ _ _ _ _ _ _
-          (λ pair reports. reported_other _ _ _ _ _ _ _
-          (λ at here. (at, here.0, (here.1 at).1 refl)) (λ at here. (at, here.0, (here.1 at).1 refl)) _ _ reports)
-          (λ at here. (at, here.0, (here.1 at).1 refl))
-          _ _ taken in
+          (λ at here. (at, here.0, (here.1 at).1 refl)) (λ at here. (at, here.0, (here.1 at).1 refl)) _ _ taken in
           let other = subst (λ (x : Session). HitsOther old.store (share_key x) ix) ends (j, apart, hit) in
           (ix, one, record { live = live; only = only }, (given ∙ ends, other))
       | Err (Memory back) ↦ λ is.

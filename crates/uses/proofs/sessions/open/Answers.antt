@@ -14,10 +14,7 @@ returns-clause-refused c =
       | Err (Duplicate back at) ↦ λ is.
           let refused = rw is at c.insert_unique.ensures.inserts in
           let (ix, hit) = reported_hit _ _ _ _ _ _
-          (λ one reports. reported_hit _ _ _ _ _ _
-          (λ at scan. (at, (scan at).1 refl)) (λ at scan. (at, (scan at).1 refl)) _ _ reports)
-          (λ at scan. (at, (scan at).1 refl))
-          _ _ refused.1 in
+          (λ at scan. (at, (scan at).1 refl)) (λ at scan. (at, (scan at).1 refl)) _ _ refused.1 in
           (refused.0, (ix, hit))
       | Err (Full back) ↦ λ is. let refused = rw is at c.insert_unique.ensures.inserts in (refused.given_back, refused.no_conflict, refused.full)
       | Err (Memory back) ↦ λ is. let refused = rw is at c.insert_unique.ensures.inserts in (refused.given_back, refused.no_conflict, refused.no_room)

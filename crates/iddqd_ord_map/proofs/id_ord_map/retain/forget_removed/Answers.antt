@@ -1,6 +1,6 @@
 use Rattle.std.proofs.Common.{rules, ◌≡◌, is_some, refl}
 use Rattle.iddqd.specs.Store.{get}
-use Rattle.iddqd_ord_map.proofs.RetainLemmas.{Retains-test}
+use Rattle.iddqd_by_order.proofs.OrderedRetainLemmas.{Retains-test}
 use Rattle.iddqd_ord_map.proofs.id_ord_map.retain.forget_removed.Goals as goal
 
 pub returns-clause-forgot : goal.returns-clause-forgot

@@ -1,9 +1,0 @@
-use Rattle.std.proofs.Common.{rules}
-use Rattle.uses.specs.Ledger.{halved}
-use Rattle.uses.proofs.UpdateLemmas.{updates_hits}
-use Rattle.uses.proofs.ledger.halve_of.Goals as goal
-
-pub returns-clause-halved : goal.returns-clause-halved
-returns-clause-halved c =
-    let (last, did) = c.modify_hashed_group_by.ensures.modified in
-    updates_hits _ halved (λ p q item left called. search rules) _ _ last _ _ _ did c.modify_hashed_group_by.ensures.others
