@@ -40,7 +40,11 @@ module _ {T K : Type 0} (s : Store T) (first : T → K) (equal : K → Bool) (at
         λ hit. let below : at < ix = hit.0 in absurd (grind (arith, common_steps)),
       )
 
-same_from : (a : Option ℕ) (ix : ℕ) (differs : Bool) → differs ≡ not (option_eq nat_eq a (Some ix)) → differs ≡ false → a ≡ Some ix
+same_from :
+    (a : Option ℕ) (ix : ℕ) (differs : Bool)
+    → differs ≡ not (option_eq nat_eq a (Some ix))
+    → differs ≡ false
+    → a ≡ Some ix
 same_from None ix differs is same = absurd (false≢true (sym same ∙ is))
 same_from (Some at) ix differs is same =
     let equal : not (nat_eq at ix) ≡ false = sym is ∙ same in

@@ -34,7 +34,9 @@ module _ {T S K1 K2 : Type 0} (keys : Keys T K1 K2 S) (old : SizedState T S) whe
         few = λ most _. record { slots = omega arith; cells = omega arith };
       })
 
-  module _ (done : List (Command T K1 K2)) (replies : List (Reply T)) (now : SizedState T S) (before : Obeyed done replies now)
+  module _
+      (done : List (Command T K1 K2)) (replies : List (Reply T)) (now : SizedState T S)
+      (before : Obeyed done replies now)
     where
       pub Obeyed-step :
           (command : Command T K1 K2) (reply : Reply T) (next : SizedState T S) (more : List (Reply T))
@@ -76,7 +78,9 @@ yields_more yielded items rest all x next was =
     append_assoc yielded (x ∷ []) rest ∙ ap (λ xs. yielded ++ xs) (sym next) ∙ was
 
 -- there is room for what is left
-module _ {X : Type 0} (items rest : List X) (x : X) (next : items ≡ x ∷ rest) (held cap : ℕ) (room : held + length items ≤ cap)
+module _
+    {X : Type 0} (items rest : List X) (x : X) (next : items ≡ x ∷ rest) (held cap : ℕ)
+    (room : held + length items ≤ cap)
   where
     pub room_for_one : held < cap
     room_for_one = omega (arith, ap length next, room)

@@ -34,7 +34,9 @@ module _
       pub kept-paired : IsPaired (state_of hasher items.store new_table order)
       kept-paired = rw same paired
 
-      pub kept-keeps : {K1 K2 : Type 0} (keys : Keys T K1 K2 S) → Keeps keys old.state (state_of hasher items.store new_table order)
+      pub kept-keeps :
+          {K1 K2 : Type 0} (keys : Keys T K1 K2 S)
+          → Keeps keys old.state (state_of hasher items.store new_table order)
       kept-keeps keys = rw (← seen, same) (Keeps-same keys _ paired _ refl)
 
       pub kept-state : state_of hasher items.store new_table order ≡ old.state
@@ -77,7 +79,9 @@ module _
             pub removed-memory : memory_of new_items new_table new_order ≡ old.memory
             removed-memory = rw (← seen) same_memory
 
-            pub removed-room : live_count old.state.store ≤ capacity old → room (sized_of hasher new_items new_table new_order) ≡ room old + 1
+            pub removed-room :
+                live_count old.state.store ≤ capacity old
+                → room (sized_of hasher new_items new_table new_order) ≡ room old + 1
             removed-room =
                 rw (← seen)
                 (room-removed (sized_of hasher items table order) (sized_of hasher new_items new_table new_order) paired ix (Some item) (live, rw (stored, hashed, ordered) refl) same_memory)

@@ -92,7 +92,9 @@ module _
     pub record Rebuilt (now_tags : List ℕ) (now_cells : List C) (now : ℕ) : Type 0 where
       pub tags_are : (with_items tags now_tags).items ≡ now_tags
       pub cells_are : (with_items cells now_cells).items ≡ now_cells
-      pub roomy : Roomy tags.items (slots_of slot tags.items cells.items) len now_tags (slots_of slot now_tags now_cells) now
+      pub roomy :
+          Roomy tags.items (slots_of slot tags.items cells.items) len now_tags (slots_of slot now_tags now_cells)
+          now
 
     pub Rebuilt-by :
         (read_tags : List ℕ) (read_cells : List C) (now_tags : List ℕ) (now_cells : List C) (now : ℕ)
@@ -125,7 +127,11 @@ module _
       pub add-ends : (read : List ℕ) → read ≡ (with_items tags now_tags).items → HasEmpty read
       add-ends read is = rw (is, state.tags_are) (empty_from _ _ _ _ state.roomy.sound any)
 
-      pub add-len-fits : (read : List ℕ) → read ≡ (with_items tags now_tags).items → length read < 2 ^ 64 → Fits w64 (len + 1)
+      pub add-len-fits :
+          (read : List ℕ)
+          → read ≡ (with_items tags now_tags).items
+          → length read < 2 ^ 64
+          → Fits w64 (len + 1)
       add-len-fits read is within =
           let less : len < usable_of (length tags.items) = few in
           omega (arith, state.roomy.same, ap length (is ∙ state.tags_are))
@@ -166,7 +172,9 @@ module _
                   (cells-long : length put_cells ≡ length old_cells)
                   (cells-were-long : length old_cells ≡ vec_len (with_items cells now_cells))
                   (put_tags-is : put_tags ≡ set old_tags place (tag_of hash))
-                  (put_slots-is : slots_of slot put_tags put_cells ≡ set (slots_of slot old_tags old_cells) place (Some (hash, value)))
+                  (put_slots-is :
+                  slots_of slot put_tags put_cells
+                  ≡ set (slots_of slot old_tags old_cells) place (Some (hash, value)))
                 where
                   end_tags : Vec ℕ
                   end_tags = with_items (with_items tags now_tags) put_tags
@@ -174,7 +182,9 @@ module _
                   end_cells : Vec C
                   end_cells = with_items (with_items cells now_cells) put_cells
 
-                  end_tags-are : (with_items (with_items tags now_tags) put_tags).items ≡ set now_tags place (tag_of hash)
+                  end_tags-are :
+                      (with_items (with_items tags now_tags) put_tags).items
+                      ≡ set now_tags place (tag_of hash)
                   end_tags-are =
                       with_items_is (with_items tags now_tags) put_tags (tags-long ∙ was-long) ∙ put_tags-is
                       ∙ ap (λ xs. set xs place (tag_of hash)) (old_tags-is ∙ state.tags_are)

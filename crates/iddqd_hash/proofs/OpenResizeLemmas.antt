@@ -22,7 +22,11 @@ module _
       few : length (pairs (slots_of slot tags.items cells.items)) ≤ usable_of count
       few = rw (is_old, entries-table_of) at fits
 
-      pub resize-fits : (read : List ℕ) (n : ℕ) → read ≡ tags.items → n ≡ count → length (pairs (slots_of slot read cells.items)) ≤ n / 8 * 7
+      pub resize-fits :
+          (read : List ℕ) (n : ℕ)
+          → read ≡ tags.items
+          → n ≡ count
+          → length (pairs (slots_of slot read cells.items)) ≤ n / 8 * 7
       resize-fits read n is same = rw (is, same) (omega (arith, few))
 
       module _
@@ -46,7 +50,8 @@ module _
 
           pub resize-sound :
               count_by is_used put_tags ≡ length (pairs (slots_of slot put_tags put_cells))
-              → IsSound (with_items new_tags put_tags).items (slots_of slot (with_items new_tags put_tags).items end_cells.items) len len
+              → IsSound (with_items new_tags put_tags).items
+              (slots_of slot (with_items new_tags put_tags).items end_cells.items) len len
           resize-sound unmarked =
               rw (tags-are, cells-are)
               (IsSound-placed put_tags (slots_of slot put_tags put_cells) len (rw long power) probed unmarked (sym same_length) (rw long (omega (arith, few, sound.counted))))
@@ -62,7 +67,9 @@ module _
               let slots_long : length (slots_of slot put_tags put_cells) ≡ count = probed.same_length ∙ long in
               rw (is_old, entries-table_of, room-table_of, tags-are, cells-are, slots_long) (omega (arith, same_length, sound.counted))
 
-          pub resize-memory : memory (table_of (slots_of slot (with_items new_tags put_tags).items end_cells.items)) ≡ count
+          pub resize-memory :
+              memory (table_of (slots_of slot (with_items new_tags put_tags).items end_cells.items))
+              ≡ count
           resize-memory = rw (memory-table_of, tags-are, cells-are) (probed.same_length ∙ long)
 
     -- slices of the vectors, what is written to them, and the cells that they have then
@@ -80,9 +87,13 @@ module _
 
         module _
             (removed : ℕ)
-            (counted : removed + length (pairs (slots_of slot put_tags put_cells)) ≡ length (pairs (slots_of slot read_tags read_cells)))
+            (counted :
+            removed + length (pairs (slots_of slot put_tags put_cells))
+            ≡ length (pairs (slots_of slot read_tags read_cells)))
           where
-            fewer : removed + length (pairs (slots_of slot put_tags put_cells)) ≡ length (pairs (slots_of slot tags.items cells.items))
+            fewer :
+                removed + length (pairs (slots_of slot put_tags put_cells))
+                ≡ length (pairs (slots_of slot tags.items cells.items))
             fewer = rw (read_tags-is, read_cells-is) at counted
 
             pub retain-few : removed ≤ len
@@ -91,7 +102,8 @@ module _
             pub retain-sound :
                 IsProbed put_tags (slots_of slot put_tags put_cells)
                 → count_by is_used put_tags ≡ count_by is_used read_tags
-                → IsSound (with_items tags put_tags).items (slots_of slot (with_items tags put_tags).items (with_items cells put_cells).items) (len - removed) used
+                → IsSound (with_items tags put_tags).items
+                (slots_of slot (with_items tags put_tags).items (with_items cells put_cells).items) (len - removed) used
             retain-sound probed marked =
                 rw (put_tags-are, put_cells-are)
                 (IsSound-retained tags.items put_tags (slots_of slot tags.items cells.items) (slots_of slot put_tags put_cells) _ _ _ sound (tags-long ∙ ap length read_tags-is) probed (rw read_tags-is at marked) fewer)
@@ -105,8 +117,10 @@ module _
 
         pub retain-kept :
             {F : Type 0} (ask : F → T → Bool → F → Type 0) (f last : F)
-            → RetainsPairsTo ask f (pairs (slots_of slot read_tags read_cells)) (pairs (slots_of slot put_tags put_cells)) last
-            → RetainsPairs ask f (entries old) (entries (table_of (slots_of slot (with_items tags put_tags).items (with_items cells put_cells).items)))
+            → RetainsPairsTo ask f (pairs (slots_of slot read_tags read_cells))
+            (pairs (slots_of slot put_tags put_cells)) last
+            → RetainsPairs ask f (entries old)
+            (entries (table_of (slots_of slot (with_items tags put_tags).items (with_items cells put_cells).items)))
         retain-kept ask f last kept =
             rw (is_old, entries-table_of, entries-table_of, put_tags-are, put_cells-are, ← read_tags-is, ← read_cells-is)
             (record { last = last; kept = kept })
@@ -123,22 +137,29 @@ module _
         pub rewrite-rewritten :
             (gives : T → T → Type 0)
             → Rewrites gives (pairs (slots_of slot read_tags read_cells)) (pairs (slots_of slot read_tags put_cells))
-            → Rewrites gives (entries old) (entries (table_of (slots_of slot tags.items (with_items cells put_cells).items)))
+            → Rewrites gives (entries old)
+            (entries (table_of (slots_of slot tags.items (with_items cells put_cells).items)))
         rewrite-rewritten gives rewritten =
             rw (is_old, entries-table_of, entries-table_of, written-are, ← read_tags-is, ← read_cells-is) rewritten
 
-        module _ (same : hashes_of (slots_of slot read_tags put_cells) ≡ hashes_of (slots_of slot read_tags read_cells)) where
-          same_hashes : hashes_of (slots_of slot tags.items put_cells) ≡ hashes_of (slots_of slot tags.items cells.items)
-          same_hashes = rw (read_tags-is, read_cells-is) at same
+        module _
+            (same : hashes_of (slots_of slot read_tags put_cells) ≡ hashes_of (slots_of slot read_tags read_cells))
+          where
+            same_hashes :
+                hashes_of (slots_of slot tags.items put_cells)
+                ≡ hashes_of (slots_of slot tags.items cells.items)
+            same_hashes = rw (read_tags-is, read_cells-is) at same
 
-          pub rewrite-sound : IsSound tags.items (slots_of slot tags.items (with_items cells put_cells).items) len used
-          rewrite-sound =
-              rw written-are
-              (IsSound-rewritten _ (slots_of slot tags.items cells.items) (slots_of slot tags.items put_cells) _ _ sound same_hashes)
+            pub rewrite-sound :
+                IsSound tags.items (slots_of slot tags.items (with_items cells put_cells).items) len used
+            rewrite-sound =
+                rw written-are
+                (IsSound-rewritten _ (slots_of slot tags.items cells.items) (slots_of slot tags.items put_cells) _ _ sound same_hashes)
 
-          pub rewrite-memory : KeepsMemory old (table_of (slots_of slot tags.items (with_items cells put_cells).items))
-          rewrite-memory =
-              let long : length (slots_of slot tags.items put_cells) ≡ length (slots_of slot tags.items cells.items) =
-              cells_long slot tags.items put_cells ∙ cells-long ∙ ap length read_cells-is ∙ sym (cells_long slot tags.items cells.items) in
-              let kept = length-rewritten (slots_of slot tags.items cells.items) (slots_of slot tags.items put_cells) same_hashes in
-              rw (is_old, written-are) (KeepsMemory-table_of _ _ long (fits_from _ _ _ _ sound) (omega (arith, kept)))
+            pub rewrite-memory :
+                KeepsMemory old (table_of (slots_of slot tags.items (with_items cells put_cells).items))
+            rewrite-memory =
+                let long : length (slots_of slot tags.items put_cells) ≡ length (slots_of slot tags.items cells.items) =
+                cells_long slot tags.items put_cells ∙ cells-long ∙ ap length read_cells-is ∙ sym (cells_long slot tags.items cells.items) in
+                let kept = length-rewritten (slots_of slot tags.items cells.items) (slots_of slot tags.items put_cells) same_hashes in
+                rw (is_old, written-are) (KeepsMemory-table_of _ _ long (fits_from _ _ _ _ sound) (omega (arith, kept)))

@@ -7,9 +7,9 @@
 //!
 //! It is built on public calls of [`OpenHashTable`], on `copied`, `allocator`, `find_asked` and `retain_asked`, which
 //! only this crate sees, and on three of its `PairCells`: `place_of`, the place of the pair that a look-up hits, and
-//! `pair_at` and `take_at`, which read and remove the pair at a place. An entry here keeps a place and makes these calls.
-//! It has no entry of `OpenHashTable` inside, since the check can't follow a call on an entry that a field of `self`
-//! lends.
+//! `pair_at` and `take_at`, which read and remove the pair at a place. An entry here keeps a place and makes these
+//! calls. It has no entry of `OpenHashTable` inside, since the check can't follow a call on an entry that a field of
+//! `self` lends.
 //!
 //! `entry` hashes its key once, for the look-up and for the insert. `remove_by_index` is a `retain` over all indexes. A
 //! clone copies cells as memory, since an [`IndexCell`] is `Copy`.

@@ -26,7 +26,10 @@ rebuild_at_limit-self-inside-requires-clause-fits g c =
 -- the table after `rebuild_at_limit`
 rebuilt :
     (g : _) (c : After-rebuild_at_limit-self-inside g)
-    → Rebuilt g.C.Cell.slot c.self.inside.tags c.self.inside.cells c.self.inside.len c.self.inside.used c.self.invariant.sound (rw (← c.self.view_is) at c.requires) c.rebuild_at_limit-self-inside.new.tags c.rebuild_at_limit-self-inside.new.cells c.rebuild_at_limit-self-inside.result
+    → Rebuilt g.C.Cell.slot c.self.inside.tags c.self.inside.cells c.self.inside.len c.self.inside.used
+    c.self.invariant.sound (rw (← c.self.view_is) at c.requires)
+    c.rebuild_at_limit-self-inside.new.tags c.rebuild_at_limit-self-inside.new.cells
+    c.rebuild_at_limit-self-inside.result
 rebuilt g c =
     let now = c.rebuild_at_limit-self-inside in
     Rebuilt-by g.C.Cell.slot c.self.inside.tags c.self.inside.cells c.self.inside.len c.self.inside.used c.self.invariant.sound (rw (← c.self.view_is) at c.requires) _ _ _ _ _ c.as_mut_slice.ensures.value c.as_mut_slice.ensures.len c.as_mut_slice-2.ensures.value c.as_mut_slice-2.ensures.len now.auto.tags now.auto.cells now.ensures.moved now.ensures.probed now.ensures.used now.ensures.limited
