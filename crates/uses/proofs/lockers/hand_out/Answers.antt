@@ -24,7 +24,7 @@ returns-in-Err-Full-clause-refused c =
       out.full,
     )
 
-pub returns-in-Err-Memory-clause-refused : goal.returns-clause-refused
+pub returns-in-Err-Memory-clause-refused : goal.returns-in-Err-Memory-clause-refused
 returns-in-Err-Memory-clause-refused c =
     let out = rw (c.in-Err-Memory.is, c.in-Err-Memory.field-0-is) at c.insert_unique.ensures.inserts in (
       λ ix hit. out.no_conflict ix (first_hits same_number same_holder c.args.lockers.now.store c.args.locker ix hit),
