@@ -69,7 +69,7 @@ pub use walks::ValuesByKey2;
 #[derive(Drop)]
 pub struct KeyedItems<T: KeyedItem, S: BuildHasher = DefaultHashBuilder> {
     items: ItemSet<T>,
-    // Each live index, under the hash of the first key that `insert` or `replace` put there last.
+    // Each live index, under the hash of the first key that `insert` or `replace_at` put there last.
     filed: MapHashTable,
     // Each live index: by second key, ties by index, if no second key was changed silently.
     order: MapBTreeTable,

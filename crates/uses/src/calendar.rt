@@ -136,7 +136,7 @@ impl Calendar {
         ensures sorted { let key_index = second_key_index ⟦<Appointments as Keyed>⟧.keys in
             key_index.Lists self.now.booked.state.store self.now.booked.state.order }
     {
-        self.booked.values_by_key2()
+        self.booked.values2()
     }
 }
 

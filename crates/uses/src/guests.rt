@@ -85,7 +85,7 @@ pub fn set_arrival(
     let Ok(name) = String::from_str(alloc, name) else {
         return Err(ArrivalError::Memory);
     };
-    match guests.replace(ix, Guest { name, arrival }) {
+    match guests.replace_at(ix, Guest { name, arrival }) {
         Ok(_) => Ok(()),
         Err(ReplaceRefusal::Missing(_)) => Err(ArrivalError::Missing),
         Err(ReplaceRefusal::Duplicate { .. }) => Err(ArrivalError::Taken),
@@ -102,7 +102,7 @@ pub fn names(alloc: Global, guests: &Guests) -> Result<String, AllocError>
         ListsAsScan key_index guests.now.state guests.now.state.order }
 {
     let mut names = String::new(alloc);
-    for guest in guests.values_by_key2() {
+    for guest in guests.values2() {
         names.push_str(" ")?;
         names.push_str(&guest.name)?;
     }
@@ -120,7 +120,7 @@ pub fn last_within(guests: &Guests, from: u32, below: u32) -> Option<u32>
     ensures none { SecondKeysInSync ⟦<Guests as Keyed>⟧.keys guests.now.state →
         IfNone result (HasNoArrival guests.now.state.store from below) }
 {
-    let mut within = guests.range_by_key2(Bound::Included(&from), Bound::Excluded(&below));
+    let mut within = guests.range2(Bound::Included(&from), Bound::Excluded(&below));
     match within.next_back() {
         Some((_, guest)) => Some(guest.arrival),
         None => None,

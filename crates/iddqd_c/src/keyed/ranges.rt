@@ -50,7 +50,7 @@ fn range(table: &Table, from: u64, rows: &mut [Row], count: &mut usize) -> u32
     match table {
         Table::Keyed(items) => {
             *count = fill(
-                items.range_by_key2::<&u64>(Bound::Included(&from), Bound::Unbounded),
+                items.range2::<&u64>(Bound::Included(&from), Bound::Unbounded),
                 rows,
             );
             OK

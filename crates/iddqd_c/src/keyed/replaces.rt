@@ -103,7 +103,7 @@ fn rebind(
         second,
         value,
     };
-    match items.replace(ix, new) {
+    match items.replace_at(ix, new) {
         Ok(_was) => OK,
         Err(refusal) => report(&refusal, found),
     }

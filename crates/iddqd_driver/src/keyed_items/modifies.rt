@@ -16,7 +16,7 @@ impl<T: KeyedItem, S: BuildHasher> KeyedItems<T, S> {
     /// isn't live, it returns `None` and doesn't call the closure.
     ///
     /// The caller proves that the closure leaves the item both keys. So both tables stay as they are, in place or not:
-    /// the call hashes and compares no key, and takes no memory. To change a key, use `replace`.
+    /// the call hashes and compares no key, and takes no memory. To change a key, use `replace_at`.
     pub fn modify_at<R, F: FnOnce(&mut T) -> R>(&mut self, ix: ItemIndex, f: F) -> Option<R>
         requires { let keys = pair_keys T.first_key T.second_key in
             KeepsKey F.FnOnce f keys (λ item. get self.old.state.store ix ≡ Some item) }

@@ -76,7 +76,7 @@ impl<T: KeyedItem, S: BuildHasher> KeyedItems<T, S> {
     /// table while it holds no more indexes than its capacity; past that it may run out of memory for a new second key.
     ///
     /// `overwrite` updates neither table, and takes any item.
-    pub fn replace(&mut self, ix: ItemIndex, item: T) -> Result<T, ReplaceRefusal<T>>
+    pub fn replace_at(&mut self, ix: ItemIndex, item: T) -> Result<T, ReplaceRefusal<T>>
         ensures replaces { Replaces ⟦<Self as Keyed>⟧.keys self.old.state ix item result self.new.state }
         ensures keeps { Keeps ⟦<Self as Keyed>⟧.keys self.old.state self.new.state }
         ensures memory { self.new.memory ≡ self.old.memory }

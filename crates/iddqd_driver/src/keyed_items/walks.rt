@@ -62,7 +62,7 @@ impl<T: KeyedItem, S: BuildHasher> KeyedItems<T, S> {
     }
 
     /// The items in the order of the ordered table: by second key, if none was changed silently.
-    pub fn values_by_key2(&self) -> ValuesByKey2<'_, T>
+    pub fn values2(&self) -> ValuesByKey2<'_, T>
         ensures items { result ≡ items_at self.now.state.store self.now.state.order }
         ensures len { length result ≡ live_count self.now.state.store }
         ensures as_scan { ListsAsScan (second_key_index ⟦<Self as Keyed>⟧.keys) self.now.state self.now.state.order }
@@ -79,7 +79,7 @@ impl<T: KeyedItem, S: BuildHasher> KeyedItems<T, S> {
     /// If a second key was changed silently, the result is some consecutive part of the ordered table, whatever the
     /// second keys there are. It is one search for each bound that there is, as `find2`, and takes no memory.
     #[tactic(auto, using(crate::proofs::KeepsLemmas::order_has_live_indexes))]
-    pub fn range_by_key2<Q: OrdQuery<T::Key2>>(
+    pub fn range2<Q: OrdQuery<T::Key2>>(
         &self,
         lower: Bound<Q>,
         upper: Bound<Q>,

@@ -35,8 +35,8 @@ returns-in_default-clause-replaces c =
     in
     inr (inr (inr (refl, hits, refl)))
 
-pub returns-in-Ok-replace-clause-replaces : goal.returns-in-Ok-replace-clause-replaces
-returns-in-Ok-replace-clause-replaces c =
+pub returns-in-Ok-replace_at-clause-replaces : goal.returns-in-Ok-replace_at-clause-replaces
+returns-in-Ok-replace_at-clause-replaces c =
     let live : IsLive c.args.items.now.state.store c.args.index = search (rules, c.get.ensures, c.if-is_none.false, c.new-ix.ensures) in
     let reports1 = rw (c.new-ix.ensures, none_of _ (sym c.if-is_some.ensures)) at c.other_than-first_at.ensures in
     let reports2 = rw (c.new-ix.ensures, none_of _ (sym c.if-is_some-2.ensures)) at c.other_than-second_at.ensures in
@@ -44,13 +44,13 @@ returns-in-Ok-replace-clause-replaces c =
     (record { passes = λ entry has. (bytes_decides _ _).1 (sym has); alike = λ entry has i key. bytes_eq (sym has i) key.bytes.items })
     live _ _ None None c.find1_by.ensures c.find2.ensures.found reports1 reports2
     in
-    let out = rw c.new-ix.ensures at c.in-Ok-replace.ensures in
+    let out = rw c.new-ix.ensures at c.in-Ok-replace_at.ensures in
     inl (
       refl,
       hits,
       (
         record { first = record { bytes = c.in-Ok.bytes }; second = c.args.second; value = c.args.value },
-        c.in-Ok-replace._was,
+        c.in-Ok-replace_at._was,
         record { has_bytes = c.in-Ok.ensures.items; has_second = refl; has_value = refl },
         out.replaces.replaced,
       ),
@@ -69,6 +69,6 @@ returns-in-Err-clause-replaces c =
     in
     let out = rw c.new-ix.ensures at c.in-Err.ensures in
     refused entry_keys c.args.items.now.state c.args.index c.args.key.now c.args.second _ stands live c.args.value
-    (record { first = record { bytes = c.in-Ok.bytes }; second = c.args.second; value = c.args.value }) _ _ _ c.args.items.now c.replace.new.self
+    (record { first = record { bytes = c.in-Ok.bytes }; second = c.args.second; value = c.args.value }) _ _ _ c.args.items.now c.replace_at.new.self
     refl (record { has_bytes = c.in-Ok.ensures.items; has_second = refl; has_value = refl }) (hashes_bytes c.args.items.now.state) (λ _. refl) hits
     c.report.ensures.says out.replaces (λ i. record { state = out.replaces.unchanged i; memory = out.memory i })

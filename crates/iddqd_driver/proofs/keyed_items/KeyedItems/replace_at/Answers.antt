@@ -8,11 +8,11 @@ use Rattle.iddqd_driver.proofs.KeyLemmas.{AreLawful, AreLawful-from_bounds}
 use Rattle.iddqd_driver.proofs.CountLemmas.{count-replaced}
 use Rattle.iddqd_driver.proofs.MemoryLemmas.{length-order}
 use Rattle.iddqd_driver.proofs.ReplacementLemmas.{not_for_memory, ReportsOtherIndex-found, Replaces-rebound, Keeps-rebound}
-use Rattle.iddqd_driver.proofs.keyed_items.KeyedItems.replace.Goals.{After-rebind, then-is_some-via-then-is_some, then-is_some-via-else-is_some+then-is_some-2}
+use Rattle.iddqd_driver.proofs.keyed_items.KeyedItems.replace_at.Goals.{After-rebind, then-is_some-via-then-is_some, then-is_some-via-else-is_some+then-is_some-2}
 use Rattle.iddqd_driver.proofs.FoundLemmas.{live_there}
 use Rattle.iddqd_driver.proofs.InsertLemmas.{none_before}
 use Rattle.iddqd_driver.proofs.KeepsLemmas.{Holds-order}
-use Rattle.iddqd_driver.proofs.keyed_items.KeyedItems.replace.Goals as goal
+use Rattle.iddqd_driver.proofs.keyed_items.KeyedItems.replace_at.Goals as goal
 
 pub returns-then-is_some-clause-replaces : goal.returns-then-is_some-clause-replaces
 returns-then-is_some-clause-replaces g c =

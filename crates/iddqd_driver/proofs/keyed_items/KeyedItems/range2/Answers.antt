@@ -1,4 +1,4 @@
-use Rattle.iddqd_driver.proofs.keyed_items.KeyedItems.range_by_key2.Goals as goal
+use Rattle.iddqd_driver.proofs.keyed_items.KeyedItems.range2.Goals as goal
 
 pub new-requires : goal.new-requires
 new-requires g c = c.range.ensures.live

@@ -2,7 +2,7 @@ use Rattle.std.proofs.Common.{◌∙◌}
 use Rattle.iddqd_by_order.proofs.OrderedCountLemmas.{length-held}
 use Rattle.iddqd_driver.proofs.KeepsLemmas.{Holds-order}
 use Rattle.iddqd_driver.proofs.WalkLemmas.{length-items_at}
-use Rattle.iddqd_driver.proofs.keyed_items.KeyedItems.values_by_key2.Goals as goal
+use Rattle.iddqd_driver.proofs.keyed_items.KeyedItems.values2.Goals as goal
 
 pub returns-clause-len : goal.returns-clause-len
 returns-clause-len g c =
