@@ -333,7 +333,8 @@ impl<T, C: Cell<T>> OpenHashTable<T, C> {
         self.used = 0;
     }
 
-    // `find`, with its condition in two parts: shown as one, of a closure of this crate, it takes the checker long.
+    // Does what `find` does. Its condition is two clauses, since a caller in this crate that passes a closure proves two
+    // in far fewer steps than one.
     #[inline(always)]
     pub(crate) fn find_asked<F: FnMut(&T) -> bool>(&self, hash: u64, eq: F) -> Option<&T>
         requires each { CanAskEach (TakesAt F.FnMut) eq (under hash (entries self.now)) }

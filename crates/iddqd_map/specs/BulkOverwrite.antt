@@ -31,8 +31,9 @@ module _ {I G T : Type 0} (gives : I → Option T → I → Type 0) (g : Mut G (
   abbrev pub MayDisplace : I → G → Store T → Type 0
   MayDisplace it f s = (((p : G) (x : T) → TakesItem g p x) → CanDisplace it f s) → CanDisplace it f s
 
--- The closure was called with each of these items in turn. They were stored, or were inserted by the call and then
--- displaced by a later item. Each item that was stored before still is, under its index, or it is one of these.
+-- The closure was called with each of these items in turn. Each item that was stored before still is, under its index,
+-- or it is one of these, and the number of items is right. What the others of these are, `OverwritesAll` says: items
+-- that the call inserted, and that a later item displaced.
 -- `give p x q` says that a call with x in the state p may leave the state q.
 pub record HandsOver
     {G T : Type 0} (give : G → T → G → Type 0) (gone last : G) (old new : Store T) (inserted : ℕ)

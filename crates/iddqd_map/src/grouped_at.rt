@@ -15,8 +15,8 @@ use iddqd::item_set::ItemSet;
 
 /// A key index with a key by its hash at the place `P`, which several items may have, found by queries `Q`.
 ///
-/// A call that goes along a group may remove items as it goes. So nothing is borrowed between two steps, and only
-/// `find_any` looks the key up.
+/// A call that goes along a group may remove items as it goes. So nothing is borrowed between two steps. Of the three
+/// methods of such a call `find_any` alone looks the key up; the other two go on from an index.
 pub trait GroupedAt<P, Q, T, S>: KeyIndex<T, S> {
     ghost use Rattle.std.specs.Prelude.{ℕ, Bool, List};
     ghost use Rattle.iddqd.specs.Store.{Store};

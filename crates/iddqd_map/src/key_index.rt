@@ -17,9 +17,9 @@
 //! one index beyond its capacity are a value of their own, which the insert or the move consumes. So beyond its
 //! capacity no key index holds memory for a call to come.
 //!
-//! What a key index is, with its laws and a removal, is the trait `KeyIndex`. What inserts, moves and the whole of a key
-//! index need besides is three more, `Inserts`, `Moves` and `Upkeep`, and look-ups stand on `KeyIndex` alone: at a pair,
-//! a caller's proof pays for each method of each trait that its bounds lead to, once for each path to it.
+//! The trait `KeyIndex` has the types, the laws, a removal, and what look-ups need. Three traits above it have the other
+//! calls: `Inserts`, `Moves` and `Upkeep`. A look-up needs none of the three. That keeps callers cheap: a caller's proof
+//! pays for each method of each trait that its bounds lead to, once for each path to it, and at a pair for both halves.
 //!
 //! The traits are one file, since they are read together. More than half of its lines are contracts and laws.
 ghost use Rattle.std.specs.Prelude.{◌≡◌, ◌≢◌, ◌≤◌, ◌+◌, ◌<◌, true, false, min, max, length, IsOk, IfOk, OnOk, OnErr, IfSome};

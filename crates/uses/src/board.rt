@@ -288,8 +288,8 @@ pub fn forget_low(board: &mut Board, hour: u32, least: u32) -> usize
     })
 }
 
-/// Forgets the scores up to an hour that have fewer points than so many, passes each to the closure, by hour, and
-/// returns how many they were. All others stay. It takes no memory.
+/// Forgets the scores up to an hour that have fewer points than so many, and returns how many they were. What the
+/// closure gets are such scores. All others stay. It takes no memory.
 pub fn hand_on_low<F: FnMut(Score)>(board: &mut Board, hour: u32, least: u32, gone: F) -> usize
     requires { (p : F) (score : Score) → TakesItem F.FnMut p score }
     ensures dropped { Drops (λ score. (score.hour ≤ hour) × (score.points < least))

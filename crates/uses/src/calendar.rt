@@ -184,7 +184,7 @@ pub fn starting(diary: &Diary, start: u32) -> Option<Appointment>
 }
 
 /// Removes an appointment that starts then, and returns it with its index. All others stay. While the table of starts
-/// is in order, it is none only where no appointment starts then.
+/// is in sync, it is none only where no appointment starts then.
 pub fn cancel(diary: &mut Diary, start: u32) -> Option<(ItemIndex, Appointment)>
     ensures cancelled { MatchOption result (diary.new.state ≡ diary.old.state)
         (λ taken. Cancels start diary.old.state taken diary.new.state) }
@@ -279,7 +279,8 @@ pub fn left(diary: &Diary) -> usize
     diary.room()
 }
 
-/// Whether an appointment was booked, where there is room: it takes no memory, and is refused none.
+/// Books an appointment where there is room, so that no memory is taken, and returns whether it was booked. If not,
+/// nothing changes.
 pub fn book(diary: &mut Diary, appointment: Appointment) -> bool
     requires { 1 ≤ room diary.old }
     ensures booked { OnTrue result (diary.new.state.store ≡ inserted diary.old.state.store appointment) }

@@ -1,5 +1,5 @@
-//! Lockers and their holders in a `BiHashMap`: each call that names one of two keys, and what an insert reports of
-//! them.
+//! Lockers and their holders in a `BiHashMap`: the calls that name one of two keys, but for `change1` and `change2`,
+//! which `seats` has, and what an insert reports of the keys.
 ghost use Rattle.std.specs.Prelude.{◌≡◌, ◌≤◌, ◌==◌, ◌↔◌, false, min, IfOk, IfErr, OnOk, OnErr};
 ghost use Rattle.iddqd_maps.specs.Map.{FindsItem, Removes};
 ghost use Rattle.iddqd_maps.specs.Scan.{AnswersScan, HasNoHit};
@@ -77,7 +77,7 @@ pub fn hand_out(lockers: &mut Lockers, locker: Locker) -> Result<(), HandOutErro
     }
 }
 
-// Which keys are taken, of which one is.
+// Which keys are taken. At least one is.
 fn taken(at: &BiClash) -> HandOutError
     ensures { result ≡ taken_keys at.now.key1 at.now.key2 }
 {

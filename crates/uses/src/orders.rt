@@ -208,8 +208,8 @@ pub fn halve_day(queue: &mut Queue, day: u32) -> usize
     queue.modify_group_by::<ByDay, _, _>(&day, |order| order.amount /= 2)
 }
 
-/// Removes those orders of a day that come to less than so much, passes each to the closure, by index, and returns how
-/// many they were. It takes no memory.
+/// Removes those orders of a day that come to less than so much, and returns how many they were. What the closure gets
+/// are such orders. It takes no memory.
 pub fn hand_on_small<F: FnMut(Order)>(queue: &mut Queue, day: u32, least: u64, gone: F) -> usize
     requires { (p : F) (order : Order) → TakesItem F.FnMut p order }
     ensures dropped { Drops (λ order. (order.day ≡ day) × (order.amount < least))
@@ -221,8 +221,8 @@ pub fn hand_on_small<F: FnMut(Order)>(queue: &mut Queue, day: u32, least: u64, g
     queue.retain_group_into_by::<ByDay, _, _, _>(&day, |order| order.amount >= least, gone)
 }
 
-/// Removes those orders up to a day that come to less than so much, passes each to the closure, by day and then by
-/// index, and returns how many they were. It takes no memory.
+/// Removes those orders up to a day that come to less than so much, and returns how many they were. What the closure
+/// gets are such orders. It takes no memory.
 pub fn hand_on_small_until<F: FnMut(Order)>(
     queue: &mut Queue,
     day: u32,
@@ -306,8 +306,8 @@ pub fn drop_small_of(accounts: &mut Accounts, customer: u32, least: u64) -> usiz
     accounts.retain_hashed_group_by::<ByCustomer, _, _>(&customer, |order| order.amount >= least)
 }
 
-/// Removes those orders of a customer that come to less than so much, passes each to the closure, and returns how many
-/// they were. It takes no memory.
+/// Removes those orders of a customer that come to less than so much, and returns how many they were. What the closure
+/// gets are such orders. It takes no memory.
 pub fn hand_on_small_of<F: FnMut(Order)>(
     accounts: &mut Accounts,
     customer: u32,

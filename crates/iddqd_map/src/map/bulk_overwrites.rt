@@ -23,7 +23,8 @@ use iddqd::item_set::ItemSet;
 use std::alloc::AllocError;
 
 impl<T, X: Inserts<T, S> + Upkeep<T, S>, S> Map<T, X, S> {
-    /// Inserts the items of an iterator in turn, up to the first that is refused, and returns how many there were.
+    /// Inserts the items of an iterator in turn, each in place of those that share a key with it, up to the first that
+    /// is refused, and returns how many were inserted.
     ///
     /// Stored items that share a key with an item are first removed, by rising index, and passed to the closure by
     /// value. An item that was inserted before may be displaced, too. A refusal comes as that of `overwrite_into`,

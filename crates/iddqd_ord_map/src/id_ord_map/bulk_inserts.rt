@@ -58,7 +58,9 @@ impl<T: Drop, E: OrdKey<T>> OrdMapBy<T, E> {
     {
         self.map.insert_all(iter)
     }
-    /// Inserts the items of an iterator in turn, up to the first that is refused, and returns how many there were.
+
+    /// Inserts the items of an iterator in turn, each in place of those that share a key with it, up to the first that
+    /// is refused, and returns how many were inserted.
     ///
     /// A stored item that has the key of an item is first removed, and passed to the closure by value. An item that was
     /// inserted before may be displaced, too. One that displaces another is refused only if memory runs out and the

@@ -1,8 +1,9 @@
 //! The end of a range is sought near its beginning first.
 //!
-//! Most ranges are short: a group of equal keys, or some tens of items. So the search for the end goes along the leaves
-//! from the beginning. In each leaf it asks about the last index, and between two leaves about the index that stands
-//! there. If the end isn't in the first three leaves, a search from the root finds it.
+//! Many ranges are short, as a group of a few equal keys. So the search for the end goes along the leaves from the
+//! beginning. It first asks whether the end comes behind the beginning. In each leaf it asks about the last index, and
+//! between two leaves about the index that stands there. If the end isn't in the first three leaves, a search from the
+//! root finds it.
 //!
 //! Each leaf costs two asks at most. A tree with h levels above its leaves has so many indexes that the bound of a
 //! search leaves room for two asks in each of h + 1 leaves, up to three.
