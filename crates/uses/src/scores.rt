@@ -1,11 +1,13 @@
 //! A map in the order of its keys: its ends, the items whose keys are between two bounds, and many at once.
 ghost use Rattle.std.specs.Prelude.{◌≡◌, ◌<◌, IsOk};
 ghost use Rattle.std.specs.Iterator.{UpTo};
+ghost use Rattle.std.specs.Ordering.{nat_cmp};
 ghost use Rattle.iddqd_maps.specs.BulkOverwrite.{HandsOver, overwritten_count};
 ghost use Rattle.iddqd_maps.specs.Store.{live_count, slot_limit};
 ghost use Rattle.iddqd_maps.specs.Drops.{Drops};
 ghost use Rattle.iddqd_maps.specs.KeyOrder.{IsWalkWithin};
 ghost use Rattle.iddqd_maps.specs.Map.{empty_map, room};
+ghost use Rattle.iddqd_maps.specs.OrdMap.{OverwritesFromInOrder};
 ghost use Rattle.iddqd_maps.specs.Ranges.{GivesItem, TakesItem, itself};
 ghost use Rattle.uses.specs.Scores.{by_hour, is_between};
 ghost use Rattle.uses.specs.declared.scores.Score.{Score};
@@ -69,6 +71,8 @@ pub fn enter_all<I: Iterator<Item = Score>, F: FnMut(Score)>(
     requires next { I.can_next entries }
     requires fits { UpTo (I.remaining entries) usize.MAX }
     requires given { (p : F) (score : Score) → TakesItem F.FnMut p score }
+    ensures entered { OverwritesFromInOrder (λ (score : Score). score.hour) nat_cmp (GivesItem F.FnMut) I.next_gives
+        I.remaining entries scores.old gone result scores.new }
     ensures handed { (last : F) × HandsOver (GivesItem F.FnMut) gone last scores.old.store scores.new.store
         (overwritten_count result) }
     ensures all { UpTo (I.remaining entries) (room scores.old) → IsOk result }
