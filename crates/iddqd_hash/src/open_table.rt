@@ -333,8 +333,8 @@ impl<T, C: Cell<T>> OpenHashTable<T, C> {
         self.used = 0;
     }
 
-    // Does what `find` does. Its condition is two clauses, since a caller in this crate that passes a closure proves two
-    // in far fewer steps than one.
+    // Does what `find` does. Its condition is two clauses, since a caller in this crate that passes a closure proves
+    // two in far fewer steps than one.
     #[inline(always)]
     pub(crate) fn find_asked<F: FnMut(&T) -> bool>(&self, hash: u64, eq: F) -> Option<&T>
         requires each { CanAskEach (TakesAt F.FnMut) eq (under hash (entries self.now)) }

