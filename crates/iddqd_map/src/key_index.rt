@@ -18,9 +18,9 @@
 //! capacity no key index holds memory for a call to come.
 //!
 //! The trait `KeyIndex` has the types, the laws, a removal, and what look-ups need. Three traits above it have the
-//! other calls: `Inserts`, `Moves` and `Upkeep`. A look-up needs none of the three, which keeps callers cheap: the proof
-//! of a caller pays for each method of each trait that its bounds lead to, once for each path to it, and at a pair for
-//! both halves.
+//! other calls: `Inserts`, `Moves` and `Upkeep`. A look-up needs none of the three, which keeps callers cheap: the
+//! proof of a caller pays for each method of each trait that its bounds lead to, once for each path to it, and at a
+//! pair for both halves.
 //!
 //! The traits are one file, since they are read together. More than half of its lines are contracts and laws.
 ghost use Rattle.std.specs.Prelude.{◌≡◌, ◌≢◌, ◌≤◌, ◌+◌, ◌<◌, true, false, min, max, length, IsOk, IfOk, OnOk, OnErr, IfSome};

@@ -18,7 +18,9 @@ ghost use Rattle.iddqd_map.specs.KeyIndex.{IsNextReported};
 ghost use Rattle.iddqd_map.specs.PairConflict.{IsReportedBy, first_of, second_of};
 ghost use Rattle.iddqd_map.specs.Ranges.{itself};
 
-use crate::key_index::{FindsSame, Inserts, KeyIndex, Left, Moves, OrderedAt, ReportsAt, Right, UniqueAt, Upkeep};
+use crate::key_index::{
+    FindsSame, Inserts, KeyIndex, Left, Moves, OrderedAt, ReportsAt, Right, UniqueAt, Upkeep,
+};
 use crate::pair_conflict::PairConflict;
 use crate::reported::lesser;
 use iddqd::index_remap::IndexRemap;

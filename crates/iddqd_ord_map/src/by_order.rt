@@ -6,6 +6,8 @@
 //! Invariants, given the store's items:
 //! 1. The list has exactly the live indexes, each once.
 //! 2. It is sorted by the keys of their items, and no two items have equal keys.
+//!
+//! It is one file, since it is an impl of each trait of key indexes, and no impl can be split.
 ghost use Rattle.std.specs.Prelude.{◌≡◌, ℕ, IfSome};
 ghost use Rattle.iddqd.specs.{removed};
 ghost use Rattle.iddqd_order.specs.Spot.{StandsAt};
@@ -36,7 +38,9 @@ use iddqd_keys::item_order_query::{ItemOrdQuery, ItemRangeQuery};
 use iddqd_keys::key_kinds::Field;
 use iddqd_keys::key_of::{Itself, key_at};
 use iddqd_keys::order_key::OrdKey;
-use iddqd_map::key_index::{FindsSame, Here, Inserts, KeyIndex, Moves, OrderedAt, ReportsAt, UniqueAt, Upkeep};
+use iddqd_map::key_index::{
+    FindsSame, Here, Inserts, KeyIndex, Moves, OrderedAt, ReportsAt, UniqueAt, Upkeep,
+};
 use iddqd_order::btree_table::{Asking, Blocks, Gap, MapBTreeTable, Spot};
 use std::alloc::{AllocError, Global};
 use std::cmp::Ordering;

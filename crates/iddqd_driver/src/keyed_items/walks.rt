@@ -79,11 +79,7 @@ impl<T: KeyedItem, S: BuildHasher> KeyedItems<T, S> {
     /// If a second key was changed silently, the result is some consecutive part of the ordered table, whatever the
     /// second keys there are. It is one search for each bound that there is, as `find2`, and takes no memory.
     #[tactic(auto, using(crate::proofs::KeepsLemmas::order_has_live_indexes))]
-    pub fn range2<Q: OrdQuery<T::Key2>>(
-        &self,
-        lower: Bound<Q>,
-        upper: Bound<Q>,
-    ) -> Range<'_, T>
+    pub fn range2<Q: OrdQuery<T::Key2>>(&self, lower: Bound<Q>, upper: Bound<Q>) -> Range<'_, T>
         ensures { let within = is_within Q.compare lower upper in
             RangesWithin ⟦<Self as Keyed>⟧.keys within self.now.state result }
     {

@@ -2,10 +2,14 @@
 //!
 //! A look-up by one key goes to the table by that key, and every other call to both tables. A caller's proof sees two
 //! keys and not the tables, each of which would cost proof time in every function that calls the map.
+//!
+//! It is one file, since it is an impl of each trait of key indexes, and no impl can be split.
 use super::clash::{BiClash, both_moves, clash_of};
 use super::item::{BiHashItem, Key1, Key2};
 use crate::by_hash::ByHashOf;
-use crate::key_index::{FindsSame, First, Inserts, KeyIndex, Moves, ReportsAt, Second, UniqueAt, Upkeep};
+use crate::key_index::{
+    FindsSame, First, Inserts, KeyIndex, Moves, ReportsAt, Second, UniqueAt, Upkeep,
+};
 use crate::reported::{lesser, past};
 use iddqd::index_remap::IndexRemap;
 use iddqd::internal::{ValidateCompact, ValidateRefusal, ValidationError};

@@ -14,7 +14,11 @@ use iddqd::hash_builder::DefaultHashBuilder;
 use iddqd::item_index::ItemIndex;
 use std::alloc::Global;
 
-impl<T, X: Inserts<T, DefaultHashBuilder> + Upkeep<T, DefaultHashBuilder>> Map<T, X, DefaultHashBuilder> {
+impl<T, X: Inserts<T, DefaultHashBuilder> + Upkeep<T, DefaultHashBuilder>> Map<
+    T,
+    X,
+    DefaultHashBuilder,
+> {
     /// A map of these items, with the default hasher, each inserted as by `insert_unique`, in turn.
     ///
     /// The first refusal is returned, and then all other items are dropped. The condition is that the array's iterator

@@ -11,7 +11,9 @@ ghost use Rattle.iddqd_map.specs.Several.{both_keys};
 
 use super::clash::{TriClash, all_moves, clash_of};
 use crate::by_hash::ByHashOf;
-use crate::key_index::{FindsSame, First, Inserts, KeyIndex, Moves, ReportsAt, Second, Third, UniqueAt, Upkeep};
+use crate::key_index::{
+    FindsSame, First, Inserts, KeyIndex, Moves, ReportsAt, Second, Third, UniqueAt, Upkeep,
+};
 use crate::reported::{lesser, past};
 use iddqd::index_remap::IndexRemap;
 use iddqd::internal::{ValidateCompact, ValidateRefusal, ValidationError};
