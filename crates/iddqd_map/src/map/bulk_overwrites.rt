@@ -50,6 +50,7 @@ impl<T, X: Inserts<T, S> + Upkeep<T, S>, S> Map<T, X, S> {
         ensures goes_on { IfErr result (λ stopped. I.can_next stopped.rest) }
         ensures nearer { IfErr result (λ stopped. IsNearerEnd I.can_next I.remaining iter stopped.rest) }
     {
+        // By its clauses the proof knows that the store is valid.
         let _items = self.len();
         let (least, _) = iter.size_hint();
         let _reserved = self.reserve(least);
