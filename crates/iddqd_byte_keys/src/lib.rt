@@ -1,7 +1,7 @@
 //! Keys of bytes, and what they are looked up by.
 //!
 //! Both pass all bytes to the hasher in one call. The `Hash` of a `Vec<u8>` passes each byte in a call of its own, and
-//! takes five times the instructions for 16 bytes.
+//! takes more than five times the instructions for 16 bytes.
 #![tactic(auto)]
 
 ghost use Rattle.std.specs.Prelude.{[], ◌∷◌};

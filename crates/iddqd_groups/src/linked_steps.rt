@@ -94,8 +94,8 @@ pub fn commit_move<T>(table: &mut LinkedTable, items: &ItemSet<T>, plan: &Move, 
     }
 }
 
-/// Checks the table against the store. The table is sound, so it fails only where memory for a sorted copy of the
-/// indexes runs out.
+/// Checks the table against the store. The table is sound, so it fails only where memory for copies of the indexes
+/// runs out.
 pub fn validate<T>(
     table: &LinkedTable,
     items: &ItemSet<T>,

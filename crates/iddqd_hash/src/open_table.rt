@@ -27,11 +27,11 @@
 //! [`IndexCell`] is for indexes, and has none: its tag alone says whether it has a pair, and what is left in an emptied
 //! one is never read.
 //!
-//! Measured, and compared with hashbrown's time at 1,000 entries:
+//! Measured when each was tried, beside hashbrown at 1,000 entries (docs/SPEED.md has later times):
 //!
-//! 1. Tags and cells have a vector each. A miss takes 1.4 times hashbrown's time, and took 7.7 in one vector of both.
-//! 2. Up to 65536 cells a probe begins with sixteen tags, which saves a mispredicted branch: a hit takes 1.8 times
-//!    hashbrown's time, and took 2.1 without. The first of the sixteen at which the probe stops mostly decides the
+//! 1. Tags and cells have a vector each. A miss took 1.4 times hashbrown's time, and 7.7 in one vector of both.
+//! 2. Up to 65536 cells a probe begins with sixteen tags, which saves a mispredicted branch: a hit took 1.8 times
+//!    hashbrown's time, and 2.1 without. The first of the sixteen at which the probe stops mostly decides the
 //!    look-up. It is tried before the loop, so a hit takes a tenth less time.
 //! 3. In a larger table a probe begins with the home's tag alone, and the processor fetches the home's cell before it
 //!    has the tag. With sixteen tags a hit took 1.5 times as long.

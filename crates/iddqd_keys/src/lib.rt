@@ -1,8 +1,9 @@
 //! Keys of a store's items, and queries for them.
 //!
-//! A type names a key ([`key_of::KeyOf`]), and a query stands for keys by their hash ([`hash_query::HashQuery`]) or by
-//! their order ([`order_query::OrdQuery`]). The definitions say what a look-up in a table in sync answers:
-//! what a scan of all items would.
+//! A type without values names a key: a field ([`key_of::KeyOf`]), a computed value, several keys in turn, or a key in
+//! the reversed order ([`key_kinds`]). A query stands for keys by their hash ([`hash_query::HashQuery`]) or by their
+//! order ([`order_query::OrdQuery`]). The definitions say what a look-up in a table in sync answers: what a scan of all
+//! items would.
 #![tactic(auto)]
 
 pub mod hash_key;

@@ -1,5 +1,6 @@
-//! Why a map refuses an item. Each refusal returns the item. The items of the map stay, but for the old one of
-//! `remake_at` and `remake_by`, which their closure has got.
+//! Why a map refuses an item. Each refusal returns the item, and the items of the map stay, with three exceptions. The
+//! old item of `remake_at` and `remake_by` is gone, since their closure has got it. `insert_all` and `overwrite_all`
+//! keep what they did with the items before. `from_array` drops all other items.
 ghost use Rattle.std.specs.Prelude.{◌≡◌};
 ghost use Rattle.iddqd_map.specs.Refusal.{insert_refusal_item, overwrite_refusal_item, replace_refusal_item};
 

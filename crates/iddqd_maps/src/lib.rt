@@ -1,8 +1,8 @@
 //! Maps whose keys live inside their values: a store of items, and a table for each key.
 //!
 //! Four maps have names of their own. A map with any other mix of keys is a [`map::Map`] by a [`pair::Pair`] of key
-//! indexes, each a [`by_hash::ByHash`], a [`by_order::ByOrder`], a [`by_hash_multi::ByHashMulti`] or a
-//! [`by_order_multi::ByOrderMulti`], whose key several items may have, or a pair again.
+//! indexes. Each is a [`by_hash::ByHash`] or a [`by_order::ByOrder`]; a [`by_hash_multi::ByHashMulti`] or a
+//! [`by_order_multi::ByOrderMulti`], whose key several items may have; or a pair again.
 //!
 //! A key is one field, a computed value, or several keys in turn ([`key_kinds`]); [`id_hash_map::HashMapBy`] and its
 //! like take any.
@@ -11,8 +11,8 @@
 //! a stored item another key without updating the tables, so a look-up always answers as a scan of all items would.
 //!
 //! What callers name of the crates below, indexes, iterators, hashers, queries, refusals and what `validate` takes and
-//! answers, is re-exported here: modules, and at the root what most callers name. The iterators stand in their modules,
-//! since those of hashed maps and those in order have the same names.
+//! answers, is re-exported here: modules, and at the root what most callers name. The iterators but `GroupItems` stand
+//! in their modules, since those of hashed maps and those in order have the same names.
 #![tactic(auto)]
 
 pub use iddqd::hash_builder as hash_builder;

@@ -2,8 +2,8 @@
 //!
 //! It holds a `Map` with one key index in order, and forwards to it. It is no type name for that `Map`, since its
 //! iterators, its `retain` and its equality go in the order of the keys. A look-up, an insert or a removal of one item
-//! searches the table once; the comments of the other calls say how often they do. Look-ups, removals and iteration
-//! take no memory.
+//! searches the table once; the comments of calls that search more often, or for many items, say how often they do.
+//! Look-ups, removals and iteration take no memory.
 ghost use Rattle.std.specs.Prelude.{◌≡◌, ◌≤◌, ◌↔◌, ◌+◌, false, [], min, max, length, None, IsTrue, IsOk, IfOk, IfErr, OnOk, OnErr, OnSome, IfNone, option_copied};
 ghost use Rattle.std.specs.Ordering.{eq_by_cmp};
 ghost use Rattle.iddqd.specs.{get, live_count, next_index, slot_limit, empty, empty_within, inserted, cleared, IsRemapOf};

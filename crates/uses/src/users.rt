@@ -1,4 +1,4 @@
-//! Items whose key is a text of their own. A text that is lent looks them up, so none is copied for it.
+//! Items whose key is a text of their own. They are looked up by a borrowed text, so none is copied for it.
 ghost use Rattle.std.specs.Prelude.{◌≡◌, ◌≤◌, MatchOption, IfNone, IfOk, IfErr, OnOk, OnErr, filter};
 ghost use Rattle.std.specs.String.{string_bytes};
 ghost use Rattle.iddqd_maps.specs.LiveItems.{live_pairs};
