@@ -9,14 +9,18 @@ use Rattle.iddqd_map.specs.declared.refusal.InsertRefusal.{InsertRefusal}
 
 module _ {F T : Type 0} (g : Once F (MutBor T × (T × Unit {0})) (Unit {0} × (MutBor T × Unit {0}))) (f : F) (item : T)
   where
-    -- f may be called with a `&mut` to each stored item of which `IsThere` holds and with this item, and leaves the
-    -- stored one its key. `key` may give a tuple of keys.
-    abbrev pub KeepsKeyWith : {K : Type 0} → (T → K) → (T → Type 0) → Type 0
-    KeepsKeyWith key IsThere =
+    -- f may be called with a `&mut` to each stored item of which `IsThere` holds, and with this item
+    abbrev pub IsCallableWith : (T → Type 0) → Type 0
+    IsCallableWith IsThere = (was : MutBor T) → IsThere was.now → g.pre f (was, (item, tt))
+
+    -- such a call leaves the stored item its key; `key` may give a tuple of keys
+    abbrev pub LeavesKey : {K : Type 0} → (T → K) → (T → Type 0) → Type 0
+    LeavesKey key IsThere =
         (was : MutBor T)
         → IsThere was.now
-        → g.pre f (was, (item, tt))
-        × ((left : MutBor T) → g.post f (was, (item, tt)) (tt, (left, tt)) → key left.now ≡ key was.now)
+        → (left : MutBor T)
+        → g.post f (was, (item, tt)) (tt, (left, tt))
+        → key left.now ≡ key was.now
 
     -- such a call may leave x' of x
     pub record MayLeaveWith (x x' : T) : Type 0 where

@@ -10,6 +10,7 @@ mod CallLemmas
 mod WalkLemmas
 mod EndLemmas
 mod TakeLemmas
+mod CloneLemmas
 mod IntoLemmas
 mod RetainLemmas
 mod EqualityLemmas

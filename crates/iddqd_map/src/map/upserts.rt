@@ -4,7 +4,7 @@ ghost use Rattle.iddqd.specs.{get};
 ghost use Rattle.iddqd_keys.specs.Scan.{HasNoHit, IsHit, IsLive};
 ghost use Rattle.iddqd_map.specs.Calls.{Inserts, IsDuplicate};
 ghost use Rattle.iddqd_map.specs.Map.{FindsItem, room};
-ghost use Rattle.iddqd_map.specs.Upsert.{InsertsMade, KeepsKeyWith, MergesAt};
+ghost use Rattle.iddqd_map.specs.Upsert.{InsertsMade, IsCallableWith, LeavesKey, MergesAt};
 
 use super::Map;
 use crate::key_index::{Inserts, ReportsAt, UniqueAt};
@@ -26,7 +26,9 @@ impl<T, X: Inserts<T, S>, S> Map<T, X, S> {
     ) -> Result<ItemIndex, InsertRefusal<T, X::Conflict>>
     where
         X: ReportsAt<P, T, S>,
-        requires { KeepsKeyWith F.FnOnce f item X.keys
+        requires callable { IsCallableWith F.FnOnce f item
+            (λ was. FindsItem self.old.store (X.alike_at item) (Some was)) }
+        requires keeps { LeavesKey F.FnOnce f item X.keys
             (λ was. FindsItem self.old.store (X.alike_at item) (Some was)) }
         ensures modifies { (ix : ℕ) → IsHit self.old.store (X.alike_at item) ix →
             (result ≡ Ok ix) × MergesAt F.FnOnce f item self.old ix self.new }
@@ -81,7 +83,8 @@ impl<T, X: Inserts<T, S>, S> Map<T, X, S> {
     // Calls the closure with a `&mut` to the item at a live index and with another item.
     fn merge_at<F: FnOnce(&mut T, T)>(&mut self, ix: ItemIndex, item: T, f: F)
         requires live { IsLive self.old.store ix }
-        requires keeps { KeepsKeyWith F.FnOnce f item X.keys (λ was. get self.old.store ix ≡ Some was) }
+        requires callable { IsCallableWith F.FnOnce f item (λ was. get self.old.store ix ≡ Some was) }
+        requires keeps { LeavesKey F.FnOnce f item X.keys (λ was. get self.old.store ix ≡ Some was) }
         ensures { MergesAt F.FnOnce f item self.old ix self.new }
     {
         match self.items.get_mut(ix) {

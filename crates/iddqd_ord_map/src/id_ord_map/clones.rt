@@ -21,6 +21,7 @@ impl<T: IdOrdClone> Clone for IdOrdMap<T> {
 
     ghost is_clone = { IsMapClone T.is_clone };
 
+    #[tactic(auto, using(crate::proofs::CloneLemmas::clones_are_alike))]
     fn clone(&self) -> Result<IdOrdMap<T>, AllocError> {
         Ok(OrdMapBy {
             map: self.map.copied()?,

@@ -4,7 +4,7 @@ ghost use Rattle.iddqd_by_order.specs.Ordered.{is_equal};
 ghost use Rattle.iddqd_keys.specs.Scan.{HasNoHit, IsHit};
 ghost use Rattle.iddqd_map.specs.Calls.{IsDuplicate};
 ghost use Rattle.iddqd_map.specs.Map.{FindsItem, room};
-ghost use Rattle.iddqd_map.specs.Upsert.{KeepsKeyWith, MergesAt};
+ghost use Rattle.iddqd_map.specs.Upsert.{IsCallableWith, LeavesKey, MergesAt};
 ghost use Rattle.iddqd_ord_map.specs.OrdMap.{InsertsInOrder, InsertsMadeInOrder};
 ghost use Rattle.iddqd_ord_map.specs.OrderedIndexing.{alike_in_order};
 
@@ -26,7 +26,9 @@ impl<T: Drop, E: OrdKey<T>> OrdMapBy<T, E> {
         item: T,
         f: F,
     ) -> Result<ItemIndex, InsertRefusal<T, ItemIndex>>
-        requires { KeepsKeyWith F.FnOnce f item E.key_of
+        requires callable { IsCallableWith F.FnOnce f item
+            (λ was. FindsItem self.old.store (alike_in_order E.key_of E.cmp item) (Some was)) }
+        requires keeps { LeavesKey F.FnOnce f item E.key_of
             (λ was. FindsItem self.old.store (alike_in_order E.key_of E.cmp item) (Some was)) }
         ensures modifies { (ix : ℕ) → IsHit self.old.store (alike_in_order E.key_of E.cmp item) ix →
             (result ≡ Ok ix) × MergesAt F.FnOnce f item self.old ix self.new }

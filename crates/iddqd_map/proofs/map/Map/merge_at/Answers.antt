@@ -12,7 +12,7 @@ invariant_of-self g c =
     let was = c.in-Some.was in
     let left = c.f.new.arg2 in
     let live : get s c.args.ix ≡ Some was.now = sym {a = Some was.now} c.in-Some.ensures.value in
-    let same = (c.requires.keeps was (rw (← c.self.view_is) live)).1 _ c.f.ensures in
+    let same = c.requires.keeps was (rw (← c.self.view_is) live) _ c.f.ensures in
     IsIndexed-rebound _ state s _ c.args.ix left refl c.self.invariant.valid (live_at s c.args.ix was.now live)
     (g.met.X.KeyIndex.modified indexes state s c.args.ix was.now left c.self.invariant.indexed live same)
 

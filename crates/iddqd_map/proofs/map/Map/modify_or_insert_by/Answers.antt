@@ -14,12 +14,17 @@ merge_at-requires-clause-live g c =
     let scan = c.in-Some.ensures old.store c.args.item reported in
     subst (λ (m : MapState _). IsLive m.store c.in-Some.ix) (sym same) (hit_live old.store _ c.in-Some.ix scan)
 
+pub merge_at-requires-clause-callable : goal.merge_at-requires-clause-callable
+merge_at-requires-clause-callable g c = λ was live.
+    let (back, reported, same) = rw c.in-Err-Duplicate.field-0-is at c.in-Err-Duplicate.ensures.inserts in
+    let scan = c.in-Some.ensures c.args.self.now.store c.args.item reported in
+    rw back (c.requires.callable was (c.in-Some.ix, record { live = rw same at live; only = scan }))
+
 pub merge_at-requires-clause-keeps : goal.merge_at-requires-clause-keeps
 merge_at-requires-clause-keeps g c = λ was live.
-    let old = c.args.self.now in
     let (back, reported, same) = rw c.in-Err-Duplicate.field-0-is at c.in-Err-Duplicate.ensures.inserts in
-    let scan = c.in-Some.ensures old.store c.args.item reported in
-    rw back (c.requires was (c.in-Some.ix, record { live = rw same at live; only = scan }))
+    let scan = c.in-Some.ensures c.args.self.now.store c.args.item reported in
+    rw back (c.requires.keeps was (c.in-Some.ix, record { live = rw same at live; only = scan }))
 
 pub returns-in-Some-clause-modifies : goal.returns-in-Some-clause-modifies
 returns-in-Some-clause-modifies g c = λ ix hit.

@@ -12,5 +12,8 @@ returns-clause-unchanged g c = rw (← c.self.view_is) c.modify_or_insert_by.ens
 pub returns-clause-not_refused : goal.returns-clause-not_refused
 returns-clause-not_refused g c = rw (← c.self.view_is) c.modify_or_insert_by.ensures.not_refused
 
-pub modify_or_insert_by-requires : goal.modify_or_insert_by-requires
-modify_or_insert_by-requires g c = rw (← c.self.view_is) at c.requires
+pub modify_or_insert_by-requires-clause-callable : goal.modify_or_insert_by-requires-clause-callable
+modify_or_insert_by-requires-clause-callable g c = rw (← c.self.view_is) at c.requires.callable
+
+pub modify_or_insert_by-requires-clause-keeps : goal.modify_or_insert_by-requires-clause-keeps
+modify_or_insert_by-requires-clause-keeps g c = rw (← c.self.view_is) at c.requires.keeps
