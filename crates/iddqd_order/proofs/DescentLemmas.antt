@@ -418,26 +418,6 @@ module _ {F R : Type 0} (g : Mut F (ℕ × Unit {0}) R) (read : R → Ordering) 
         index = t.index ∙ read-below l n i t.end ne f lt t.searches.found;
       }
 
--- a find returns the index at which its search ends, or none if it ends in a gap
-pub Finds-from_searches :
-    {F R : Type 0} (g : Mut F (ℕ × Unit {0}) R) (read : R → Ordering) (xs : List ℕ) (end : Result ℕ ℕ)
-    (found : Option ℕ) (a b : Asking F)
-    → Searches g read xs None a end b
-    → found ≡ index_at xs end
-    → Finds g read xs a found b
-Finds-from_searches g read xs (Ok i) found a b s e = rw e (record {
-  asked = s.asked;
-  stored = Contains-at xs i _ s.found refl;
-  hit = s.hit;
-  miss = λ answer steady none. absurd (true≢false none);
-})
-Finds-from_searches g read xs (Err i) found a b s e = rw e (record {
-  asked = s.asked;
-  stored = tt;
-  hit = s.hit;
-  miss = λ answer steady none. none_at_place answer xs i (s.place answer steady);
-})
-
 -- what is neither in the row nor in a list is nowhere
 absent_woven :
     (xs : List ℕ) (ks : List (List ℕ)) (x : ℕ)

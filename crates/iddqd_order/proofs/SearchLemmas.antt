@@ -1,5 +1,7 @@
--- A search by halves through answers that rise.
-use Rattle.iddqd_order.proofs.Names.{◌≡◌, ◌≢◌, ◌∙◌, ℕ, ◌+◌, ◌<◌, ◌≤◌, List, Option, Some, None, length, get_or, Contains, refl, sym, ap, subst, All, arith, below_more, inl, inr, Result, Ok, Err, is_ok, true, nat_tests, get_or_default, cases_lt, Ordering, Less, Equal, Greater, Mut, Asking, Askable, with_ties, IsRising, IsPlace, IsSteadyRising, Searches}
+-- For callers too. A search by halves through answers that rise, and what its end says.
+use Rattle.iddqd_order.proofs.Names.{◌≡◌, ◌≢◌, ◌∙◌, ℕ, ◌+◌, ◌<◌, ◌≤◌, List, Option, Some, None, length, get_or, Contains, refl, sym, ap, subst, All, arith, below_more, inl, inr, Result, Ok, Err, is_ok, true, nat_tests, get_or_default, cases_lt, Ordering, Less, Equal, Greater, Mut, Asking, Askable, with_ties, IsRising, IsPlace, IsSteadyRising, Searches, SearchesWithin, Finds, index_at, true≢false}
+use Rattle.iddqd_order.proofs.AskLemmas.{asks_more}
+use Rattle.iddqd_order.proofs.IndexListLemmas.{Contains-at}
 
 pub Askable-other :
     (xs : List ℕ) (sought : Option ℕ) (at : ℕ)
@@ -81,3 +83,40 @@ pub met_where_stored :
 met_where_stored (Ok i) answer searches rises held = refl
 met_where_stored {xs = xs} {ix = ix} (Err i) answer searches rises held =
     absurd (not_missed answer xs ix i (searches.place answer rises) held)
+
+-- what is searched with at most k asks is searched with at most l, if l is no less
+module _ {F R : Type 0} (g : Mut F (ℕ × Unit {0}) R) (read : R → Ordering) (sought : Option ℕ) where
+  pub SearchesWithin-more :
+      {xs : List ℕ} {k l : ℕ} {old new : Asking F} {end : Result ℕ ℕ}
+      → k ≤ l
+      → SearchesWithin g read xs k sought old end new
+      → SearchesWithin g read xs l sought old end new
+  SearchesWithin-more {xs = xs} le s = record {
+    asked = asks_more g (Askable xs sought) le s.asked;
+    found = s.found;
+    missed = s.missed;
+    itself = s.itself;
+    hit = s.hit;
+    place = s.place;
+    unequal = s.unequal;
+  }
+
+-- a find returns the index at which its search ends, or none if it ends in a gap
+pub Finds-from_searches :
+    {F R : Type 0} (g : Mut F (ℕ × Unit {0}) R) (read : R → Ordering) (xs : List ℕ) (end : Result ℕ ℕ)
+    (found : Option ℕ) (a b : Asking F)
+    → Searches g read xs None a end b
+    → found ≡ index_at xs end
+    → Finds g read xs a found b
+Finds-from_searches g read xs (Ok i) found a b s e = rw e (record {
+  asked = s.asked;
+  stored = Contains-at xs i _ s.found refl;
+  hit = s.hit;
+  miss = λ answer steady none. absurd (true≢false none);
+})
+Finds-from_searches g read xs (Err i) found a b s e = rw e (record {
+  asked = s.asked;
+  stored = tt;
+  hit = s.hit;
+  miss = λ answer steady none. none_at_place answer xs i (s.place answer steady);
+})

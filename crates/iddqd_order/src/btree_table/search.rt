@@ -1,4 +1,4 @@
-//! The search of a row by halves, and of the vector of an `OrderedTable`. All calls that search use it.
+//! The search of a row by halves, and of the whole vector of `iddqd_order_reference`. All calls that search use it.
 //!
 //! Four asks search fifteen indexes, and a row has at most eleven. To go along a row from the left was faster
 //! for keys that are numbers, but asked up to eleven times. The `match` compares two indexes only if the answer
@@ -46,9 +46,13 @@ pub(super) fn compare<R, F: FnMut(ItemIndex) -> R, H: Reads<R>>(
     }
 }
 
-// Searches a row, or a whole vector: the place of what is sought, or of the gap where it would go.
+/// Searches a slice of indexes by halves: the position of what is sought, or of the gap where it would go.
+///
+/// It asks at most as often as the slice's length has binary digits, about indexes of the slice alone. Less means that
+/// what is sought stands before the index. An index that is sought is not asked about, and if an answer is Equal, the
+/// lesser of the two comes first. The answers may be anything, and differ from call to call.
 #[inline(always)]
-pub(crate) fn search<R, F: FnMut(ItemIndex) -> R, H: Reads<R>>(
+pub fn search<R, F: FnMut(ItemIndex) -> R, H: Reads<R>>(
     items: &[ItemIndex],
     asking: &mut Asking<F>,
     how: &H,

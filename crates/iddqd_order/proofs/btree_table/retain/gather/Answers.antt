@@ -3,7 +3,7 @@ use Rattle.std.proofs.lemmas.List.{append-nil}
 use Rattle.std.proofs.lemmas.Grind.{take-set_at}
 use Rattle.iddqd_order.specs.Asks.{At_once}
 use Rattle.iddqd_order.specs.Node.{flat}
-use Rattle.iddqd_order.proofs.RetainLemmas.{gathers-none, next_held, gathers-next, gathers-all}
+use Rattle.iddqd_order.proofs.GatherLemmas.{gathers-none, next_held, gathers-next, gathers-all}
 use Rattle.iddqd_order.proofs.SpotCursorLemmas.{IsSpotCursor-first, IsSpotCursor-same}
 use Rattle.iddqd_order.proofs.btree_table.retain.gather.Goals as goal
 

@@ -1,5 +1,5 @@
 use Rattle.iddqd_order.proofs.Names.{[], None, Err, refl, arith, order_of}
-use Rattle.iddqd_order.proofs.DescentLemmas.{Finds-from_searches}
+use Rattle.iddqd_order.proofs.SearchLemmas.{Finds-from_searches}
 use Rattle.iddqd_order.proofs.PartLemmas.{SearchesWithin-more}
 use Rattle.iddqd_order.proofs.ReckoningLemmas.{reckoning}
 use Rattle.iddqd_order.proofs.TableLemmas.{Searches-nil}
