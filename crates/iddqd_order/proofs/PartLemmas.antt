@@ -1,6 +1,6 @@
 -- A search in a part of a list, and what it says of a search in the whole.
 use Rattle.iddqd_order.proofs.Names.{◌≡◌, ◌∙◌, ℕ, ◌+◌, ◌-◌, ◌<◌, ◌≤◌, List, length, get_or, Contains, refl, sym, ap, arith, inl, inr, cases_lt, Option, Some, None, Result, Ok, Err, get_or_default, Ordering, Mut, AsksWithin, Steady, Asking, Askable, with_ties, IsRising, IsPlace, IsSteadyRising, SearchesWithin, closure_of}
-use Rattle.iddqd_order.proofs.AskLemmas.{asks_then, asks_more, asks_wider, Steady-fewer, Steady-later}
+use Rattle.iddqd_order.proofs.AskLemmas.{asks_then, asks_wider, Steady-fewer, Steady-later}
 use Rattle.iddqd_order.proofs.SearchLemmas.{AreSplit}
 pub use Rattle.iddqd_order.proofs.SearchLemmas.{SearchesWithin-more}
 

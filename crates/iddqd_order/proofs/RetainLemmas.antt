@@ -1,5 +1,5 @@
 -- What `retain` leaves of a tree.
-use Rattle.std.proofs.Common.{◌≡◌, ◌<◌, ℕ, Bool, List, length, sym, subst, All, Option, nat_eq}
+use Rattle.std.proofs.Common.{◌≡◌, ◌<◌, ℕ, Bool, length, sym, subst, All, Option, nat_eq}
 use Rattle.std.proofs.lemmas.Map.Made.{IsDistinct-keys_filter}
 use Rattle.std.specs.List.{IsDistinct}
 use Rattle.std.specs.Fn.{Mut}

@@ -1,15 +1,29 @@
 -- For callers too. A search by halves through answers that rise, and what its end says.
-use Rattle.iddqd_order.proofs.Names.{◌≡◌, ◌≢◌, ◌∙◌, ℕ, ◌+◌, ◌<◌, ◌≤◌, List, Option, Some, None, length, get_or, Contains, refl, sym, ap, subst, All, arith, below_more, inl, inr, Result, Ok, Err, is_ok, true, nat_tests, get_or_default, cases_lt, Ordering, Less, Equal, Greater, Mut, Asking, Askable, with_ties, IsRising, IsPlace, IsSteadyRising, Searches, SearchesWithin, Finds, index_at, true≢false}
+use Rattle.iddqd_order.proofs.Names.{◌≡◌, ◌≢◌, ◌∙◌, ℕ, ◌+◌, ◌<◌, ◌≤◌, List, Option, Some, None, length, get_or, Contains, refl, ap, subst, All, arith, below_more, inl, inr, Result, Ok, Err, is_ok, true, nat_tests, get_or_default, cases_lt, Ordering, Less, Equal, Greater, Mut, Asking, Askable, with_ties, IsRising, IsPlace, IsSteadyRising, Searches, SearchesWithin, Finds, index_at, true≢false}
 use Rattle.iddqd_order.proofs.AskLemmas.{asks_more}
 use Rattle.iddqd_order.proofs.IndexListLemmas.{Contains-at}
 
-pub Askable-other :
+-- what may be asked: any stored index if none is sought, and else any other than that
+pub Askable-any :
     (xs : List ℕ) (sought : Option ℕ) (at : ℕ)
-    → sought ≢ Some at
+    → sought ≡ None
     → Contains xs at
     → Askable xs sought at
-Askable-other xs None at n h = h
-Askable-other xs (Some ix) at n h = (h, λ e. n (ap Some (sym e)))
+Askable-any xs None at none h = h
+Askable-any xs (Some ix) at none h = absurd cc
+
+pub Askable-apart :
+    (xs : List ℕ) (sought : Option ℕ) (at ix : ℕ)
+    → sought ≡ Some ix
+    → at ≢ ix
+    → Contains xs at
+    → Askable xs sought at
+Askable-apart xs None at ix some n h = h
+Askable-apart xs (Some is) at ix some n h = (h, λ e. n (let same : is ≡ ix = cc in e ∙ same))
+
+-- where nothing is sought, no index is
+pub none-sought : {A : Type 0} (ix : ℕ) → None ≡ Some ix → A
+none-sought ix e = absurd cc
 
 -- before low all answers are Greater, and from high on Less
 pub record AreSplit (answer : ℕ → Ordering) (xs : List ℕ) (low high : ℕ) : Type 0 where

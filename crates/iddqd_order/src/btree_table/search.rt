@@ -6,9 +6,9 @@
 ghost use Rattle.std.specs.Prelude.{◌≡◌, ◌≢◌, ℕ, ◌+◌, ◌*◌, ◌<◌, ◌≤◌, List, Contains, Some, None, length};
 ghost use Rattle.std.specs.declared.cmp.Ordering.{Ordering};
 ghost use Rattle.iddqd_order.specs.Asking.{closure_of};
-ghost use Rattle.iddqd_order.specs.Asks.{AsksWithin, Steady};
+ghost use Rattle.iddqd_order.specs.Asks.{AsksWithin, CanAskAgain, CanAskEach, Steady};
 ghost use Rattle.iddqd_order.specs.Digits.{digits};
-ghost use Rattle.iddqd_order.specs.Search.{Askable, CanSearch, SearchesWithin, with_ties};
+ghost use Rattle.iddqd_order.specs.Search.{Askable, SearchesWithin, with_ties};
 
 use crate::btree_table::asking::Asking;
 use crate::btree_table::reading::Reads;
@@ -22,7 +22,8 @@ pub(super) fn compare<R, F: FnMut(ItemIndex) -> R, H: Reads<R>>(
     sought: &Option<ItemIndex>,
     at: ItemIndex,
 ) -> Ordering
-    requires { sought.now ≢ Some at → F.pre (closure_of asking.old) at }
+    requires any { sought.now ≡ None → F.pre (closure_of asking.old) at }
+    requires other { (ix : ℕ) → sought.now ≡ Some ix → at ≢ ix → F.pre (closure_of asking.old) at }
     ensures asks { (xs : List ℕ) → Contains xs at →
         AsksWithin F.FnMut (Askable xs sought.now) 1 asking.old asking.new }
     ensures steady { (xs : List ℕ) (answer : ℕ → Ordering) → Contains xs at →
@@ -58,7 +59,8 @@ pub fn search<R, F: FnMut(ItemIndex) -> R, H: Reads<R>>(
     how: &H,
     sought: &Option<ItemIndex>,
 ) -> Result<usize, usize>
-    requires { CanSearch F.FnMut items.now sought.now asking.old }
+    requires each { CanAskEach F.FnMut (Askable items.now sought.now) (closure_of asking.old) }
+    requires again { CanAskAgain F.FnMut (Askable items.now sought.now) (closure_of asking.old) }
     ensures { let most = digits (length items.now) in
         SearchesWithin F.FnMut (H.reading how.now) items.now most sought.now asking.old result asking.new }
 {
