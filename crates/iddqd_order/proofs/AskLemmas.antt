@@ -1,5 +1,5 @@
 -- For callers too. Asks one after another.
-use Rattle.iddqd_order.proofs.Names.{◌≡◌, ◌+◌, ◌≤◌, suc, sym, subst, zero-add, ℕ, arith, Ordering, Called, Mut, Asking, closure_of, ask_count, After, At_once, One_more, CanAsk, Steady, AsksWithin}
+use Rattle.iddqd_order.proofs.Names.{◌≡◌, ◌+◌, ◌≤◌, suc, sym, subst, zero-add, ℕ, arith, Ordering, Called, Mut, Asking, closure_of, ask_count, After, At_once, One_more, CanAsk, CanAskAgain, CanAskEach, Steady, AsksWithin, inl, inr, ◌⊎◌, refl}
 
 module _ {F R : Type 0} (g : Mut F (ℕ × Unit {0}) R) (P : ℕ → Type 0) where
   pub After-trans : {n m : ℕ} {a b c : F} → After g P n a b → After g P m b c → After g P (m + n) a c
@@ -19,6 +19,53 @@ module _ {F R : Type 0} (g : Mut F (ℕ × Unit {0}) R) (P : ℕ → Type 0) whe
       → Steady g P read answer a
       → Steady g P read answer b
   Steady-later p h = record { at = λ m f q. h.at _ f (After-trans p q) }
+
+  -- what may be asked now and again, in two parts
+  pub CanAsk-each : {f : F} → CanAsk g P f → CanAskEach g P f
+  CanAsk-each can ix h = can.at 0 _ At_once ix h
+
+  pub CanAsk-again : {f : F} → CanAsk g P f → CanAskAgain g P f
+  CanAsk-again can ix r f' h e = CanAsk-later (One_more At_once h e) can
+
+  -- the first of some asks, and those after it
+  record First (f f' : F) : Type 0 where
+    ix : ℕ
+    r : R
+    next : F
+    asked : P ix
+    said : Called g f (ix, tt) r next
+    n : ℕ
+    rest : After g P n next f'
+
+  one_asked :
+      {f f' next : F} {ix : ℕ} {r : R} → f ≡ f' → P ix → Called g f' (ix, tt) r next → First f next
+  one_asked {f} {f'} {next} {ix} {r} same h e = record {
+    ix = ix;
+    r = r;
+    next = next;
+    asked = h;
+    said = subst (λ z. Called g z (ix, tt) r next) (sym same) e;
+    n = 0;
+    rest = At_once;
+  }
+
+  first : {n : ℕ} {f f' : F} → After g P n f f' → (f ≡ f') ⊎ First f f'
+  first At_once = inl refl
+  first (One_more p h e) =
+      elim (first p) [
+        | inl same ↦ inr (one_asked same h e)
+        | inr s ↦ inr (record { ix = s.ix; r = s.r; next = s.next; asked = s.asked; said = s.said; n = _; rest = One_more s.rest h e })
+      ]
+
+  -- and from these parts again
+  pub CanAsk-parts : {f : F} → CanAskEach g P f → CanAskAgain g P f → CanAsk g P f
+  CanAsk-parts {f} each again = record {
+    at = λ n f' p ix h.
+        elim (first p) [
+          | inl same ↦ subst (λ z. g.pre z (ix, tt)) same (each ix h)
+          | inr s ↦ (again s.ix s.r s.next s.asked s.said).at s.n f' s.rest ix h
+        ];
+  }
 
   -- asks, and further asks after them
   pub asks_then :

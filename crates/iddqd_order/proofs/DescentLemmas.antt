@@ -1,13 +1,12 @@
 -- A walk down a tree: what the search of a row says of the search of the tree.
-use Rattle.iddqd_order.proofs.Names.{◌*◌, LeadsToIndex, get_or_default, append-nil, cases_lt, get_or_at, get_or_append_left, sub-one, ◌≡◌, ◌≢◌, ◌∙◌, ℕ, zero, suc, ◌+◌, ◌-◌, ◌<◌, ◌≤◌, List, [], ◌∷◌, ◌++◌, length, get_or, drop, slice_index, Contains, refl, sym, ap, subst, arith, inl, inr, Option, Some, None, Result, Ok, Err, IfOk, length-append, append_assoc, sub-one, add-one, cases_lt, true≢false, get_or-append-add, length-map, Contains-append_cases, Ordering, Greater, Mut, Asking, Node, row, children, child, weave, before, after, flat, IsFormed, place_at_level, FullBelow, IsFullBelow, Askable, CanSearch, with_ties, IsRising, IsPlace, SearchesWithin, Searches, Finds, end_at, level_of, IfErr-weaker, index_at, Descends, FindsIn, most_in_row, row_asks, InGap}
+use Rattle.iddqd_order.proofs.Names.{◌*◌, LeadsToIndex, get_or_default, append-nil, cases_lt, get_or_at, get_or_append_left, sub-one, ◌≡◌, ◌≢◌, ◌∙◌, ℕ, zero, suc, ◌+◌, ◌-◌, ◌<◌, ◌≤◌, List, [], ◌∷◌, ◌++◌, length, get_or, drop, slice_index, Contains, refl, sym, ap, subst, arith, inl, inr, Option, Some, None, Result, Ok, Err, IfOk, length-append, append_assoc, sub-one, add-one, cases_lt, get_or-append-add, length-map, Contains-append_cases, Ordering, Greater, Mut, Asking, Node, row, children, child, weave, before, after, flat, IsFormed, place_at_level, FullBelow, IsFullBelow, Askable, CanSearch, with_ties, IsRising, IsPlace, SearchesWithin, end_at, level_of, IfErr-weaker, index_at, Descends, FindsIn, most_in_row, row_asks, InGap}
 use Rattle.iddqd_order.specs.Descent.{Seeks}
 use Rattle.iddqd.proofs.StoreLemmas.{contains_cases}
 use Rattle.iddqd_order.proofs.AskLemmas.{asks_none, asks_wider, CanAsk-fewer, CanAsk-later, Steady-fewer}
 pub use Rattle.iddqd_order.proofs.NodeLemmas.{lists-one_more, lists-at, child-within, child-formed, path-here, path-above, holds-here, below-holds}
 use Rattle.iddqd_order.proofs.NodeLemmas.{lists, flat-leaf, flat-inner, reaches-here, holds-level, place_at_level-leaf, place_at_level-at, place_at_level-below, place_at_level-within}
 use Rattle.iddqd_order.proofs.PartLemmas.{Embeds, Askable-whole, IsRising-part, shifted, SearchesWithin-more, Searches-hit, LeadsTo, Searches-part}
-use Rattle.iddqd_order.proofs.IndexListLemmas.{Contains-at}
-use Rattle.iddqd_order.proofs.SearchLemmas.{AreSplit, split-init, split-less, split-greater, none_at_place}
+use Rattle.iddqd_order.proofs.SearchLemmas.{AreSplit, split-init, split-less, split-greater}
 use Rattle.iddqd_order.proofs.WeaveLemmas.{apart, index_place, within}
 use Rattle.iddqd_order.proofs.WeaveRemovalLemmas.{weave-within, weave-within_at}
 
@@ -417,26 +416,6 @@ module _ {F R : Type 0} (g : Mut F (ℕ × Unit {0}) R) (read : R → Ordering) 
             (Searches-part g read sought (leads-below l n i a b ne f s) t.end t.searches);
         index = t.index ∙ read-below l n i t.end ne f lt t.searches.found;
       }
-
--- a find returns the index at which its search ends, or none if it ends in a gap
-pub Finds-from_searches :
-    {F R : Type 0} (g : Mut F (ℕ × Unit {0}) R) (read : R → Ordering) (xs : List ℕ) (end : Result ℕ ℕ)
-    (found : Option ℕ) (a b : Asking F)
-    → Searches g read xs None a end b
-    → found ≡ index_at xs end
-    → Finds g read xs a found b
-Finds-from_searches g read xs (Ok i) found a b s e = rw e (record {
-  asked = s.asked;
-  stored = Contains-at xs i _ s.found refl;
-  hit = s.hit;
-  miss = λ answer steady none. absurd (true≢false none);
-})
-Finds-from_searches g read xs (Err i) found a b s e = rw e (record {
-  asked = s.asked;
-  stored = tt;
-  hit = s.hit;
-  miss = λ answer steady none. none_at_place answer xs i (s.place answer steady);
-})
 
 -- what is neither in the row nor in a list is nowhere
 absent_woven :

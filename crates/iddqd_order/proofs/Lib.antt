@@ -8,6 +8,7 @@ mod FrontLemmas
 mod GapLeftLemmas
 pub mod GapLemmas
 mod GapNumberLemmas
+pub mod GatherLemmas
 pub mod IndexListLemmas
 mod InnerLemmas
 pub mod InsertLemmas
@@ -19,7 +20,6 @@ mod Names
 pub mod NearbyLemmas
 pub mod NodeLemmas
 mod NodeRenameLemmas
-mod OrderedTableLemmas
 mod PartLemmas
 mod RangeLemmas
 mod ReckoningLemmas
@@ -28,7 +28,7 @@ mod RemovalLemmas
 pub mod RenameLemmas
 mod RetainLemmas
 mod RoomLemmas
-mod SearchLemmas
+pub mod SearchLemmas
 pub mod TableLemmas
 pub mod TreeLemmas
 mod SpotCursorLemmas

@@ -4,7 +4,7 @@ pub use Rattle.iddqd.specs.MapHashLaws.{greater_before_in}
 pub use Rattle.iddqd.specs.declared.index_remap.IndexRemap.{IndexRemap}
 pub use Rattle.iddqd.specs.declared.index_remap.IndexRemap.TheVariants.{Identity, Permuted}
 pub use Rattle.iddqd_order.specs.Asking.{ask_count, closure_of}
-pub use Rattle.iddqd_order.specs.Asks.{After, AsksWithin, At_once, CanAsk, One_more, Steady}
+pub use Rattle.iddqd_order.specs.Asks.{After, AsksWithin, At_once, CanAsk, CanAskAgain, CanAskEach, One_more, Steady}
 pub use Rattle.iddqd_order.specs.Copies.{IsCopy}
 pub use Rattle.iddqd_order.specs.Descent.{Descends, FindsIn, index_at, EndsIn, stop_of, end_at, level_of}
 pub use Rattle.iddqd_order.specs.Digits.{bound, digits_within, row_asks}

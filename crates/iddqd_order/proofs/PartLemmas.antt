@@ -1,7 +1,8 @@
 -- A search in a part of a list, and what it says of a search in the whole.
 use Rattle.iddqd_order.proofs.Names.{◌≡◌, ◌∙◌, ℕ, ◌+◌, ◌-◌, ◌<◌, ◌≤◌, List, length, get_or, Contains, refl, sym, ap, arith, inl, inr, cases_lt, Option, Some, None, Result, Ok, Err, get_or_default, Ordering, Mut, AsksWithin, Steady, Asking, Askable, with_ties, IsRising, IsPlace, IsSteadyRising, SearchesWithin, closure_of}
-use Rattle.iddqd_order.proofs.AskLemmas.{asks_then, asks_more, asks_wider, Steady-fewer, Steady-later}
+use Rattle.iddqd_order.proofs.AskLemmas.{asks_then, asks_wider, Steady-fewer, Steady-later}
 use Rattle.iddqd_order.proofs.SearchLemmas.{AreSplit}
+pub use Rattle.iddqd_order.proofs.SearchLemmas.{SearchesWithin-more}
 
 -- the members of xs stand in ws in the same order, the i-th one at the place e i
 pub record Embeds (xs ws : List ℕ) (e : ℕ → ℕ) : Type 0 where
@@ -52,21 +53,6 @@ shifted n (Ok i) = Ok (n + i)
 shifted n (Err i) = Err (n + i)
 
 module _ {F R : Type 0} (g : Mut F (ℕ × Unit {0}) R) (read : R → Ordering) (sought : Option ℕ) where
-  pub SearchesWithin-more :
-      {xs : List ℕ} {k l : ℕ} {old new : Asking F} {end : Result ℕ ℕ}
-      → k ≤ l
-      → SearchesWithin g read xs k sought old end new
-      → SearchesWithin g read xs l sought old end new
-  SearchesWithin-more {xs = xs} le s = record {
-    asked = asks_more g (Askable xs sought) le s.asked;
-    found = s.found;
-    missed = s.missed;
-    itself = s.itself;
-    hit = s.hit;
-    place = s.place;
-    unequal = s.unequal;
-  }
-
   module _
       {xs ws : List ℕ} {e : ℕ → ℕ} (m : Embeds xs ws e) {n : ℕ} {old mid : Asking F}
       (led : AsksWithin g (Askable ws sought) n old mid)

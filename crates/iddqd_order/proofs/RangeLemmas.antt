@@ -1,10 +1,11 @@
 -- Walks between places, which are found by answers of which none is Equal.
-use Rattle.iddqd_order.proofs.Names.{◌≡◌, ◌≢◌, ◌↔◌, ℕ, ◌-◌, ◌≤◌, List, [], length, drop, slice_index, refl, ap, Option, Bool, arith, None, Err, length-drop, take_all, Ordering, Less, Equal, Greater, ordering_then, Mut, Asking, AsksWithin, Askable, IsTrue, Compares, IsRising, IsSteadyRising, Searches, SearchesWithin, Node, IsTree, in_order, Steps, next_behind, part, false, Back, Front}
+use Rattle.iddqd_order.proofs.Names.{◌≡◌, ◌≢◌, ◌↔◌, ℕ, ◌-◌, ◌≤◌, List, [], length, drop, slice_index, refl, ap, Option, Bool, arith, None, Err, length-drop, take_all, Ordering, Less, Equal, Greater, ordering_then, Mut, Asking, AsksWithin, Askable, IsTrue, Compares, IsRising, IsSteadyRising, Searches, SearchesWithin, Node, IsTree, in_order, Steps, Stands, gap_of, next_behind, part, false, Back, Front}
 use Rattle.std.specs.Iterator.{YieldsFirst, YieldsLast}
 use Rattle.std.specs.Ordering.{is_eq}
 use Rattle.std.specs.declared.ops.Bound.{Bound}
 use Rattle.std.specs.declared.ops.Bound.TheVariants.{Included, Excluded, Unbounded}
 use Rattle.iddqd_order.specs.Descent.{walk_asks}
+use Rattle.iddqd_order.specs.declared.btree_table.cursor.Cursor.{Cursor}
 use Rattle.iddqd_order.specs.Range.{Ends, EndsAt, IsBoundBy}
 use Rattle.iddqd_order.specs.Search.{SearchAsks}
 use Rattle.iddqd_order.proofs.AskLemmas.{Steady-later}
@@ -17,6 +18,12 @@ pub never-equal : (e o : Ordering) → e ≢ Equal → ordering_then o e ≢ Equ
 never-equal e Less ne = λ z. cc
 never-equal e Equal ne = ne
 never-equal e Greater ne = λ z. cc
+
+pub less-unequal : Less ≢ Equal
+less-unequal e = cc
+
+pub greater-unequal : Greater ≢ Equal
+greater-unequal e = cc
 
 rises-counted :
     (e : Ordering)
@@ -105,6 +112,29 @@ ends-met g read xs e ne a b i j s = record {
   ahead = s.ahead;
   same = s.same;
 }
+
+-- the same of a tree t and a table's tree u, which is the same
+module _
+    {F R : Type 0} (g : Mut F (ℕ × Unit {0}) R) (read : R → Ordering) (e : Ordering) (ne : e ≢ Equal)
+    {t u : Option Node} {h k : ℕ} (same : t ≡ u) (high : h ≡ k) (a b : Asking F) (c : Cursor)
+    (stands : Stands t h c)
+  where
+    pub bound-there :
+        IsTree u k
+        → SearchesWithin g (λ r. ordering_then (read r) e) (in_order t h) (walk_asks t h) None a (Err (gap_of t h c)) b
+        → Stands u k c × SearchAsks g (in_order u k) None a b × IsBoundBy g read e (in_order u k) a (gap_of u k c)
+    bound-there tree s =
+        let found = bound-sought g read t h e ne a b _ (rw (same, high) tree) s in
+        rw (← same, ← high) (stands, found.0, found.1)
+
+    pub ends-there :
+        (i : Cursor)
+        → EndsAt (in_order t h) (λ to. Searches g (λ r. ordering_then (read r) e) (in_order t h) None a (Err to) b)
+        (gap_of t h i) (gap_of t h c)
+        → Stands u k c × SearchAsks g (in_order u k) None a b
+        × EndsAt (in_order u k) (IsBoundBy g read e (in_order u k) a) (gap_of u k i) (gap_of u k c)
+    ends-there i s =
+        rw (← same, ← high) (stands, s.end.asked, ends-met g read (in_order t h) e ne a b _ _ s)
 
 -- a range without an upper bound
 pub ends-last : (xs : List ℕ) (i j : ℕ) → i ≤ length xs → j ≡ length xs → EndsAt xs (λ to. to ≡ length xs) i j

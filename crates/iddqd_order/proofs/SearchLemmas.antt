@@ -1,13 +1,29 @@
--- A search by halves through answers that rise.
-use Rattle.iddqd_order.proofs.Names.{◌≡◌, ◌≢◌, ◌∙◌, ℕ, ◌+◌, ◌<◌, ◌≤◌, List, Option, Some, None, length, get_or, Contains, refl, sym, ap, subst, All, arith, below_more, inl, inr, Result, Ok, Err, is_ok, true, nat_tests, get_or_default, cases_lt, Ordering, Less, Equal, Greater, Mut, Asking, Askable, with_ties, IsRising, IsPlace, IsSteadyRising, Searches}
+-- For callers too. A search by halves through answers that rise, and what its end says.
+use Rattle.iddqd_order.proofs.Names.{◌≡◌, ◌≢◌, ◌∙◌, ℕ, ◌+◌, ◌<◌, ◌≤◌, List, Option, Some, None, length, get_or, Contains, refl, ap, subst, All, arith, below_more, inl, inr, Result, Ok, Err, is_ok, true, nat_tests, get_or_default, cases_lt, Ordering, Less, Equal, Greater, Mut, Asking, Askable, with_ties, IsRising, IsPlace, IsSteadyRising, Searches, SearchesWithin, Finds, index_at, true≢false}
+use Rattle.iddqd_order.proofs.AskLemmas.{asks_more}
+use Rattle.iddqd_order.proofs.IndexListLemmas.{Contains-at}
 
-pub Askable-other :
+-- what may be asked: any stored index if none is sought, and else any other than that
+pub Askable-any :
     (xs : List ℕ) (sought : Option ℕ) (at : ℕ)
-    → sought ≢ Some at
+    → sought ≡ None
     → Contains xs at
     → Askable xs sought at
-Askable-other xs None at n h = h
-Askable-other xs (Some ix) at n h = (h, λ e. n (ap Some (sym e)))
+Askable-any xs None at none h = h
+Askable-any xs (Some ix) at none h = absurd cc
+
+pub Askable-apart :
+    (xs : List ℕ) (sought : Option ℕ) (at ix : ℕ)
+    → sought ≡ Some ix
+    → at ≢ ix
+    → Contains xs at
+    → Askable xs sought at
+Askable-apart xs None at ix some n h = h
+Askable-apart xs (Some is) at ix some n h = (h, λ e. n (let same : is ≡ ix = cc in e ∙ same))
+
+-- where nothing is sought, no index is
+pub none-sought : {A : Type 0} (ix : ℕ) → None ≡ Some ix → A
+none-sought ix e = absurd cc
 
 -- before low all answers are Greater, and from high on Less
 pub record AreSplit (answer : ℕ → Ordering) (xs : List ℕ) (low high : ℕ) : Type 0 where
@@ -81,3 +97,40 @@ pub met_where_stored :
 met_where_stored (Ok i) answer searches rises held = refl
 met_where_stored {xs = xs} {ix = ix} (Err i) answer searches rises held =
     absurd (not_missed answer xs ix i (searches.place answer rises) held)
+
+-- what is searched with at most k asks is searched with at most l, if l is no less
+module _ {F R : Type 0} (g : Mut F (ℕ × Unit {0}) R) (read : R → Ordering) (sought : Option ℕ) where
+  pub SearchesWithin-more :
+      {xs : List ℕ} {k l : ℕ} {old new : Asking F} {end : Result ℕ ℕ}
+      → k ≤ l
+      → SearchesWithin g read xs k sought old end new
+      → SearchesWithin g read xs l sought old end new
+  SearchesWithin-more {xs = xs} le s = record {
+    asked = asks_more g (Askable xs sought) le s.asked;
+    found = s.found;
+    missed = s.missed;
+    itself = s.itself;
+    hit = s.hit;
+    place = s.place;
+    unequal = s.unequal;
+  }
+
+-- a find returns the index at which its search ends, or none if it ends in a gap
+pub Finds-from_searches :
+    {F R : Type 0} (g : Mut F (ℕ × Unit {0}) R) (read : R → Ordering) (xs : List ℕ) (end : Result ℕ ℕ)
+    (found : Option ℕ) (a b : Asking F)
+    → Searches g read xs None a end b
+    → found ≡ index_at xs end
+    → Finds g read xs a found b
+Finds-from_searches g read xs (Ok i) found a b s e = rw e (record {
+  asked = s.asked;
+  stored = Contains-at xs i _ s.found refl;
+  hit = s.hit;
+  miss = λ answer steady none. absurd (true≢false none);
+})
+Finds-from_searches g read xs (Err i) found a b s e = rw e (record {
+  asked = s.asked;
+  stored = tt;
+  hit = s.hit;
+  miss = λ answer steady none. none_at_place answer xs i (s.place answer steady);
+})

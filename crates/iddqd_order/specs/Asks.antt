@@ -17,6 +17,14 @@ module _ {F R : Type 0} (g : Mut F (ℕ × Unit {0}) R) (P : ℕ → Type 0) whe
   pub record CanAsk (f : F) : Type 0 where
     pub at : (n : ℕ) (f' : F) → After n f f' → (ix : ℕ) → P ix → g.pre f' (ix, tt)
 
+  -- the same in two parts: the closure may be asked about each index with P
+  abbrev pub CanAskEach : F → Type 0
+  CanAskEach f = (ix : ℕ) → P ix → g.pre f (ix, tt)
+
+  -- and after any such ask it may be asked again
+  abbrev pub CanAskAgain : F → Type 0
+  CanAskAgain f = (ix : ℕ) (r : R) (f' : F) → P ix → Called g f (ix, tt) r f' → CanAsk f'
+
   -- the answers, as `read` turns them into `Ordering`s, are one function of the index, in every state that the
   -- closure's own asks leave
   pub record Steady (read : R → Ordering) (answer : ℕ → Ordering) (f : F) : Type 0 where

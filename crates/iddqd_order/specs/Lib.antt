@@ -12,13 +12,9 @@ pub mod KeyOrder
 pub mod MapBTreeTable
 pub mod Nearby
 pub mod Node
-pub mod OrderedIter
-pub mod OrderedTable
 pub mod PreparedBTreeInsert
 pub mod PreparedBTreeMove
 pub mod PreparedBTreeRemove
-pub mod PreparedInsert
-pub mod PreparedRemove
 pub mod Prepares
 pub mod Range
 pub mod Removal

@@ -38,7 +38,7 @@ mod renaming;
 mod reserve;
 mod retain;
 mod row;
-pub(crate) mod search;
+pub mod search;
 pub mod spot;
 mod spot_cursor;
 mod state;

@@ -3,7 +3,7 @@ use super::calls::Table;
 use super::{fill, find_told, insert_told, remove_told};
 use iddqd::item_index::ItemIndex;
 use iddqd_order::btree_table::MapBTreeTable;
-use iddqd_order::ordered_table_reference::OrderedTable;
+use iddqd_order_reference::ordered_table_reference::OrderedTable;
 use std::alloc::AllocError;
 use std::cmp::Ordering;
 use std::process::Abort;

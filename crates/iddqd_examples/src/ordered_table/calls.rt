@@ -3,13 +3,13 @@ ghost use Rattle.std.specs.Prelude.{◌≢◌, ◌↔◌, ℕ, List, Some, None,
 ghost use Rattle.iddqd.specs.Compaction.{sentinel};
 ghost use Rattle.iddqd_order.specs.Asks.{CanAsk};
 ghost use Rattle.iddqd_order.specs.MapBTreeTable as tree;
-ghost use Rattle.iddqd_order.specs.OrderedTable as vector;
+ghost use Rattle.iddqd_order_reference.specs.OrderedTable as vector;
 ghost use Rattle.iddqd_order.specs.Search.{CanSearch};
 
 use iddqd::item_index::ItemIndex;
 use iddqd::map_hash::Comparable;
 use iddqd_order::btree_table::{Asking, MapBTreeTable};
-use iddqd_order::ordered_table_reference::OrderedTable;
+use iddqd_order_reference::ordered_table_reference::OrderedTable;
 use std::alloc::AllocError;
 use std::cmp::Ordering;
 

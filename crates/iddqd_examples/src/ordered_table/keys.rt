@@ -4,7 +4,7 @@ use super::{append, has_order};
 use iddqd::item_index::ItemIndex;
 use iddqd::map_hash::Same;
 use iddqd_order::btree_table::{Asking, MapBTreeTable};
-use iddqd_order::ordered_table_reference::OrderedTable;
+use iddqd_order_reference::ordered_table_reference::OrderedTable;
 use std::alloc::AllocError;
 use std::cmp::Ordering;
 use std::process::Abort;

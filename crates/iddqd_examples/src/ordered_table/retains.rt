@@ -4,7 +4,7 @@ use super::thousand::{fill_thousand, gives};
 use super::{append, has_order};
 use iddqd::item_index::ItemIndex;
 use iddqd_order::btree_table::MapBTreeTable;
-use iddqd_order::ordered_table_reference::OrderedTable;
+use iddqd_order_reference::ordered_table_reference::OrderedTable;
 use std::alloc::AllocError;
 use std::process::Abort;
 use std::test::Fail;

@@ -3,7 +3,7 @@ use super::calls::Table;
 use super::insert_by;
 use iddqd::item_index::ItemIndex;
 use iddqd_order::btree_table::{Asking, MapBTreeTable};
-use iddqd_order::ordered_table_reference::OrderedTable;
+use iddqd_order_reference::ordered_table_reference::OrderedTable;
 use std::alloc::AllocError;
 use std::process::Abort;
 use std::test::Fail;

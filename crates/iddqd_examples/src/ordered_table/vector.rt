@@ -2,7 +2,7 @@
 use super::{append, has_order};
 use iddqd::index_remap::IndexRemap;
 use iddqd::item_index::ItemIndex;
-use iddqd_order::ordered_table_reference::OrderedTable;
+use iddqd_order_reference::ordered_table_reference::OrderedTable;
 use std::alloc::AllocError;
 use std::process::Abort;
 use std::test::Fail;

@@ -4,12 +4,14 @@
 //! front or two in each of up to three leaves, are within the bound of `4 + 2 * digits(len)`.
 ghost use Rattle.std.specs.Prelude.{◌≡◌, ◌≢◌, ℕ, ◌+◌, ◌*◌, ◌<◌, ◌≤◌, Some, None, IfSome, IsNone, Contains, length, slice_index};
 ghost use Rattle.std.specs.declared.cmp.Ordering.{Ordering};
+ghost use Rattle.iddqd_order.specs.Asking.{closure_of};
+ghost use Rattle.iddqd_order.specs.Asks.{CanAskAgain, CanAskEach};
 ghost use Rattle.iddqd_order.specs.Cursor.{leaf, leaf_parent};
 ghost use Rattle.iddqd_order.specs.Descent.{Descends, FindsIn, Seeks};
 ghost use Rattle.iddqd_order.specs.Digits.{row_asks};
 ghost use Rattle.iddqd_order.specs.MapBTreeTable.{StandsAt};
 ghost use Rattle.iddqd_order.specs.Node.{flat, IsFormed, LeadsToIndex};
-ghost use Rattle.iddqd_order.specs.Search.{CanSearch, SearchesWithin};
+ghost use Rattle.iddqd_order.specs.Search.{Askable, CanSearch, SearchesWithin};
 ghost use Rattle.iddqd_order.specs.Shape.{most_in_row, most_levels};
 
 use crate::btree_table::asking::Asking;
@@ -175,7 +177,8 @@ fn search_row<R, F: FnMut(ItemIndex) -> R, H: Reads<R>>(
     how: &H,
     sought: &Option<ItemIndex>,
 ) -> Result<usize, usize>
-    requires { CanSearch F.FnMut row.now sought.now asking.old }
+    requires each { CanAskEach F.FnMut (Askable row.now sought.now) (closure_of asking.old) }
+    requires again { CanAskAgain F.FnMut (Askable row.now sought.now) (closure_of asking.old) }
     ensures { SearchesWithin F.FnMut (H.reading how.now) row.now row_asks sought.now asking.old result asking.new }
 {
     let items = row.as_slice();

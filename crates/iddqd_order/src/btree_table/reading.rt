@@ -20,9 +20,9 @@ pub trait Reads<R> {
         ensures { result ≡ reading self.now answer };
 }
 
-// The answer is the ordering itself.
+/// Takes the answer as it is: an `Ordering`.
 #[derive(Clone, Copy)]
-pub(crate) struct AsOrdering;
+pub struct AsOrdering;
 
 impl Reads<Ordering> for AsOrdering {
     ghost reading = { λ _ r. r };
@@ -32,9 +32,9 @@ impl Reads<Ordering> for AsOrdering {
     }
 }
 
-// The answer is a key, and the query is compared with it.
+/// Compares a query with the key that is the answer.
 #[derive(Drop)]
-pub(crate) struct ByQuery<'a, Q>(pub(crate) &'a Q);
+pub struct ByQuery<'a, Q>(pub &'a Q);
 
 impl<'a, K: Ord + Drop, Q: Comparable<K>> Reads<K> for ByQuery<'a, Q> {
     ghost reading = { λ by k. Q.compare by.0.now k };
@@ -55,9 +55,9 @@ pub(super) fn by_query<Q>(bound: Bound<&Q>) -> Bound<ByQuery<'_, Q>>
     }
 }
 
-// The answer is a key, and this key is compared with it.
+/// Compares a key with the key that is the answer.
 #[derive(Drop)]
-pub(crate) struct ByKey<'a, K>(pub(crate) &'a K);
+pub struct ByKey<'a, K>(pub &'a K);
 
 impl<'a, K: Ord + Drop> Reads<K> for ByKey<'a, K> {
     ghost reading = { λ by k. K.cmp by.0.now k };

@@ -1,4 +1,4 @@
-//! The search of a row by halves, and of the vector of an `OrderedTable`. All calls that search use it.
+//! The search of a row by halves, and of the whole vector of `iddqd_order_reference`. All calls that search use it.
 //!
 //! Four asks search fifteen indexes, and a row has at most eleven. To go along a row from the left was faster
 //! for keys that are numbers, but asked up to eleven times. The `match` compares two indexes only if the answer
@@ -6,9 +6,9 @@
 ghost use Rattle.std.specs.Prelude.{◌≡◌, ◌≢◌, ℕ, ◌+◌, ◌*◌, ◌<◌, ◌≤◌, List, Contains, Some, None, length};
 ghost use Rattle.std.specs.declared.cmp.Ordering.{Ordering};
 ghost use Rattle.iddqd_order.specs.Asking.{closure_of};
-ghost use Rattle.iddqd_order.specs.Asks.{AsksWithin, Steady};
+ghost use Rattle.iddqd_order.specs.Asks.{AsksWithin, CanAskAgain, CanAskEach, Steady};
 ghost use Rattle.iddqd_order.specs.Digits.{digits};
-ghost use Rattle.iddqd_order.specs.Search.{Askable, CanSearch, SearchesWithin, with_ties};
+ghost use Rattle.iddqd_order.specs.Search.{Askable, SearchesWithin, with_ties};
 
 use crate::btree_table::asking::Asking;
 use crate::btree_table::reading::Reads;
@@ -22,7 +22,8 @@ pub(super) fn compare<R, F: FnMut(ItemIndex) -> R, H: Reads<R>>(
     sought: &Option<ItemIndex>,
     at: ItemIndex,
 ) -> Ordering
-    requires { sought.now ≢ Some at → F.pre (closure_of asking.old) at }
+    requires any { sought.now ≡ None → F.pre (closure_of asking.old) at }
+    requires other { (ix : ℕ) → sought.now ≡ Some ix → at ≢ ix → F.pre (closure_of asking.old) at }
     ensures asks { (xs : List ℕ) → Contains xs at →
         AsksWithin F.FnMut (Askable xs sought.now) 1 asking.old asking.new }
     ensures steady { (xs : List ℕ) (answer : ℕ → Ordering) → Contains xs at →
@@ -46,15 +47,20 @@ pub(super) fn compare<R, F: FnMut(ItemIndex) -> R, H: Reads<R>>(
     }
 }
 
-// Searches a row, or a whole vector: the place of what is sought, or of the gap where it would go.
+/// Searches a slice of indexes by halves: the position of what is sought, or of the gap where it would go.
+///
+/// It asks at most as often as the slice's length has binary digits, about indexes of the slice alone. Less means that
+/// what is sought stands before the index. An index that is sought is not asked about, and if an answer is Equal, the
+/// lesser of the two comes first. The answers may be anything, and differ from call to call.
 #[inline(always)]
-pub(crate) fn search<R, F: FnMut(ItemIndex) -> R, H: Reads<R>>(
+pub fn search<R, F: FnMut(ItemIndex) -> R, H: Reads<R>>(
     items: &[ItemIndex],
     asking: &mut Asking<F>,
     how: &H,
     sought: &Option<ItemIndex>,
 ) -> Result<usize, usize>
-    requires { CanSearch F.FnMut items.now sought.now asking.old }
+    requires each { CanAskEach F.FnMut (Askable items.now sought.now) (closure_of asking.old) }
+    requires again { CanAskAgain F.FnMut (Askable items.now sought.now) (closure_of asking.old) }
     ensures { let most = digits (length items.now) in
         SearchesWithin F.FnMut (H.reading how.now) items.now most sought.now asking.old result asking.new }
 {

@@ -3,8 +3,11 @@ use Rattle.iddqd_order.proofs.DigitLemmas.{four_digits}
 use Rattle.iddqd_order.proofs.PartLemmas.{SearchesWithin-more}
 use Rattle.iddqd_order.proofs.btree_table.descent.search_row.Goals as goal
 
-pub search-requires : goal.search-requires
-search-requires g c = rw c.as_slice-items.ensures c.requires
+pub search-requires-clause-each : goal.search-requires-clause-each
+search-requires-clause-each g c = rw c.as_slice-items.ensures c.requires.each
+
+pub search-requires-clause-again : goal.search-requires-clause-again
+search-requires-clause-again g c = rw c.as_slice-items.ensures c.requires.again
 
 pub returns : goal.returns
 returns g c =

@@ -28,14 +28,24 @@ late :
 late ks lo hi n i a p q e f =
     rw (e, f) (sym (insert-append_right (take n ks) (drop n ks) n (i + 1) a (length-take-le n ks q) p) ∙ ap (λ z. insert z (i + 1) a) (take-append-drop n ks))
 
-pub returns-then-i-low-clause-parts : goal.returns-then-i-low-clause-parts
-returns-then-i-low-clause-parts c =
-    let n : length c.args.children.now.items ≡ most_children = search rules in
-    early _ _ _ (c.args.low - 1) c.args.i c.args.after (omega (arith, c.if-i-low.true))
-    (omega (arith, c.requires.not_all)) (search rules) c.move_tail.ensures.tail
+pub returns-then-i-low : goal.returns-then-i-low
+returns-then-i-low c = record {
+  parts = (
+      let n : length c.args.children.now.items ≡ most_children = search rules in
+      early _ _ _ (c.args.low - 1) c.args.i c.args.after (omega (arith, c.if-i-low.true))
+      (omega (arith, c.requires.not_all)) (search rules) c.move_tail.ensures.tail);
+  capacity = search rules;
+  low = search rules;
+  other_capacity = omega arith;
+}
 
-pub returns-else-i-low-clause-parts : goal.returns-else-i-low-clause-parts
-returns-else-i-low-clause-parts c =
-    let n : length c.args.children.now.items ≡ most_children = search rules in
-    late _ _ _ c.args.low c.args.i c.args.after (omega (arith, c.if-i-low.false))
-    (omega (arith, c.requires.not_all)) c.move_tail-else-i-low.ensures.head (search rules)
+pub returns-else-i-low : goal.returns-else-i-low
+returns-else-i-low c = record {
+  parts = (
+      let n : length c.args.children.now.items ≡ most_children = search rules in
+      late _ _ _ c.args.low c.args.i c.args.after (omega (arith, c.if-i-low.false))
+      (omega (arith, c.requires.not_all)) c.move_tail-else-i-low.ensures.head (search rules));
+  capacity = omega arith;
+  low = search rules;
+  other_capacity = omega arith;
+}

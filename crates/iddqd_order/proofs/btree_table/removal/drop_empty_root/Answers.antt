@@ -6,11 +6,18 @@ use Rattle.iddqd_order.proofs.btree_table.removal.drop_empty_root.Goals as goal
 bared : (c : goal.After-drop-children) → IsBare c.args.height c.args.root.now
 bared c = bare c.args.height c.args.root.now c.in-Some.field-0 c.in-Some.ensures.value c.requires.emptied (search rules)
 
-pub returns-in_default-pop-clause-inners : goal.returns-in_default-pop-clause-inners
-returns-in_default-pop-clause-inners c = rw c.take.ensures.after (omega (arith, (bared c).inners))
-
-pub returns-in_default-pop-clause-items : goal.returns-in_default-pop-clause-items
-returns-in_default-pop-clause-items c = rw c.take.ensures.after (sym (bared c).items)
+pub returns-in_default-pop : goal.returns-in_default-pop
+returns-in_default-pop c = record {
+  places = λ p goes.
+      rw c.take.ensures.after
+      (sym (bare-place c.args.height c.args.root.now c.in-Some.field-0 p c.in-Some.ensures.value c.requires.emptied (search rules) goes));
+  items = rw c.take.ensures.after (sym (bared c).items);
+  inners = rw c.take.ensures.after (omega (arith, (bared c).inners));
+  reserved = search rules;
+  goes = search rules;
+  no_higher = search rules;
+  tree = search rules;
+}
 
 pub put_back-requires-clause-block : goal.put_back-requires-clause-block
 put_back-requires-clause-block c =
@@ -28,24 +35,24 @@ left :
 left c =
     lowered c.args.height c.args.root.now c.in-Some.field-0 c.pop.new.self.items c.in-Some-pop.child c.in-Some.ensures.value c.requires.emptied c.in-Some-pop.ensures.items
 
-pub returns-clause-inners : goal.returns-clause-inners
-returns-clause-inners c = rw c.saturating_sub.ensures (omega (arith, (left c).inners))
+pub returns : goal.returns
+returns c = record {
+  items = rw c.saturating_sub.ensures (left c).items;
+  goes = λ p goes. rw c.saturating_sub.ensures (lowered-goes c.args.height c.args.root.now c.in-Some.field-0 c.pop.new.self.items c.in-Some-pop.child p c.in-Some.ensures.value c.requires.emptied c.in-Some-pop.ensures.items (left c).alone goes).goes;
+  inners = rw c.saturating_sub.ensures (omega (arith, (left c).inners));
+  places = λ p goes. rw c.saturating_sub.ensures (lowered-goes c.args.height c.args.root.now c.in-Some.field-0 c.pop.new.self.items c.in-Some-pop.child p c.in-Some.ensures.value c.requires.emptied c.in-Some-pop.ensures.items (left c).alone goes).place;
+  tree = rw c.saturating_sub.ensures (left c).tree;
+  reserved = search rules;
+  no_higher = search rules;
+}
 
-pub returns-clause-tree : goal.returns-clause-tree
-returns-clause-tree c = rw c.saturating_sub.ensures (left c).tree
-
-pub returns-clause-items : goal.returns-clause-items
-returns-clause-items c = rw c.saturating_sub.ensures (left c).items
-
-pub returns-in_default-pop-clause-places : goal.returns-in_default-pop-clause-places
-returns-in_default-pop-clause-places c p goes =
-    rw c.take.ensures.after
-    (sym (bare-place c.args.height c.args.root.now c.in-Some.field-0 p c.in-Some.ensures.value c.requires.emptied (search rules) goes))
-
-pub returns-clause-goes : goal.returns-clause-goes
-returns-clause-goes c p goes =
-    rw c.saturating_sub.ensures (lowered-goes c.args.height c.args.root.now c.in-Some.field-0 c.pop.new.self.items c.in-Some-pop.child p c.in-Some.ensures.value c.requires.emptied c.in-Some-pop.ensures.items (left c).alone goes).goes
-
-pub returns-clause-places : goal.returns-clause-places
-returns-clause-places c p goes =
-    rw c.saturating_sub.ensures (lowered-goes c.args.height c.args.root.now c.in-Some.field-0 c.pop.new.self.items c.in-Some-pop.child p c.in-Some.ensures.value c.requires.emptied c.in-Some-pop.ensures.items (left c).alone goes).place
+pub returns-in_default : goal.returns-in_default
+returns-in_default c = record {
+  tree = search rules;
+  places = search rules;
+  reserved = search rules;
+  items = search rules;
+  no_higher = search rules;
+  goes = search rules;
+  inners = search rules;
+}

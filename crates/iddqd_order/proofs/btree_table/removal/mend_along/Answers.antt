@@ -71,3 +71,6 @@ returns-clause-leads c = (led c).leads
 
 pub returns-clause-place : goal.returns-clause-place
 returns-clause-place c = (led c).same
+
+pub returns-clause-capacity : goal.returns-clause-capacity
+returns-clause-capacity c = c.fill_up.ensures.capacity

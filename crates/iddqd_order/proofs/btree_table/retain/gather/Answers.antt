@@ -3,7 +3,7 @@ use Rattle.std.proofs.lemmas.List.{append-nil}
 use Rattle.std.proofs.lemmas.Grind.{take-set_at}
 use Rattle.iddqd_order.specs.Asks.{At_once}
 use Rattle.iddqd_order.specs.Node.{flat}
-use Rattle.iddqd_order.proofs.RetainLemmas.{gathers-none, next_held, gathers-next, gathers-all}
+use Rattle.iddqd_order.proofs.GatherLemmas.{gathers-none, next_held, gathers-next, gathers-all}
 use Rattle.iddqd_order.proofs.SpotCursorLemmas.{IsSpotCursor-first, IsSpotCursor-same}
 use Rattle.iddqd_order.proofs.btree_table.retain.gather.Goals as goal
 
@@ -72,10 +72,20 @@ loop-from-preserved-then-f g c =
           (rw (yes, put.items) (take-set_at old place c.replace.new.self.place c.step-ix.result put.place (omega arith))) (rw put.items (drop-set-lt c.step-ix.new.self.place old place c.step-ix.result (omega arith))) put.same_places.long (omega arith);
     }
 
-pub returns-clause-kept : goal.returns-clause-kept
-returns-clause-kept g c =
-    let i = c.loop-from.invariant in
-    let counted = i.gathers.counted in
-    let len = c.requires.counted in
-    let test = c.loop-from-test.false in
-    gathers-all g.F.FnMut i.gathers (omega arith)
+pub returns : goal.returns
+returns g c = record {
+  kept = (
+      let i = c.loop-from.invariant in
+      let counted = i.gathers.counted in
+      let len = c.requires.counted in
+      let test = c.loop-from-test.false in
+      gathers-all g.F.FnMut i.gathers (omega arith));
+  inners = search rules;
+  within = search rules;
+  counted = search rules;
+  some = search rules;
+  formed = search rules;
+}
+
+pub replace-requires-clause-levels : goal.replace-requires-clause-levels
+replace-requires-clause-levels g c = c.requires.levels

@@ -1,7 +1,7 @@
 use Rattle.std.proofs.Common.{◌≡◌, ◌-◌, ◌≤◌, length}
 use Rattle.iddqd_order.specs.Node.{row, flat, inners, IsFormed}
 use Rattle.iddqd_order.specs.SpotCursor.{IsSpotCursor}
-use Rattle.iddqd_order.proofs.RetainLemmas.{Gathers}
+use Rattle.iddqd_order.proofs.GatherLemmas.{Gathers}
 use Rattle.iddqd_order.proofs.btree_table.retain.gather.Given as goal
 
 abbrev pub invariant-loop-from : goal.invariant-loop-from

@@ -1,7 +1,7 @@
 use Rattle.iddqd_order.proofs.Names.{arith, ◌≡◌, ℕ, List, ◌+◌, ◌-◌, ◌/◌, ◌≤◌, digits, ◌<◌, length, get_or, Contains, refl, sym, ◌∙◌, ap, get_or_default, Askable, with_ties}
-use Rattle.iddqd_order.proofs.AskLemmas.{asks_none, asks_then, asks_more, Steady-later}
+use Rattle.iddqd_order.proofs.AskLemmas.{asks_none, asks_then, asks_more, CanAsk-parts, Steady-later}
 use Rattle.iddqd_order.proofs.DigitLemmas.{digits-half, digits-mono}
-use Rattle.iddqd_order.proofs.SearchLemmas.{Askable-other, IsPlace-from_split, split-init, split-less, split-greater}
+use Rattle.iddqd_order.proofs.SearchLemmas.{Askable-any, Askable-apart, IsPlace-from_split, split-init, split-less, split-greater}
 use Rattle.iddqd_order.proofs.btree_table.search.search.Goals as goal
 
 -- what is read at a place
@@ -80,7 +80,14 @@ returns g c =
       unequal = λ none never. refl;
     }
 
-pub compare-requires : goal.compare-requires
-compare-requires g c other =
-    c.requires.at _ _ c.loop-low.invariant.asked.2.after _
-    (Askable-other c.args.items.now c.args.sought.now _ other (met _ _ _ (omega arith) c.index-items-middle.is).1)
+pub compare-requires-clause-any : goal.compare-requires-clause-any
+compare-requires-clause-any g c none =
+    let can = CanAsk-parts g.F.FnMut (Askable c.args.items.now c.args.sought.now) c.requires.each c.requires.again in
+    can.at _ _ c.loop-low.invariant.asked.2.after _
+    (Askable-any c.args.items.now c.args.sought.now _ none (met _ _ _ (omega arith) c.index-items-middle.is).1)
+
+pub compare-requires-clause-other : goal.compare-requires-clause-other
+compare-requires-clause-other g c ix some apart =
+    let can = CanAsk-parts g.F.FnMut (Askable c.args.items.now c.args.sought.now) c.requires.each c.requires.again in
+    can.at _ _ c.loop-low.invariant.asked.2.after _
+    (Askable-apart c.args.items.now c.args.sought.now _ ix some apart (met _ _ _ (omega arith) c.index-items-middle.is).1)

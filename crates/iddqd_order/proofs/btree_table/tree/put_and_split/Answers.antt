@@ -1,3 +1,4 @@
+use Rattle.std.proofs.Common.{rules}
 use Rattle.std.proofs.Common.{◌+◌, arith, ◌∙◌}
 use Rattle.iddqd_order.proofs.InsertLemmas.{Split, all_full}
 use Rattle.iddqd_order.proofs.InnerLemmas.{inners-root}
@@ -43,3 +44,13 @@ pub take-children-requires-clause-fits : goal.take-children-requires-clause-fits
 take-children-requires-clause-fits c =
     let few = inners-root _ _ c.requires.formed c.requires.root in
     omega (arith, c.requires.levels, c.requires.fits, c.requires.inners, c.split-middle.ensures.counted)
+
+pub returns-then-full-height : goal.returns-then-full-height
+returns-then-full-height c = record {
+  reserved = search rules;
+  levels = search rules;
+  formed = search rules;
+  inners = omega arith;
+  items = search rules;
+  root = search rules;
+}

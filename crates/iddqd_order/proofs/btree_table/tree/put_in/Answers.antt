@@ -20,3 +20,11 @@ returns-in-None-clause-items c =
 
 pub returns-in-None-clause-inners : goal.returns-in-None-clause-inners
 returns-in-None-clause-inners c = rw c.in-None.is at c.requires.inners ∙ sym (inners-leaf 0 _ refl)
+
+pub returns-then-full-eq0 : goal.returns-then-full-eq0
+returns-then-full-eq0 c = record {
+  reserved = search rules;
+  items = search rules;
+  tree = search rules;
+  inners = search rules;
+}

@@ -1,3 +1,5 @@
+use Rattle.std.proofs.Common.{arith}
+use Rattle.std.proofs.lemmas.Grind.{common_steps}
 use Rattle.iddqd_order.specs.IntoIter.{indexes_to_come}
 use Rattle.iddqd_order.proofs.CursorLemmas.{left-back}
 use Rattle.iddqd_order.proofs.TreeLemmas.{place_in-within}
@@ -14,3 +16,7 @@ returns-clause-steps c =
     let i = c.self.invariant in
     rw (← c.self.view_is)
     (left-back _ _ _ _ _ _ c.if-self-eq0.false i.3 (place_in-within _ _ _ i.0 i.2.gap.goes) c.next_back.ensures.next).1
+
+pub returns-clause-goes : goal.returns-clause-goes
+unfolding indexes_to_come
+returns-clause-goes c = let steps = returns-clause-steps c in grind (arith, common_steps)

@@ -1,3 +1,4 @@
+use Rattle.std.proofs.lemmas.Bool.{true≢false}
 use Rattle.iddqd_order.proofs.Names.{◌≡◌, ◌<◌, length, arith, refl, ◌∙◌, below_more, rules, children, child}
 use Rattle.iddqd_order.proofs.NodeLemmas.{formed-within, formed-inner, child-formed, path-here, path-above}
 use Rattle.iddqd_order.proofs.DescentLemmas.{child_is, holds_index-here, holds_index-below, absent_leaf, absent_inner}
@@ -35,18 +36,20 @@ locate-requires t c =
     let levels = c.requires.levels in
     (omega arith, (rw same (child-formed c.args.height c.args.self.now c.loop-i.i c.if-height-eq0.false c.requires.formed lt), (omega arith, c.set-in-loop-i.ensures.length)))
 
-pub returns-in-Some-locate-clause-there : goal.returns-in-Some-locate-clause-there
-returns-in-Some-locate-clause-there t c =
-    let h = c.args.height in let i = c.loop-i.i in
-    let lt : i < length (children c.args.self.now) = search rules in
-    let here = c.in-Some-locate.ensures.above h (omega arith) ∙ path-here c.loop-i.path c.set-in-loop-i.new.self h i c.loop-i.invariant.path c.requires.levels c.set-in-loop-i.ensures.place in
-    holds_index-below c.in-Some-locate.level h i c.args.self.now c.index.result.now c.locate.new.path c.args.ix c.if-height-eq0.false c.requires.formed here lt c.index.ensures c.in-Some-locate.ensures.there
-
-pub returns-in-Some-locate-clause-above : goal.returns-in-Some-locate-clause-above
-returns-in-Some-locate-clause-above t c l lt =
-    c.in-Some-locate.ensures.above l (omega arith)
-    ∙ path-above c.loop-i.path c.set-in-loop-i.new.self c.args.height c.loop-i.i l c.set-in-loop-i.ensures.place lt
-    ∙ c.loop-i.invariant.above l lt
+pub returns-in-Some-locate : goal.returns-in-Some-locate
+returns-in-Some-locate t c = record {
+  above = λ l lt.
+      c.in-Some-locate.ensures.above l (omega arith)
+      ∙ path-above c.loop-i.path c.set-in-loop-i.new.self c.args.height c.loop-i.i l c.set-in-loop-i.ensures.place lt
+      ∙ c.loop-i.invariant.above l lt;
+  there = (
+      let h = c.args.height in let i = c.loop-i.i in
+      let lt : i < length (children c.args.self.now) = search rules in
+      let here = c.in-Some-locate.ensures.above h (omega arith) ∙ path-here c.loop-i.path c.set-in-loop-i.new.self h i c.loop-i.invariant.path c.requires.levels c.set-in-loop-i.ensures.place in
+      holds_index-below c.in-Some-locate.level h i c.args.self.now c.index.result.now c.locate.new.path c.args.ix c.if-height-eq0.false c.requires.formed here lt c.index.ensures c.in-Some-locate.ensures.there);
+  path = c.in-Some-locate.ensures.path;
+  missing = λ x. absurd (true≢false x);
+}
 
 pub loop-i-preserved : goal.loop-i-preserved
 loop-i-preserved t c =
@@ -60,9 +63,14 @@ loop-i-preserved t c =
       missing = below_more _ _ c.loop-i.invariant.missing (rw same at (c.in_default-locate.ensures.missing refl));
     }
 
-pub returns-clause-missing : goal.returns-clause-missing
-returns-clause-missing t c none =
-    let over = c.loop-i-test.false in
-    absent_inner c.args.height c.args.self.now c.args.ix c.if-height-eq0.false c.requires.formed
-    (rw c.as_slice.ensures at (c.in_default.ensures.missing refl))
-    (λ k lt. c.loop-i.invariant.missing k (let all : k < c.len-i-end.result = search (rules, lt) in omega arith))
+pub returns : goal.returns
+returns t c = record {
+  missing = λ none.
+      let over = c.loop-i-test.false in
+      absent_inner c.args.height c.args.self.now c.args.ix c.if-height-eq0.false c.requires.formed
+      (rw c.as_slice.ensures at (c.in_default.ensures.missing refl))
+      (λ k lt. c.loop-i.invariant.missing k (let all : k < c.len-i-end.result = search (rules, lt) in omega arith));
+  above = omega arith;
+  path = omega arith;
+  there = search rules;
+}

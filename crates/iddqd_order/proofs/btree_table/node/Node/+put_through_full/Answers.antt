@@ -59,19 +59,27 @@ put_between-requires t c =
       has_room = simp out-roll-Node b.node.has_room;
     }
 
-pub returns-then-height-full-clause-put : goal.returns-then-height-full-clause-put
-returns-then-height-full-clause-put t c =
-    let k =
-    is_taken c.args.height _ _ _ c.index_mut.result.now
-    (λ e. absurd (omega arith)) c.requires.formed c.requires.goes c.get-i.ensures c.index_mut.ensures.value in
-    put_below c.args.height c.args.self.now (roll-Node _) c.args.path.now c.args.ix c.get-i.result c.index_mut.result.now c.put_through_full.new.self k c.put_through_full.ensures.put
-    (row-roll _) (children-roll _) (room-from _ (taken _ _ _ _ _ k).node.has_room)
+pub returns-then-height-full : goal.returns-then-height-full
+returns-then-height-full t c = record {
+  put = (
+      let k =
+      is_taken c.args.height _ _ _ c.index_mut.result.now
+      (λ e. absurd (omega arith)) c.requires.formed c.requires.goes c.get-i.ensures c.index_mut.ensures.value in
+      put_below c.args.height c.args.self.now (roll-Node _) c.args.path.now c.args.ix c.get-i.result c.index_mut.result.now c.put_through_full.new.self k c.put_through_full.ensures.put
+      (row-roll _) (children-roll _) (room-from _ (taken _ _ _ _ _ k).node.has_room));
+  counted = search rules;
+  reserved = c.put_through_full.ensures.reserved;
+}
 
-pub returns-else-height-full-clause-put : goal.returns-else-height-full-clause-put
-returns-else-height-full-clause-put t c =
-    let some = c.requires.some in let not_all = c.requires.not_all in let last = c.if-height-full.false in
-    let k = is_taken c.args.height _ _ _ c.index_mut-else-height-full.result.now (λ e. absurd (omega arith)) c.requires.formed c.requires.goes c.get-i.ensures c.index_mut-else-height-full.ensures.value in
-    let e = simp out-roll-Node at c.put_between.ensures in
-    let level : c.args.full - 1 ≡ c.args.height - 1 = omega arith in
-    rw level (put_here c.args.height c.args.self.now (roll-Node _) c.args.path.now c.args.ix c.get-i.result c.index_mut-else-height-full.result.now c.split-middle.new.self c.split-middle.result.0 c.split-middle.result.1 k
-    (record { items = c.split-middle.ensures.items; low = c.split-middle.ensures.low; high = c.split-middle.ensures.high; inner = c.split-middle.ensures.inner }) ((full-here _ _ _ _ c.requires.full).1 (omega arith)) (row-roll _ ∙ e.row) (children-roll _ ∙ e.children) (room-from _ e.has_room))
+pub returns-else-height-full : goal.returns-else-height-full
+returns-else-height-full t c = record {
+  put = (
+      let some = c.requires.some in let not_all = c.requires.not_all in let last = c.if-height-full.false in
+      let k = is_taken c.args.height _ _ _ c.index_mut-else-height-full.result.now (λ e. absurd (omega arith)) c.requires.formed c.requires.goes c.get-i.ensures c.index_mut-else-height-full.ensures.value in
+      let e = simp out-roll-Node at c.put_between.ensures in
+      let level : c.args.full - 1 ≡ c.args.height - 1 = omega arith in
+      rw level (put_here c.args.height c.args.self.now (roll-Node _) c.args.path.now c.args.ix c.get-i.result c.index_mut-else-height-full.result.now c.split-middle.new.self c.split-middle.result.0 c.split-middle.result.1 k
+      (record { items = c.split-middle.ensures.items; low = c.split-middle.ensures.low; high = c.split-middle.ensures.high; inner = c.split-middle.ensures.inner }) ((full-here _ _ _ _ c.requires.full).1 (omega arith)) (row-roll _ ∙ e.row) (children-roll _ ∙ e.children) (room-from _ e.has_room)));
+  counted = omega arith;
+  reserved = c.split-middle.ensures.reserved;
+}

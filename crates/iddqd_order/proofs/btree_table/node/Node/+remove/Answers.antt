@@ -214,3 +214,6 @@ returns t c =
       path = did.path;
       above = λ m lt. did.above m lt ∙ (kept_above t c.before).1 m lt;
     }
+
+pub set_and_zero_below-requires-clause-path : goal.set_and_zero_below-requires-clause-path
+set_and_zero_below-requires-clause-path t c = c.requires.path

@@ -1,12 +1,20 @@
 use Rattle.iddqd_order.proofs.Names.{◌≡◌, ◌-◌, ◌<◌, Some, None, length, sym, subst, rules, FindsIn, children, child, flat, CanSearch}
+use Rattle.iddqd_order.proofs.AskLemmas.{CanAsk-each, CanAsk-again}
 use Rattle.iddqd_order.proofs.NodeLemmas.{child-formed}
 use Rattle.iddqd_order.proofs.DescentLemmas.{FindsIn-hit, FindsIn-leaf, FindsIn-below, can_ask_row, can_ask_below, child-within, child_is}
 use Rattle.iddqd_order.proofs.btree_table.node.Node.find.Goals as goal
 
-pub search_row-requires : goal.search_row-requires
-search_row-requires g c =
+pub search_row-requires-clause-each : goal.search_row-requires-clause-each
+search_row-requires-clause-each g c =
     let n = c.loop-i.node.now in
-    can_ask_row g.F.FnMut (g.H.Reads.reading c.args.how.now) None c.loop-i.level n c.loop-i.asking c.loop-i.invariant.formed c.loop-i.invariant.can_search
+    let can =
+    can_ask_row g.F.FnMut (g.H.Reads.reading c.args.how.now) None c.loop-i.level n c.loop-i.asking c.loop-i.invariant.formed c.loop-i.invariant.can_search in CanAsk-each g.F.FnMut _ can
+
+pub search_row-requires-clause-again : goal.search_row-requires-clause-again
+search_row-requires-clause-again g c =
+    let n = c.loop-i.node.now in
+    let can =
+    can_ask_row g.F.FnMut (g.H.Reads.reading c.args.how.now) None c.loop-i.level n c.loop-i.asking c.loop-i.invariant.formed c.loop-i.invariant.can_search in CanAsk-again g.F.FnMut _ can
 
 pub returns-in-Ok : goal.returns-in-Ok
 returns-in-Ok g c =

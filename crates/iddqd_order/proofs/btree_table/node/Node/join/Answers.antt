@@ -20,3 +20,6 @@ pub returns-clause-row : goal.returns-clause-row
 returns-clause-row c =
     ap (λ n. n.row) (out-roll-Node _) ∙ ap (λ n. n.row) (out-roll-Node _)
     ∙ joined _ _ _ _ _ c.args.middle c.push.ensures (ap (λ n. n.row) (out-roll-Node _)) c.append.ensures
+
+pub put_back-requires-clause-some : goal.put_back-requires-clause-some
+put_back-requires-clause-some c = c.requires.some

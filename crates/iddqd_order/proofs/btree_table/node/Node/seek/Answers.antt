@@ -1,5 +1,6 @@
 use Rattle.iddqd_order.proofs.Names.{◌≡◌, ◌-◌, ◌<◌, ℕ, None, length, slice_index, arith, refl, sym, ap, ◌∙◌, subst, rules, children, child, leaf, leaf_parent}
 use Rattle.iddqd_order.specs.Descent.{Seeks}
+use Rattle.iddqd_order.proofs.AskLemmas.{CanAsk-each, CanAsk-again}
 use Rattle.iddqd_order.proofs.NodeLemmas.{child-formed, child-within, formed-within, path-here, path-above}
 use Rattle.iddqd_order.proofs.CursorLemmas.{leaf-at, leaf-zero, leaf_parent-at, leaf_parent-here, leaf_parent-one}
 use Rattle.iddqd_order.proofs.DescentLemmas.{Seeks-leaf, Seeks-below, can_ask_row, can_ask_below, child_is}
@@ -17,33 +18,38 @@ loop-i-init g c = record {
   parent = λ p same e. leaf_parent-here c.args.height c.args.self.now p e;
 }
 
-pub search_row-requires : goal.search_row-requires
-search_row-requires g c =
-    can_ask_row g.F.FnMut (g.H.Reads.reading c.args.how.now) None c.loop-i.level c.loop-i.node.now c.loop-i.asking c.loop-i.invariant.formed c.loop-i.invariant.can_search
+pub search_row-requires-clause-each : goal.search_row-requires-clause-each
+search_row-requires-clause-each g c =
+    let can =
+    can_ask_row g.F.FnMut (g.H.Reads.reading c.args.how.now) None c.loop-i.level c.loop-i.node.now c.loop-i.asking c.loop-i.invariant.formed c.loop-i.invariant.can_search in CanAsk-each g.F.FnMut _ can
+
+pub search_row-requires-clause-again : goal.search_row-requires-clause-again
+search_row-requires-clause-again g c =
+    let can =
+    can_ask_row g.F.FnMut (g.H.Reads.reading c.args.how.now) None c.loop-i.level c.loop-i.node.now c.loop-i.asking c.loop-i.invariant.formed c.loop-i.invariant.can_search in CanAsk-again g.F.FnMut _ can
 
 pub set-requires-clause-place : goal.set-requires-clause-place
 set-requires-clause-place g c =
     let within = formed-within c.loop-i.level c.loop-i.node.now c.loop-i.invariant.formed in
     let missed = c.in-Err.ensures.missed in omega arith
 
-pub returns-then-level-eq0-clause-seeks : goal.returns-then-level-eq0-clause-seeks
-returns-then-level-eq0-clause-seeks g c =
-    let l = c.loop-i.level in let p = c.set.new.self in let held = c.loop-i.invariant in
-    let here : slice_index p l ≡ c.in-Err.i =
-    path-here c.loop-i.path p l c.in-Err.i held.path (let low = held.low in let up = c.requires.levels in omega arith) c.set.ensures.place in
-    held.rest p c.search_row.new.asking (λ m lt. path-above c.loop-i.path p l c.in-Err.i m c.set.ensures.place lt)
-    (Seeks-leaf g.F.FnMut (g.H.Reads.reading c.args.how.now) None l c.loop-i.node.now p c.loop-i.asking c.search_row.new.asking c.if-level-eq0.true held.formed (rw here c.in-Err.ensures))
-
-pub returns-then-level-eq0-clause-leaf : goal.returns-then-level-eq0-clause-leaf
-returns-then-level-eq0-clause-leaf g c =
-    let p = c.set.new.self in
-    c.as_slice.ensures
-    ∙ sym (c.loop-i.invariant.leaf_is p (λ m lt. path-above c.loop-i.path p c.loop-i.level c.in-Err.i m c.set.ensures.place lt) ∙ leaf-zero c.loop-i.level c.loop-i.node.now p c.if-level-eq0.true)
-
-pub returns-then-level-eq0-clause-parent : goal.returns-then-level-eq0-clause-parent
-returns-then-level-eq0-clause-parent g c =
-    let p = c.set.new.self in
-    sym (c.loop-i.invariant.parent p (λ m lt. path-above c.loop-i.path p c.loop-i.level c.in-Err.i m c.set.ensures.place lt) c.if-level-eq0.true)
+pub returns-then-level-eq0 : goal.returns-then-level-eq0
+returns-then-level-eq0 g c = record {
+  seeks = (
+      let l = c.loop-i.level in let p = c.set.new.self in let held = c.loop-i.invariant in
+      let here : slice_index p l ≡ c.in-Err.i =
+      path-here c.loop-i.path p l c.in-Err.i held.path (let low = held.low in let up = c.requires.levels in omega arith) c.set.ensures.place in
+      held.rest p c.search_row.new.asking (λ m lt. path-above c.loop-i.path p l c.in-Err.i m c.set.ensures.place lt)
+      (Seeks-leaf g.F.FnMut (g.H.Reads.reading c.args.how.now) None l c.loop-i.node.now p c.loop-i.asking c.search_row.new.asking c.if-level-eq0.true held.formed (rw here c.in-Err.ensures)));
+  parent = (
+      let p = c.set.new.self in
+      sym (c.loop-i.invariant.parent p (λ m lt. path-above c.loop-i.path p c.loop-i.level c.in-Err.i m c.set.ensures.place lt) c.if-level-eq0.true));
+  leaf = (
+      let p = c.set.new.self in
+      c.as_slice.ensures
+      ∙ sym (c.loop-i.invariant.leaf_is p (λ m lt. path-above c.loop-i.path p c.loop-i.level c.in-Err.i m c.set.ensures.place lt) ∙ leaf-zero c.loop-i.level c.loop-i.node.now p c.if-level-eq0.true));
+  path = omega arith;
+}
 
 pub index-node-requires : goal.index-node-requires
 index-node-requires g c =

@@ -1,3 +1,5 @@
+use Rattle.std.proofs.Common.{ℕ, ◌∙◌, refl, ap}
+use Rattle.iddqd_order.specs.MapBTreeTable.{capacity, capacity_of}
 use Rattle.iddqd_order.specs.PreparedBTreeMove.{index_of}
 use Rattle.iddqd_order.proofs.MoveLemmas.{absent-without, move-enough, asked-both, can-insert_then, puts-then}
 use Rattle.iddqd_order.proofs.btree_table.prepared_move.PreparedBTreeMove.commit.Goals as goal
@@ -11,17 +13,17 @@ insert_again-requires-clause-can_ask g c =
     rw c.remove_by_search.ensures.removed
     (can-insert_then g.F.FnMut _ _ _ _ c.remove_by_search.ensures.asked c.requires)
 
-pub returns-clause-asked : goal.returns-clause-asked
-unfolding index_of
-returns-clause-asked g c =
-    asked-both g.F.FnMut _ _ c.remove_by_search.ensures.asked
-    (rw c.remove_by_search.ensures.removed at c.insert_again.ensures.asked)
-
-pub returns-clause-moved : goal.returns-clause-moved
-unfolding index_of
-returns-clause-moved g c =
-    puts-then g.F.FnMut _ _ c.remove_by_search.ensures.asked
-    (rw c.remove_by_search.ensures.removed at c.insert_again.ensures.inserted)
+pub returns : goal.returns
+unfolding index_of capacity
+returns g c =
+    let left = c.remove_by_search.ensures in
+    let did = c.insert_again.ensures in
+    record {
+      same_reference = refl;
+      asked = asked-both g.F.FnMut _ _ left.asked (rw left.removed at did.asked);
+      moved = puts-then g.F.FnMut _ _ left.asked (rw left.removed at did.inserted);
+      memory = ap (λ (r : ℕ). capacity_of r) (did.reserved ∙ left.reserved);
+    }
 
 pub insert_again-requires-clause-enough : goal.insert_again-requires-clause-enough
 insert_again-requires-clause-enough g c full =

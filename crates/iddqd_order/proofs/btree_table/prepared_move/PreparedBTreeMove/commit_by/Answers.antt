@@ -1,3 +1,5 @@
+use Rattle.std.proofs.Common.{ℕ, ◌∙◌, refl, ap}
+use Rattle.iddqd_order.specs.MapBTreeTable.{capacity, capacity_of}
 use Rattle.iddqd_order.specs.PreparedBTreeMove.{index_of}
 use Rattle.iddqd_order.proofs.MoveLemmas.{absent-without, move-enough, can-insert}
 use Rattle.iddqd_order.proofs.btree_table.prepared_move.PreparedBTreeMove.commit_by.Goals as goal
@@ -10,13 +12,18 @@ unfolding index_of
 insert_again-requires-clause-can_ask g c =
     rw c.remove_by_search.ensures.removed (can-insert g.G.FnMut _ _ _ c.requires.entering)
 
-pub returns-clause-entering_asked : goal.returns-clause-entering_asked
-unfolding index_of
-returns-clause-entering_asked g c = rw c.remove_by_search.ensures.removed at c.insert_again.ensures.asked
-
-pub returns-clause-moved : goal.returns-clause-moved
-unfolding index_of
-returns-clause-moved g c = rw c.remove_by_search.ensures.removed at c.insert_again.ensures.inserted
+pub returns : goal.returns
+unfolding index_of capacity
+returns g c =
+    let left = c.remove_by_search.ensures in
+    let did = c.insert_again.ensures in
+    record {
+      same_reference = refl;
+      leaving_asked = left.asked;
+      entering_asked = rw left.removed at did.asked;
+      moved = rw left.removed at did.inserted;
+      memory = ap (λ (r : ℕ). capacity_of r) (did.reserved ∙ left.reserved);
+    }
 
 pub insert_again-requires-clause-enough : goal.insert_again-requires-clause-enough
 insert_again-requires-clause-enough g c full =

@@ -1,3 +1,5 @@
+use Rattle.std.proofs.Common.{arith}
+use Rattle.std.proofs.lemmas.Grind.{common_steps}
 use Rattle.iddqd_order.specs.Range.{indexes_ahead}
 use Rattle.iddqd_order.proofs.RangeLemmas.{part-back, some-left}
 use Rattle.iddqd_order.proofs.TreeLemmas.{place_in-within}
@@ -18,3 +20,7 @@ returns-clause-steps c =
     let within = place_in-within _ _ _ i.0 i.2.at.gap.goes in
     let left = some-left _ _ _ _ (rw (← c.self.view_is) at c.has_ended.ensures) c.if-has_ended.false i.3 within in
     rw (← c.self.view_is) (part-back _ _ _ _ _ left i.3 within c.next_back.ensures.next).1
+
+pub returns-clause-goes : goal.returns-clause-goes
+unfolding indexes_ahead
+returns-clause-goes c = let steps = returns-clause-steps c in grind (arith, common_steps)

@@ -40,38 +40,37 @@ descend-requires-clause-can_search g c =
     can_search-later g.F.FnMut (g.H.Reads.reading c.args.how.now) c.args.sought.now _ _ _ c.try_front.ensures.asked
     (rw (← c.self.view_is, c.in-Some.is) at c.requires)
 
-pub returns-in-Ok-clause-ends : goal.returns-in-Ok-clause-ends
-returns-in-Ok-clause-ends g c =
-    rw (← c.self.view_is, c.in-Some.is)
-    (EndsIn-spot g.F.FnMut (g.H.Reads.reading c.args.how.now) c.args.sought.now _ _ _ _ _ _ (omega arith) (rw c.in-Some.is at c.self.invariant.tree)
-    (Descends-later g.F.FnMut (g.H.Reads.reading c.args.how.now) c.args.sought.now _ _ _ _ _ _ _ _ c.try_front.ensures.asked c.in-Ok.ensures.descends))
+-- it would have found the front
+pub returns-in-Ok : goal.returns-in-Ok
+unfolding order_of
+returns-in-Ok g c = record {
+  one_ask = λ start answer steady some less.
+      let found = c.in_default-try_front.ensures.found start answer (rw (← c.self.view_is, c.in-Some.is) at steady) in
+      absurd (false≢true (found (rw (← c.self.view_is, c.in-Some.is) at less)));
+  ends = (
+      rw (← c.self.view_is, c.in-Some.is)
+      (EndsIn-spot g.F.FnMut (g.H.Reads.reading c.args.how.now) c.args.sought.now _ _ _ _ _ _ (omega arith) (rw c.in-Some.is at c.self.invariant.tree)
+      (Descends-later g.F.FnMut (g.H.Reads.reading c.args.how.now) c.args.sought.now _ _ _ _ _ _ _ _ c.try_front.ensures.asked c.in-Ok.ensures.descends)));
+}
 
-pub returns-in-Err-clause-ends : goal.returns-in-Err-clause-ends
-returns-in-Err-clause-ends g c =
-    rw (← c.self.view_is, c.in-Some.is)
-    (EndsIn-gap g.F.FnMut (g.H.Reads.reading c.args.how.now) c.args.sought.now _ _ _ _ _ _ (omega arith) (rw c.in-Some.is at c.self.invariant.tree)
-    (Descends-later g.F.FnMut (g.H.Reads.reading c.args.how.now) c.args.sought.now _ _ _ _ _ _ _ _ c.try_front.ensures.asked c.in-Err.ensures.descends))
-
-pub returns-in-Some-try_front-clause-ends : goal.returns-in-Some-try_front-clause-ends
-returns-in-Some-try_front-clause-ends g c =
-    rw (← c.self.view_is, c.in-Some.is)
-    (EndsIn-gap g.F.FnMut (g.H.Reads.reading c.args.how.now) c.args.sought.now _ _ _ _ _ _ (omega arith) (rw c.in-Some.is at c.self.invariant.tree) c.in-Some-try_front.ensures.front)
+pub returns-in-Err : goal.returns-in-Err
+unfolding order_of
+returns-in-Err g c = record {
+  one_ask = λ start answer steady some less.
+      let found = c.in_default-try_front.ensures.found start answer (rw (← c.self.view_is, c.in-Some.is) at steady) in
+      absurd (false≢true (found (rw (← c.self.view_is, c.in-Some.is) at less)));
+  ends = (
+      rw (← c.self.view_is, c.in-Some.is)
+      (EndsIn-gap g.F.FnMut (g.H.Reads.reading c.args.how.now) c.args.sought.now _ _ _ _ _ _ (omega arith) (rw c.in-Some.is at c.self.invariant.tree)
+      (Descends-later g.F.FnMut (g.H.Reads.reading c.args.how.now) c.args.sought.now _ _ _ _ _ _ _ _ c.try_front.ensures.asked c.in-Err.ensures.descends)));
+}
 
 -- it asked at the front alone
-pub returns-in-Some-try_front-clause-one_ask : goal.returns-in-Some-try_front-clause-one_ask
+pub returns-in-Some-try_front : goal.returns-in-Some-try_front
 unfolding order_of
-returns-in-Some-try_front-clause-one_ask g c start answer steady some less =
-    rw (← c.self.view_is, c.in-Some.is) c.try_front.ensures.asked
-
--- it would have found the front
-pub returns-in-Ok-clause-one_ask : goal.returns-in-Ok-clause-one_ask
-unfolding order_of
-returns-in-Ok-clause-one_ask g c start answer steady some less =
-    let found = c.in_default-try_front.ensures.found start answer (rw (← c.self.view_is, c.in-Some.is) at steady) in
-    absurd (false≢true (found (rw (← c.self.view_is, c.in-Some.is) at less)))
-
-pub returns-in-Err-clause-one_ask : goal.returns-in-Err-clause-one_ask
-unfolding order_of
-returns-in-Err-clause-one_ask g c start answer steady some less =
-    let found = c.in_default-try_front.ensures.found start answer (rw (← c.self.view_is, c.in-Some.is) at steady) in
-    absurd (false≢true (found (rw (← c.self.view_is, c.in-Some.is) at less)))
+returns-in-Some-try_front g c = record {
+  ends = (
+      rw (← c.self.view_is, c.in-Some.is)
+      (EndsIn-gap g.F.FnMut (g.H.Reads.reading c.args.how.now) c.args.sought.now _ _ _ _ _ _ (omega arith) (rw c.in-Some.is at c.self.invariant.tree) c.in-Some-try_front.ensures.front));
+  one_ask = λ start answer steady some less. rw (← c.self.view_is, c.in-Some.is) c.try_front.ensures.asked;
+}

@@ -1,5 +1,5 @@
 use Rattle.iddqd_order.proofs.Names.{[], None, Err, refl, arith, order_of}
-use Rattle.iddqd_order.proofs.DescentLemmas.{Finds-from_searches}
+use Rattle.iddqd_order.proofs.SearchLemmas.{Finds-from_searches}
 use Rattle.iddqd_order.proofs.PartLemmas.{SearchesWithin-more}
 use Rattle.iddqd_order.proofs.ReckoningLemmas.{reckoning}
 use Rattle.iddqd_order.proofs.TableLemmas.{Searches-nil}
@@ -24,3 +24,7 @@ returns g c =
     let d = c.find.ensures in
     let asks = reckoning _ 1 _ tree.0 tree.1 (omega arith) (omega arith) in
     rw (← c.self.view_is, c.in-Some.is) (Finds-from_searches g.F.FnMut read _ d.end _ _ _ (SearchesWithin-more g.F.FnMut read None (omega arith) d.searches) d.index)
+
+pub find-requires-clause-formed : goal.find-requires-clause-formed
+unfolding order_of
+find-requires-clause-formed g c = (rw c.in-Some.is at c.self.invariant.tree).0

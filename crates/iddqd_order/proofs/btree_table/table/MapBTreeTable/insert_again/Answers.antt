@@ -10,3 +10,12 @@ pub returns-clause-inserted : goal.returns-clause-inserted
 returns-clause-inserted g c =
     let gap = c.find_own_gap-gap.ensures in
     record { place = _; within = gap.within; inserted = c.insert_at.ensures.inserted; belongs = gap.place }
+
+pub find_own_gap-gap-requires-clause-absent : goal.find_own_gap-gap-requires-clause-absent
+find_own_gap-gap-requires-clause-absent g c = c.requires.absent
+
+pub find_own_gap-gap-requires-clause-can_ask : goal.find_own_gap-gap-requires-clause-can_ask
+find_own_gap-gap-requires-clause-can_ask g c = c.requires.can_ask
+
+pub insert_at-requires-clause-absent : goal.insert_at-requires-clause-absent
+insert_at-requires-clause-absent g c = c.requires.absent

@@ -18,3 +18,15 @@ invariant_of-self c =
     let put = c.put_in-self-inside.ensures in
     IsTable-put _ _ _ _ _ _ _ c.self.invariant (rw (← c.self.view_is) at c.requires.goes)
     (rw (← c.self.view_is) at c.requires.absent) (omega arith) put.tree put.items put.inners
+
+pub put_in-self-inside-requires-clause-goes : goal.put_in-self-inside-requires-clause-goes
+unfolding order_of
+put_in-self-inside-requires-clause-goes c = rw (← c.self.view_is) at c.requires.goes
+
+pub returns-clause-reserved : goal.returns-clause-reserved
+unfolding order_of
+returns-clause-reserved c = rw (← c.self.view_is) c.put_in-self-inside.ensures.reserved
+
+pub put_in-self-inside-requires-clause-full : goal.put_in-self-inside-requires-clause-full
+unfolding order_of
+put_in-self-inside-requires-clause-full c = rw (← c.self.view_is) at c.requires.full

@@ -8,3 +8,7 @@ unfolding order_of
 returns-clause-found c =
     let there = c.in_ok-level.ensures.there in
     rw (← c.self.view_is, c.in-Some.is) (λ _. Contains-at _ _ _ (place_at_level-within _ _ _ _ (rw c.in-Some.is at c.self.invariant.tree).0 there.0) (sym there.1), λ _. refl)
+
+pub returns-clause-there : goal.returns-clause-there
+unfolding order_of
+returns-clause-there c = rw (← c.self.view_is, c.in-Some.is) c.in_ok-level.ensures.there

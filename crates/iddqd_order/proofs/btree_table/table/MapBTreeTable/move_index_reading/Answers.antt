@@ -1,3 +1,5 @@
+use Rattle.std.proofs.Common.{ℕ, ◌∙◌, ap}
+use Rattle.iddqd_order.specs.MapBTreeTable.{capacity, capacity_of}
 use Rattle.iddqd_order.proofs.MoveLemmas.{absent-without, move-left, asked-both, can-insert_then, puts-then, without-fewer}
 use Rattle.iddqd_order.proofs.btree_table.table.MapBTreeTable.move_index_reading.Goals as goal
 
@@ -15,12 +17,13 @@ insert_again-requires-clause-enough g c full =
     let fewer = without-fewer _ _ c.requires.stored in
     move-left c.args.self.now _ c.args.ix _ fewer left.removed left.no_higher left.reserved c.requires.enough full
 
-pub returns-clause-asked : goal.returns-clause-asked
-returns-clause-asked g c =
-    asked-both g.F.FnMut _ _ c.remove_by_search.ensures.asked
-    (rw c.remove_by_search.ensures.removed at c.insert_again.ensures.asked)
-
-pub returns-clause-moved : goal.returns-clause-moved
-returns-clause-moved g c =
-    puts-then g.F.FnMut _ _ c.remove_by_search.ensures.asked
-    (rw c.remove_by_search.ensures.removed at c.insert_again.ensures.inserted)
+pub returns : goal.returns
+unfolding capacity
+returns g c =
+    let left = c.remove_by_search.ensures in
+    let did = c.insert_again.ensures in
+    record {
+      asked = asked-both g.F.FnMut _ _ left.asked (rw left.removed at did.asked);
+      moved = puts-then g.F.FnMut _ _ left.asked (rw left.removed at did.inserted);
+      memory = ap (λ (r : ℕ). capacity_of r) (did.reserved ∙ left.reserved);
+    }

@@ -21,3 +21,19 @@ returns g c =
         no_blocks = λ lt. taken.blocks ∙ taken.roomy _ gap.fits.goes gap.fits.full gap.fits.levels lt;
       },
     )
+
+pub returns-in-Err : goal.returns-in-Err
+returns-in-Err g c =
+    let gap = c.find_own_gap-gap.ensures in
+    let taken = c.in-Err.ensures in (
+      (refl, λ _. tt, refl),
+      record {
+        unchanged = tt;
+        same_reference = tt;
+        asked = gap.asked;
+        prepared = tt;
+        memory = tt;
+        roomy = λ lt. taken.none (taken.roomy _ gap.fits.goes gap.fits.full gap.fits.levels lt);
+        no_blocks = λ _. tt;
+      },
+    )

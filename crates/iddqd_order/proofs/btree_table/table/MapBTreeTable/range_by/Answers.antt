@@ -20,3 +20,18 @@ returns g c =
       begins = front.bound;
       ends = back.ends.end;
     }
+
+pub find_end-back-requires-clause-stands : goal.find_end-back-requires-clause-stands
+find_end-back-requires-clause-stands g c = c.find_bound-front.ensures.stands
+
+pub new-requires-clause-tree : goal.new-requires-clause-tree
+new-requires-clause-tree g c = let t = c.tree-height.ensures in rw (t.root, t.height) t.tree
+
+pub new-requires-clause-front : goal.new-requires-clause-front
+new-requires-clause-front g c = let t = c.tree-height.ensures in rw (t.root, t.height) c.find_bound-front.ensures.stands
+
+pub new-requires-clause-back : goal.new-requires-clause-back
+new-requires-clause-back g c = let t = c.tree-height.ensures in rw (t.root, t.height) c.find_end-back.ensures.stands
+
+pub new-requires-clause-ahead : goal.new-requires-clause-ahead
+new-requires-clause-ahead g c = let t = c.tree-height.ensures in rw (t.root, t.height) c.find_end-back.ensures.ends.ahead

@@ -27,3 +27,18 @@ returns g c =
       begins = low.begins;
       ends = ends-before g.F.FnMut _ _ _ low.asked high.ends.end;
     }
+
+pub find_upper-back-requires-clause-stands : goal.find_upper-back-requires-clause-stands
+find_upper-back-requires-clause-stands g c = c.find_lower-front.ensures.stands
+
+pub new-requires-clause-tree : goal.new-requires-clause-tree
+new-requires-clause-tree g c = let t = c.tree-height.ensures in rw (t.root, t.height) t.tree
+
+pub new-requires-clause-front : goal.new-requires-clause-front
+new-requires-clause-front g c = let t = c.tree-height.ensures in rw (t.root, t.height) c.find_lower-front.ensures.stands
+
+pub new-requires-clause-back : goal.new-requires-clause-back
+new-requires-clause-back g c = let t = c.tree-height.ensures in rw (t.root, t.height) c.find_upper-back.ensures.stands
+
+pub new-requires-clause-ahead : goal.new-requires-clause-ahead
+new-requires-clause-ahead g c = let t = c.tree-height.ensures in rw (t.root, t.height) c.find_upper-back.ensures.ends.ahead

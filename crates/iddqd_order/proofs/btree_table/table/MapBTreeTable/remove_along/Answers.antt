@@ -1,3 +1,4 @@
+use Rattle.std.proofs.Common.{rules}
 use Rattle.iddqd_order.proofs.Names.{AtIndex, sym, order_of}
 use Rattle.iddqd_order.proofs.TableLemmas.{shorter}
 use Rattle.iddqd_order.proofs.TreeLemmas.{place_at_level_in-within}
@@ -15,19 +16,21 @@ invariant_of-self c =
     let way = rw (← c.self.view_is) at c.requires.holds in let taken = c.remove_in-ix.ensures in
     (shorter _ _ _ _ _ _ _ _ c.self.invariant way (sym taken.index) taken.tree taken.items taken.inners).table
 
-pub returns-clause-index : goal.returns-clause-index
+pub returns : goal.returns
 unfolding order_of
-returns-clause-index c = rw (← c.self.view_is) c.remove_in-ix.ensures.index
-
-pub returns-clause-removed : goal.returns-clause-removed
-unfolding order_of
-returns-clause-removed c =
-    let way = rw (← c.self.view_is) at c.requires.holds in let taken = c.remove_in-ix.ensures in
-    rw (← c.self.view_is)
-    (shorter _ _ _ _ _ _ _ _ c.self.invariant way (sym taken.index) taken.tree taken.items taken.inners).items
-
-pub returns-clause-within : goal.returns-clause-within
-unfolding order_of
-returns-clause-within c =
-    let way = rw (← c.self.view_is) at c.requires.holds in
-    rw (← c.self.view_is) (place_at_level_in-within AtIndex _ _ _ _ c.self.invariant.tree way)
+returns c = record {
+  removed = (
+      let way = rw (← c.self.view_is) at c.requires.holds in let taken = c.remove_in-ix.ensures in
+      rw (← c.self.view_is)
+      (shorter _ _ _ _ _ _ _ _ c.self.invariant way (sym taken.index) taken.tree taken.items taken.inners).items);
+  index = rw (← c.self.view_is) c.remove_in-ix.ensures.index;
+  within = (
+      let way = rw (← c.self.view_is) at c.requires.holds in
+      rw (← c.self.view_is) (place_at_level_in-within AtIndex _ _ _ _ c.self.invariant.tree way));
+  items = search rules;
+  path = c.remove_in-ix.ensures.path;
+  no_higher = search rules;
+  goes = search rules;
+  reserved = search rules;
+  place = search rules;
+}

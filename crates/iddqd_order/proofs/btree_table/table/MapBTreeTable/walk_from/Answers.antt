@@ -28,3 +28,6 @@ returns g c =
       ahead = rw (t.root, t.height) at ahead;
       bound = front.bound;
     }
+
+pub new-requires-clause-tree : goal.new-requires-clause-tree
+new-requires-clause-tree g c = let t = c.tree-height.ensures in rw (t.root, t.height) t.tree

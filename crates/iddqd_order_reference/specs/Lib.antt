@@ -1,0 +1,4 @@
+pub mod OrderedIter
+pub mod OrderedTable
+pub mod PreparedInsert
+pub mod PreparedRemove
