@@ -168,11 +168,8 @@ few_slots old new valid kept grown = elim (none_or_some (set_room old)) [
     none_or_some zero = inl refl
     none_or_some (suc n) = inr (omega arith)
 
-pub none_wanted : (wanted items most : ℕ) → wanted ≡ min items most → items ≡ 0 → wanted ≡ 0
-none_wanted wanted items most is none = omega arith
-
-pub none_fits : (wanted items most free : ℕ) → wanted ≡ min items most → items ≡ 0 → wanted ≤ free
-none_fits wanted items most free is none = omega arith
+pub none_fits : (wanted free : ℕ) → wanted ≡ 0 → wanted ≤ free
+none_fits wanted free none = omega arith
 
 -- a number is at most the greater of it and another
 pub not_more : (n more : ℕ) → n ≤ max n more

@@ -1,4 +1,5 @@
-//! Look-ups that return the item, and look-ups and removals by a query of another form than the key.
+//! Look-ups that return the item or whether there is one, and look-ups and removals by a query of another form than the
+//! key.
 //!
 //! A query stands for a key: a `&str` for a `String`, say, so that no key is copied for a look-up. In every state a
 //! look-up by it returns what a look-up by each key for which it stands may return.
@@ -7,7 +8,7 @@ ghost use Rattle.iddqd.specs.{live_count};
 ghost use Rattle.iddqd_by_order.specs.Ordered.{is_equal};
 ghost use Rattle.iddqd_driver.specs.KeyIndexes.{first_key_index, second_key_index, Keeps};
 ghost use Rattle.iddqd_driver.specs.Memory.{capacity, room};
-ghost use Rattle.iddqd_driver.specs.Queries.{LooksUpBy, LooksUpItem, LooksUpItemBy, RemovesByQuery};
+ghost use Rattle.iddqd_driver.specs.Queries.{ContainsKey, LooksUpBy, LooksUpItem, LooksUpItemBy, RemovesByQuery};
 
 use super::{Keyed, KeyedItems, remove_item, take_item};
 use crate::keyed_item::{First, KeyedItem, Second};
@@ -32,6 +33,20 @@ impl<T: KeyedItem, S: BuildHasher> KeyedItems<T, S> {
         ensures { LooksUpItem (second_key_index ⟦<Self as Keyed>⟧.keys) self.now.state key.now (option_copied result) }
     {
         self.items.get(self.find2(key)?)
+    }
+
+    /// Whether an item with this first key is found, as `find1` finds its index.
+    pub fn contains_key1(&self, key: &T::Key1) -> bool
+        ensures { ContainsKey (first_key_index ⟦<Self as Keyed>⟧.keys) self.now.state key.now result }
+    {
+        self.find1(key).is_some()
+    }
+
+    /// Whether an item with this second key is found, as `find2` finds its index.
+    pub fn contains_key2(&self, key: &T::Key2) -> bool
+        ensures { ContainsKey (second_key_index ⟦<Self as Keyed>⟧.keys) self.now.state key.now result }
+    {
+        self.find2(key).is_some()
     }
 
     /// The index of the item with the first key for which the query stands. Only keys of the same hash are compared
