@@ -89,6 +89,13 @@ module _ {T S : Type 0} (s : State T S) (paired : IsPaired s) where
       finite.len-entries s.filed ∙ sym (length-map (finite.entries s.filed) (λ e. e.0))
       ∙ length-held s.store (indexes_of s.filed) (filed_has_live_indexes s paired)
 
+  -- as many cells as one more index needs are as many as one more item needs
+  pub few_for_live :
+      (old new : ℕ)
+      → new ≤ max old (most_cells (finite.len s.filed + 1))
+      → new ≤ max old (most_cells (live_count s.store + 1))
+  few_for_live old new few = subst (λ n. new ≤ max old (most_cells (n + 1))) length-filed few
+
   pub length-order : length s.order ≡ live_count s.store
   length-order = length-held s.store s.order (Holds-order s paired)
 

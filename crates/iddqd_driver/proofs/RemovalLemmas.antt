@@ -3,6 +3,7 @@ use Rattle.std.proofs.Common.{◌≡◌, ◌↔◌, ◌+◌, ◌≤◌, ℕ, Opt
 use Rattle.std.specs.FinMap as finite
 use Rattle.iddqd.specs.Store.{get, removed, live_count}
 use Rattle.iddqd.specs.ItemSet.{SizedStore}
+use Rattle.iddqd.proofs.LiveLemmas.{live_at}
 use Rattle.iddqd_hash.specs.HashTable.{Table, KeepsMemory}
 use Rattle.iddqd_hash.specs.MapHashTable.{filed}
 use Rattle.iddqd_order.specs.MapBTreeTable.{Order, order_of, without, capacity as ordered_capacity}
@@ -16,6 +17,17 @@ use Rattle.iddqd_driver.proofs.KeyLemmas.{AreLawful}
 use Rattle.iddqd_driver.proofs.KeepsLemmas.{IsPaired-unbound, Keeps-unbound, Keeps-same}
 use Rattle.iddqd_driver.proofs.CountLemmas.{count-removed}
 use Rattle.iddqd_driver.proofs.MemoryLemmas.{room-removed}
+
+-- what the removal of the item at an index leaves
+pub record LeavesOthers
+    {T S K1 K2 : Type 0} (keys : Keys T K1 K2 S) (old new : SizedState T S) (ix : ℕ) (item : T)
+    : Type 0 where
+  pub removes : Removes old.state ix (Some item) new.state
+  pub live : IsLive old.state.store ix
+  pub keeps : Keeps keys old.state new.state
+  pub memory : new.memory ≡ old.memory
+  pub room : live_count old.state.store ≤ capacity old → room new ≡ room old + 1
+  pub count : live_count old.state.store ≡ live_count new.state.store + 1
 
 module _
     {T S : Type 0} (hasher : S) (items : SizedStore T) (table : Table ℕ) (order : Order) (old : SizedState T S)
@@ -85,3 +97,16 @@ module _
             removed-room =
                 rw (← seen)
                 (room-removed (sized_of hasher items table order) (sized_of hasher new_items new_table new_order) paired ix (Some item) (live, rw (stored, hashed, ordered) refl) same_memory)
+
+            pub LeavesOthers-removed :
+                {K1 K2 : Type 0} (keys : Keys T K1 K2 S)
+                → AreLawful keys
+                → LeavesOthers keys old (sized_of hasher new_items new_table new_order) ix item
+            LeavesOthers-removed keys lawful = record {
+              removes = removed-removes;
+              live = live_at old.state.store ix item removed-removes.0;
+              keeps = removed-keeps keys lawful;
+              memory = removed-memory;
+              room = removed-room;
+              count = removed-count;
+            }

@@ -1,15 +1,13 @@
 use Rattle.std.specs.Result.{IfOk, OnErr}
-use Rattle.std.proofs.Common.{◌≡◌, ◌≤◌, ◌+◌, max, subst}
+use Rattle.std.proofs.Common.{◌≡◌}
 use Rattle.iddqd_driver.specs.Keys.{Keys, keys_of}
 use Rattle.iddqd_driver.specs.State.{State, state_of}
 use Rattle.iddqd_driver.specs.KeyIndexes.{LooksUp, Keeps, first_key_index, finds_reported}
 use Rattle.iddqd_driver.specs.Machine.{StoresAt}
 use Rattle.iddqd_driver.proofs.KeyLemmas.{AreLawful-from_bounds}
 use Rattle.iddqd_driver.proofs.KeepsLemmas.{Holds-order}
-use Rattle.iddqd_hash.specs.HashTable.{memory as cells}
-use Rattle.iddqd_hash.specs.Sizes.{most_cells}
 use Rattle.iddqd_driver.specs.Memory.{sized_of}
-use Rattle.iddqd_driver.proofs.MemoryLemmas.{InsertsInMemory-where, HasRoomInParts-from_room, room-inserted, length-filed}
+use Rattle.iddqd_driver.proofs.MemoryLemmas.{InsertsInMemory-where, HasRoomInParts-from_room, room-inserted, few_for_live}
 use Rattle.iddqd_driver.proofs.CountLemmas.{count-inserted, IsDuplicate-with_room}
 use Rattle.iddqd_driver.proofs.InsertLemmas.{StoresAt-from_parts, same-from_parts, Keeps-from_stored}
 use Rattle.iddqd_by_hash.proofs.HoldsLemmas.{next_unfiled}
@@ -69,57 +67,33 @@ keeps g c =
 pub invariant_of-self : goal.invariant_of-self
 invariant_of-self g c = (keeps g c).paired.1
 
-pub returns-clause-inserts : goal.returns-clause-inserts
-returns-clause-inserts g c = rw (← c.self.view_is) (record {
-  first = (first g c).found;
-  second = c.insert_item.ensures.second.found;
-  stored = stored g c;
-  refused = c.insert_item.ensures.refused;
-  unchanged = unchanged g c;
-})
-
-pub returns-clause-tells : goal.returns-clause-tells
-returns-clause-tells g c =
-    rw (← c.self.view_is) (record { first = (first g c).as_scan; second = c.insert_item.ensures.second.as_scan })
-
-pub returns-clause-keeps : goal.returns-clause-keeps
-returns-clause-keeps g c = rw (← c.self.view_is) (keeps g c)
-
-pub returns-clause-memory : goal.returns-clause-memory
-returns-clause-memory g c =
-    rw (← c.self.view_is)
-    (InsertsInMemory-where
-    (HasRoomInParts-from_room c.self.inside.state c.self.inside.items c.self.inside.filed c.self.inside.order c.self.invariant)
-    c.insert_item.ensures.memory)
-
-pub returns-clause-few : goal.returns-clause-few
-returns-clause-few g c =
-    let same = length-filed (was g c) c.self.invariant in
-    rw (← c.self.view_is) (record {
-      slots = c.insert_item.ensures.few_slots;
-      cells = subst (λ n. cells c.insert_item.new.table ≤ max (cells c.self.inside.filed) (most_cells (n + 1))) same c.insert_item.ensures.few_cells;
-    })
-
-pub returns-clause-room : goal.returns-clause-room
-returns-clause-room g c =
+pub returns : goal.returns
+returns g c =
+    let out = c.insert_item.ensures in
     let whole = sized_of c.self.inside.state c.self.inside.items c.self.inside.filed c.self.inside.order in
     let left = sized_of c.self.inside.state c.insert_item.new.items c.insert_item.new.table c.insert_item.new.order in
-    rw (← c.self.view_is)
-    (room-inserted whole left c.self.invariant (keys g c) c.args.item c.insert_item.result (stored g c)
-    (InsertsInMemory-where
+    let one = first g c in
+    let kept = keeps g c in
+    let put = stored g c in
+    let memory = InsertsInMemory-where
     (HasRoomInParts-from_room c.self.inside.state c.self.inside.items c.self.inside.filed c.self.inside.order c.self.invariant)
-    c.insert_item.ensures.memory))
-
-pub returns-clause-not_refused : goal.returns-clause-not_refused
-returns-clause-not_refused g c =
-    let whole = sized_of c.self.inside.state c.self.inside.items c.self.inside.filed c.self.inside.order in
-    rw (← c.self.view_is)
-    (IsDuplicate-with_room whole _ c.self.invariant c.args.item c.insert_item.result c.insert_item.ensures.refused
-    (InsertsInMemory-where
-    (HasRoomInParts-from_room c.self.inside.state c.self.inside.items c.self.inside.filed c.self.inside.order c.self.invariant)
-    c.insert_item.ensures.memory))
-
-pub returns-clause-count : goal.returns-clause-count
-returns-clause-count g c =
-    rw (← c.self.view_is)
-    (count-inserted (was g c) (is g c) c.self.invariant (keys g c) c.args.item c.insert_item.result (stored g c))
+    out.memory in
+    rw (← c.self.view_is) (record {
+      inserts = record {
+          first = one.found;
+          second = out.second.found;
+          stored = put;
+          refused = out.refused;
+          unchanged = unchanged g c;
+      };
+      tells = record { first = one.as_scan; second = out.second.as_scan };
+      keeps = kept;
+      memory = memory;
+      few = record {
+          slots = out.few_slots;
+          cells = few_for_live (was g c) c.self.invariant _ _ out.few_cells;
+      };
+      room = room-inserted whole left c.self.invariant (keys g c) c.args.item c.insert_item.result put memory;
+      not_refused = IsDuplicate-with_room whole _ c.self.invariant c.args.item c.insert_item.result out.refused memory;
+      count = count-inserted (was g c) (is g c) c.self.invariant (keys g c) c.args.item c.insert_item.result put;
+    })
