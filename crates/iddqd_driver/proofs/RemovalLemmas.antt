@@ -29,6 +29,12 @@ pub record LeavesOthers
   pub room : live_count old.state.store ≤ capacity old → room new ≡ room old + 1
   pub count : live_count old.state.store ≡ live_count new.state.store + 1
 
+-- what a removal that finds nothing leaves
+pub record LeavesAll {T S K1 K2 : Type 0} (keys : Keys T K1 K2 S) (old new : SizedState T S) : Type 0 where
+  pub state : new.state ≡ old.state
+  pub keeps : Keeps keys old.state new.state
+  pub memory : new.memory ≡ old.memory
+
 module _
     {T S : Type 0} (hasher : S) (items : SizedStore T) (table : Table ℕ) (order : Order) (old : SizedState T S)
     (seen : sized_of hasher items table order ≡ old) (paired : IsPaired (state_of hasher items.store table order))
@@ -46,16 +52,26 @@ module _
       pub kept-paired : IsPaired (state_of hasher items.store new_table order)
       kept-paired = rw same paired
 
-      pub kept-keeps :
+      pub LeavesAll-filed :
           {K1 K2 : Type 0} (keys : Keys T K1 K2 S)
-          → Keeps keys old.state (state_of hasher items.store new_table order)
-      kept-keeps keys = rw (← seen, same) (Keeps-same keys _ paired _ refl)
+          → KeepsMemory table new_table
+          → LeavesAll keys old (sized_of hasher items new_table order)
+      LeavesAll-filed keys cells = record {
+        state = rw (← seen, same) refl;
+        keeps = rw (← seen, same) (Keeps-same keys _ paired _ refl);
+        memory = rw (← seen, cells.same_capacity, cells.same_memory) refl;
+      }
 
-      pub kept-state : state_of hasher items.store new_table order ≡ old.state
-      kept-state = rw (← seen, same) refl
-
-    pub kept-memory : (new_table : Table ℕ) → KeepsMemory table new_table → memory_of items new_table order ≡ old.memory
-    kept-memory new_table cells = rw (← seen, cells.same_capacity, cells.same_memory) refl
+    pub LeavesAll-ordered :
+        {K1 K2 : Type 0} (keys : Keys T K1 K2 S) (new_order : Order)
+        → order_of new_order ≡ order_of order
+        → ordered_capacity new_order ≡ ordered_capacity order
+        → LeavesAll keys old (sized_of hasher items table new_order)
+    LeavesAll-ordered keys new_order same held = record {
+      state = rw (← seen, same) refl;
+      keeps = rw (← seen, same) (Keeps-same keys _ paired _ refl);
+      memory = rw (← seen, held) refl;
+    }
 
     module _
         (new_items : SizedStore T) (new_table : Table ℕ) (new_order : Order) (ix : ℕ) (item : T)

@@ -260,7 +260,9 @@ impl<T: KeyedItem, S: BuildHasher> KeyedItems<T, S> {
             (live_count self.old.state.store ≤ capacity self.old → room self.new ≡ room self.old + 1) }
         ensures count { OnSome result (live_count self.old.state.store ≡ live_count self.new.state.store + 1) }
     {
-        let item = self.items.get(ix)?;
+        let Some(item) = self.items.get(ix) else {
+            return None;
+        };
         let hash = hashed::hash_of::<T, First, S>(&self.state, item);
         hashed::remove_index(&mut self.filed, hash, ix);
         Some(remove_item(&mut self.order, &mut self.items, ix))

@@ -109,7 +109,9 @@ impl<T: KeyedItem, S: BuildHasher> KeyedItems<T, S> {
         let Some(ix) = found else {
             return None;
         };
-        let item = items.get_mut(ix)?;
+        let Some(item) = items.get_mut(ix) else {
+            return None;
+        };
         Some(f(item))
     }
 }

@@ -8,17 +8,16 @@ pub invariant_of-self : goal.invariant_of-self
 invariant_of-self g c =
     removed-paired c.self.inside.state c.self.inside.items c.self.inside.filed c.self.inside.order c.args.self.now c.self.view_is c.self.invariant c.remove_item.new.items c.remove_index.new.table c.remove_item.new.order c.args.ix _ c.remove_item.ensures.item c.remove_item.ensures.removed c.remove_index.ensures.taken c.remove_item.ensures.taken
 
-pub returns-in_err-item : goal.returns-in_err-item
-returns-in_err-item g c =
-    rw c.from_residual.ensures
-    (record {
-      removes = none-removes c.self.inside.state c.self.inside.items c.self.inside.filed c.self.inside.order c.args.self.now c.self.view_is c.self.invariant c.args.ix _ c.in_err-item.ensures refl;
-      live = read-live c.self.inside.state c.self.inside.items c.self.inside.filed c.self.inside.order c.args.self.now c.self.view_is c.self.invariant c.args.ix _ c.in_err-item.ensures;
+pub returns-in_default : goal.returns-in_default
+returns-in_default g c =
+    record {
+      removes = none-removes c.self.inside.state c.self.inside.items c.self.inside.filed c.self.inside.order c.args.self.now c.self.view_is c.self.invariant c.args.ix _ c.in_default.ensures refl;
+      live = read-live c.self.inside.state c.self.inside.items c.self.inside.filed c.self.inside.order c.args.self.now c.self.view_is c.self.invariant c.args.ix _ c.in_default.ensures;
       keeps = rw (← c.self.view_is) (Keeps-same _ _ c.self.invariant _ refl);
       memory = refl;
       room = tt;
       count = tt;
-    })
+    }
 
 pub returns : goal.returns
 returns g c =
