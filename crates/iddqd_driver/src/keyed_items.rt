@@ -305,9 +305,9 @@ impl<T: KeyedItem, S: BuildHasher> KeyedItems<T, S> {
         ensures memory { self.new.memory ≡ self.old.memory }
         ensures count { live_count self.new.state.store ≡ live_count self.old.state.store }
     {
-        if self.items.get(ix).is_none() {
+        let Some(_) = self.items.get(ix) else {
             return Err(item);
-        }
+        };
         Ok(self.items.replace(ix, item))
     }
 
@@ -324,7 +324,10 @@ impl<T: KeyedItem, S: BuildHasher> KeyedItems<T, S> {
         ensures keeps { Keeps ⟦<Self as Keyed>⟧.keys self.old.state self.new.state }
         ensures memory { self.new.memory ≡ self.old.memory }
     {
-        let remap = self.items.compact()?;
+        let remap = match self.items.compact() {
+            Ok(remap) => remap,
+            Err(AllocError) => return Err(AllocError),
+        };
         self.filed.remap_indexes(&remap);
         self.order.remap_indexes(&remap);
         Ok(remap)
