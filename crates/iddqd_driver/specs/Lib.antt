@@ -11,6 +11,7 @@ pub mod Replacement
 pub mod Modify
 pub mod Retain
 pub mod Memory
+pub mod Parts
 pub mod Clones
 pub mod Equality
 pub mod EqualityLaws

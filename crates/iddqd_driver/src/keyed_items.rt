@@ -27,7 +27,8 @@ ghost use Rattle.iddqd_driver.specs.State.{empty_state, empty_state_within, clea
 ghost use Rattle.iddqd_driver.specs.KeyIndexes.{first_key_index, second_key_index, finds_reported, hash_in, LooksUp, IsInSync, Keeps, KeepsUnlessChanged};
 ghost use Rattle.iddqd_driver.specs.Machine.{Refuses, Inserts, ReportsAsScan, Removes, RemovesBy, Overwrites, Step};
 ghost use Rattle.iddqd_driver.specs.Run.{Run};
-ghost use Rattle.iddqd_driver.specs.Memory.{no_memory, capacity, room, InsertsInMemory, InsertsInParts, IsDuplicate, TakesForOne, StepsInMemory, RunsInMemory};
+ghost use Rattle.iddqd_driver.specs.Memory.{no_memory, capacity, room, InsertsInMemory, IsDuplicate, TakesForOne, StepsInMemory, RunsInMemory};
+ghost use Rattle.iddqd_driver.specs.Parts.{InsertsParts};
 
 mod clones;
 mod defaults;
@@ -461,21 +462,9 @@ fn insert_item<T: KeyedItem>(
     ensures first { (finds_reported result).0 ≡ first }
     ensures second { by_order.LooksUp T.second_key T.Key2.cmp items.old.store (order_of order.old)
         (T.Key2.cmp (T.second_key item)) (finds_reported result).1 }
-    ensures not_full { IsOk result → IsFull items.old.store → ⊥ }
-    ensures index { IfOk result (λ ix. ix ≡ next_index items.old.store) }
-    ensures stored { OnOk result (items.new.store ≡ inserted items.old.store item) }
-    ensures filed { OnOk result (filed table.new
-        ≡ finite.insert (filed table.old) (next_index items.old.store) hash) }
-    ensures placed { OnOk result (by_order.AddsInPlace T.second_key T.Key2.cmp items.old.store item
-        (order_of order.old) (order_of order.new)) }
     ensures refused { IfErr result (Refuses items.old.store item) }
-    ensures items_stay { OnErr result (items.new.store ≡ items.old.store) }
-    ensures hashes_stay { OnErr result (filed table.new ≡ filed table.old) }
-    ensures order_stays { OnErr result (order_of order.new ≡ order_of order.old) }
-    ensures memory { InsertsInParts items.old table.old order.old result items.new table.new order.new }
-    ensures few_slots { items.new.capacity
-        ≤ max items.old.capacity (min items.old.store.limit (max 4 (2 * live_count items.old.store))) }
-    ensures few_cells { cells table.new ≤ max (cells table.old) (most_cells (finite.len (filed table.old) + 1)) }
+    ensures parts { InsertsParts T.second_key T.Key2.cmp item hash items.old table.old order.old result
+        items.new table.new order.new }
 {
     let query = KeyQuery(item.key2());
     let vacant = match ordered::entry::<T, Second, KeyQuery<T::Key2>>(order, items, &query) {
