@@ -1,4 +1,4 @@
-use Rattle.std.proofs.Common.{rules, inl, inr, ◌∙◌, is_err, refl, sym, ap, arith}
+use Rattle.std.proofs.Common.{inl, inr, ◌∙◌, is_err, refl, sym, ap, arith}
 use Rattle.std.proofs.lemmas.Grind.{common_steps}
 use Rattle.std.proofs.lemmas.Bool.{false≢true}
 use Rattle.iddqd.specs.GrowHandle.{handle_set}
@@ -28,7 +28,7 @@ returns-in-Occupied g c =
       second = rw (← c.key2.ensures, c.get.ensures) c.in-Occupied.ensures.made;
       refused = (refl, inr refl);
       parts = InsertsParts-same g.T.KeyedItem.second_key g.T.Key2.Ord.cmp c.args.item c.args.hash c.args.items.now c.args.table.now c.args.order.now
-          _ _ _ (λ _ never. never) refl (search rules);
+          _ _ _ (λ _ never. never) refl (grind arith);
     }
 
 pub returns-then-is_some : goal.returns-then-is_some
@@ -38,7 +38,7 @@ returns-then-is_some g c =
       second = rw (← c.key2.ensures) c.in-Vacant.ensures.made.missed;
       refused = (refl, inl (sym c.is_some.ensures ∙ c.if-is_some.true));
       parts = InsertsParts-same g.T.KeyedItem.second_key g.T.Key2.Ord.cmp c.args.item c.args.hash c.args.items.now c.args.table.now c.args.order.now
-          _ _ _ (λ _ never. never) refl (search rules);
+          _ _ _ (λ _ never. never) refl (grind arith);
     }
 
 pub returns-in-Err-Full : goal.returns-in-Err-Full
@@ -48,7 +48,7 @@ returns-in-Err-Full g c =
       second = rw (← c.key2.ensures) c.in-Vacant.ensures.made.missed;
       refused = (refl, c.assert_can_grow.ensures.full.0 (rw c.in-Err-Full.field-0-is at c.in-Err-Full.is));
       parts = InsertsParts-same g.T.KeyedItem.second_key g.T.Key2.Ord.cmp c.args.item c.args.hash c.args.items.now c.args.table.now c.args.order.now
-          _ _ _ (λ _ never. never) (rw c.in-Err-Full.is at c.assert_can_grow.follows.holds-at-none) (search rules);
+          _ _ _ (λ _ never. never) (rw c.in-Err-Full.is at c.assert_can_grow.follows.holds-at-none) (grind arith);
     }
 
 pub returns-in-Err-Memory : goal.returns-in-Err-Memory
@@ -60,7 +60,7 @@ returns-in-Err-Memory g c =
       refused = (refl, λ full. not_both_errors _ (c.assert_can_grow.ensures.full.1 full) failed);
       parts = InsertsParts-same g.T.KeyedItem.second_key g.T.Key2.Ord.cmp c.args.item c.args.hash c.args.items.now c.args.table.now c.args.order.now
           _ _ _ (λ parts _. store_has_room g.T.KeyedItem.second_key g.T.Key2.Ord.cmp c.args.item c.args.hash c.args.items.now c.args.table.now c.args.order.now (c.assert_can_grow.ensures.memory failed) parts)
-          (rw c.in-Err-Memory.is at c.assert_can_grow.follows.holds-at-none) (search rules);
+          (rw c.in-Err-Memory.is at c.assert_can_grow.follows.holds-at-none) (grind arith);
     }
 
 pub returns-in-Err : goal.returns-in-Err
@@ -75,7 +75,7 @@ returns-in-Err g c =
           (handle_set c.in-Ok.handle) c.try_reserve.new.self c.requires.valid grew.contents grew.capacity grew.kept grew.grown
           reserved.contents reserved.few reserved.capacity reserved.counted _ _ _ reserved.memory
           (table_has_room g.T.KeyedItem.second_key g.T.Key2.Ord.cmp c.args.item c.args.hash c.args.items.now c.args.table.now c.args.order.now _ _ reserved.counted reserved.memory)
-          (search rules) (search rules);
+          (grind arith) (grind arith);
     }
 
 pub returns-in-Err-prepare : goal.returns-in-Err-prepare
@@ -90,7 +90,7 @@ returns-in-Err-prepare g c =
           (handle_set c.in-Ok.handle) c.try_reserve.new.self c.requires.valid grew.contents grew.capacity grew.kept grew.grown
           reserved.contents reserved.few reserved.capacity reserved.counted _ _ _ reserved.memory
           (order_has_room g.T.KeyedItem.second_key g.T.Key2.Ord.cmp c.args.item c.args.hash c.args.items.now c.args.table.now c.args.order.now _ c.in-Vacant.ensures.table c.in-Err-prepare.ensures.roomy)
-          (search rules) (search rules);
+          (grind arith) (grind arith);
     }
 
 pub returns : goal.returns
@@ -113,7 +113,7 @@ returns g c =
           (handle_set c.in-Ok.handle) c.try_reserve.new.self c.requires.valid grew.contents grew.capacity grew.kept grew.grown
           reserved.contents reserved.few reserved.capacity reserved.counted
           c.try_reserve.result c.insert-ix.result _ c.insert_prehashed_unchecked.new.self c.insert.result.now _ reserved.memory
-          (λ full. absurd (false≢true (ap is_err (grew.full.1 full)))) c.insert-ix.ensures.index (search rules)
+          (λ full. absurd (false≢true (ap is_err (grew.full.1 full)))) c.insert-ix.ensures.index (grind arith)
           c.insert_prehashed_unchecked.ensures.added c.insert_prehashed_unchecked.ensures.memory placed
-          (c.insert.ensures.memory ∙ c.in-Ok-prepare.ensures.memory ∙ ap ordered_capacity c.in-Vacant.ensures.table) (search rules);
+          (c.insert.ensures.memory ∙ c.in-Ok-prepare.ensures.memory ∙ ap ordered_capacity c.in-Vacant.ensures.table) (grind arith);
     }
