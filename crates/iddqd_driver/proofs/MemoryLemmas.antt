@@ -245,6 +245,54 @@ least_of_four n a b c d first second third fourth = omega arith
 room_from : (held live more : ℕ) → live + more ≤ held → more ≤ held - live
 room_from held live more fits = omega arith
 
+-- there was that room, so nothing changed
+pub ReservesInMemory-had :
+    {T S E : Type 0} (k : SizedState T S) (additional : ℕ)
+    → reservable additional k ≤ room k
+    → ReservesInMemory {E = E} additional k (Ok tt) k
+ReservesInMemory-had k additional enough = record {
+  contents = refl;
+  no_lower = IsNoLower-same _ _ refl;
+  reserved = enough;
+  had_room = λ _. (refl, refl);
+  few_slots = not_more _ _;
+  few_cells = not_more _ _;
+  few_blocks = not_more _ _;
+}
+
+-- how many items a reserve is to make room for, from what was read
+module _
+    {T S : Type 0} (k : SizedState T S) (additional limit len wanted : ℕ) (limit_is : limit ≡ k.state.store.limit)
+    (len_is : len ≡ live_count k.state.store) (wanted_is : wanted ≡ min additional (limit - len))
+  where
+    pub wanted_reservable : wanted ≡ reservable additional k
+    wanted_reservable = omega (arith, limit_is, len_is, wanted_is)
+
+    pub had_enough : (free : ℕ) → free ≡ room k → wanted ≤ free → reservable additional k ≤ room k
+    had_enough free free_is enough = omega (arith, wanted_reservable, free_is, enough)
+
+    pub lacks_room : (free : ℕ) → free ≡ room k → free < wanted → room k < wanted
+    lacks_room free free_is fewer = omega (arith, free_is, fewer)
+
+    pub slots_within :
+        IsValid k.state.store
+        → (items slots : ℕ)
+        → items ≡ live_count k.state.store
+        → items + wanted ≤ slots
+        → live_count k.state.store + wanted ≤ min slots k.state.store.limit
+    slots_within valid items slots items_is reserved =
+        omega (arith, wanted_reservable, items_is, reserved, valid.counted, valid.small)
+
+pub not_fewer : (n : ℕ) → n ≤ n
+not_fewer n = omega arith
+
+pub few_slots_for :
+    (live items wanted slots held limit : ℕ)
+    → items ≡ live
+    → slots ≤ max held (max (items + wanted) (min limit (2 * held)))
+    → slots ≤ max held (max (live + wanted) (min limit (2 * held)))
+few_slots_for live items wanted slots held limit items_is few = rw (← items_is) few
+
 -- what the parts took for so many more items
 module _
     {T S : Type 0} (hasher : S) (items new_items : SizedStore T) (table new_table : Table ℕ)
@@ -328,6 +376,37 @@ module _
           subst (λ n. ordered_capacity new_order ≤ max (ordered_capacity order) (capacity_for (live + n))) meant
           (few_blocks ordered r refl);
     }
+
+  -- memory ran out in one of the parts
+  pub ReservesInMemory-failed :
+      {E : Type 0} (error : E) (wanted : ℕ)
+      → wanted ≡ reservable additional was
+      → room was < wanted
+      → new_items.store ≡ items.store
+      → items.capacity ≤ new_items.capacity
+      → new_items.capacity
+      ≤ max items.capacity (max (live_count items.store + wanted) (min items.store.limit (2 * items.capacity)))
+      → (filed new_table ≡ filed table)
+      → (hashed_capacity table ≤ hashed_capacity new_table)
+      → (hashed_cells new_table ≡ hashed_cells table)
+      → new_order ≡ order
+      → ReservesInMemory additional was (Err error) is
+  ReservesInMemory-failed error wanted meant lacks same_store slots_stay few same_filed hashed cells ordered = record {
+    contents = rw (same_store, same_filed, ordered) refl;
+    no_lower = record {
+        slots = slots_stay;
+        hashed = hashed;
+        cells = omega (arith, cells);
+        ordered = rw ordered (omega arith);
+    };
+    reserved = tt;
+    had_room = λ enough. absurd (omega (arith, enough, meant, lacks));
+    few_slots = subst
+        (λ n. new_items.capacity ≤ max items.capacity (max (live_count items.store + n) (min items.store.limit (2 * items.capacity))))
+        meant few;
+    few_cells = omega (arith, cells);
+    few_blocks = rw ordered (omega arith);
+  }
 
   -- ---- memory given back
 

@@ -91,8 +91,12 @@ impl<T: KeyedItem, S: BuildHasher> KeyedItems<T, S> {
             return Ok(());
         }
         let items = self.items.len() + wanted;
-        self.items.reserve_slots(items)?;
-        self.filed.try_reserve(wanted)?;
+        if let Err(AllocError) = self.items.reserve_slots(items) {
+            return Err(AllocError);
+        }
+        if let Err(AllocError) = self.filed.try_reserve(wanted) {
+            return Err(AllocError);
+        }
         self.order.try_reserve(wanted)
     }
 
