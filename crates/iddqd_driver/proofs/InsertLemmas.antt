@@ -89,11 +89,11 @@ module _ {T K : Type 0} (key_of : T → K) (compare : K → K → Ordering) (ite
     hashes_stay = refl;
     order_stays = refl;
     memory = record {
-        no_lower = IsNoLower-same _ _ refl;
-        same_ordered = refl;
-        refused_early = λ _. refl;
-        had_room = λ _. refl;
-        not_refused = never;
+      no_lower = IsNoLower-same _ _ refl;
+      same_ordered = refl;
+      refused_early = λ _. refl;
+      had_room = λ _. refl;
+      not_refused = never;
     };
     few_slots = not_more _ _;
     few_cells = not_more _ _;
@@ -108,61 +108,61 @@ module _ {T K : Type 0} (key_of : T → K) (compare : K → K → Ordering) (ite
       (held : hashed_capacity table ≤ hashed_capacity mid)
       (counted : hashed_capacity table ≡ finite.len (filed table) + hashed_room table)
     where
-    -- memory ran out in a table after the store grew
-    pub InsertsParts-out_of_memory :
-        {A E : Type 0} (r : Result A E) (new_items : SizedStore T) (new_order : Order)
-        → Reserves 1 table r mid
-        → (HasRoomInParts items table order → ⊥)
-        → new_items ≡ grown
-        → new_order ≡ order
-        → InsertsParts key_of compare item hash items table order (Err (Memory item)) new_items mid new_order
-    InsertsParts-out_of_memory r new_items new_order reserves never same ordered = rw (same, ordered) (record {
-      not_full = λ ok. absurd (false≢true ok);
-      index = tt;
-      stored = tt;
-      entered = tt;
-      placed = tt;
-      items_stay = contents;
-      hashes_stay = same_filed;
-      order_stays = refl;
-      memory = record {
+      -- memory ran out in a table after the store grew
+      pub InsertsParts-out_of_memory :
+          {A E : Type 0} (r : Result A E) (new_items : SizedStore T) (new_order : Order)
+          → Reserves 1 table r mid
+          → (HasRoomInParts items table order → ⊥)
+          → new_items ≡ grown
+          → new_order ≡ order
+          → InsertsParts key_of compare item hash items table order (Err (Memory item)) new_items mid new_order
+      InsertsParts-out_of_memory r new_items new_order reserves never same ordered = rw (same, ordered) (record {
+        not_full = λ ok. absurd (false≢true ok);
+        index = tt;
+        stored = tt;
+        entered = tt;
+        placed = tt;
+        items_stay = contents;
+        hashes_stay = same_filed;
+        order_stays = refl;
+        memory = record {
           no_lower = record { slots = more; hashed = held; cells = reserves.memory_stays; ordered = omega arith };
           same_ordered = refl;
           refused_early = λ other. absurd (other tt);
           had_room = λ some. absurd (never some);
           not_refused = λ some. absurd (never some);
-      };
-      few_slots = few_slots_by items grown grown.capacity valid kept grows refl;
-      few_cells = few;
-    })
+        };
+        few_slots = few_slots_by items grown grown.capacity valid kept grows refl;
+        few_cells = few;
+      })
 
-    -- the item was stored, its index filed and placed
-    pub InsertsParts-stored :
-        {A E : Type 0} (r : Result A E) (ix : ℕ) (new_items : SizedStore T) (new_table : Table ℕ) (put new_order : Order)
-        → Reserves 1 table r mid
-        → (IsFull items.store → ⊥)
-        → ix ≡ next_index grown.store
-        → new_items ≡ record grown { store = inserted grown.store item }
-        → filed new_table ≡ finite.insert (filed mid) ix hash
-        → UsesRoom mid new_table
-        → AddsInPlace key_of compare items.store item (order_of order) (order_of put)
-        → ordered_capacity put ≡ ordered_capacity order
-        → new_order ≡ put
-        → InsertsParts key_of compare item hash items table order (Ok ix) new_items new_table new_order
-    InsertsParts-stored r ix new_items new_table put new_order reserves not_full index stored filed_is uses placed ordered is = rw is (record {
-      not_full = λ _. not_full;
-      index = index ∙ ap next_index contents;
-      stored = ap (λ (s : SizedStore T). s.store) stored ∙ ap (λ s. inserted s item) contents;
-      entered = rw (index, contents, same_filed) at filed_is;
-      placed = placed;
-      items_stay = tt;
-      hashes_stay = tt;
-      order_stays = tt;
-      memory = InsertsInParts-stored items grown new_items.capacity table mid new_table order (ordered_capacity put) r ix
-          more kept (ap (λ (s : SizedStore T). s.capacity) stored) reserves held counted uses ordered;
-      few_slots = few_slots_by items grown new_items.capacity valid kept grows (ap (λ (s : SizedStore T). s.capacity) stored);
-      few_cells = few_cells _ _ _ _ few uses.same_memory;
-    })
+      -- the item was stored, its index filed and placed
+      pub InsertsParts-stored :
+          {A E : Type 0} (r : Result A E) (ix : ℕ) (new_items : SizedStore T) (new_table : Table ℕ) (put new_order : Order)
+          → Reserves 1 table r mid
+          → (IsFull items.store → ⊥)
+          → ix ≡ next_index grown.store
+          → new_items ≡ record grown { store = inserted grown.store item }
+          → filed new_table ≡ finite.insert (filed mid) ix hash
+          → UsesRoom mid new_table
+          → AddsInPlace key_of compare items.store item (order_of order) (order_of put)
+          → ordered_capacity put ≡ ordered_capacity order
+          → new_order ≡ put
+          → InsertsParts key_of compare item hash items table order (Ok ix) new_items new_table new_order
+      InsertsParts-stored r ix new_items new_table put new_order reserves not_full index stored filed_is uses placed ordered is = rw is (record {
+        not_full = λ _. not_full;
+        index = index ∙ ap next_index contents;
+        stored = ap (λ (s : SizedStore T). s.store) stored ∙ ap (λ s. inserted s item) contents;
+        entered = rw (index, contents, same_filed) at filed_is;
+        placed = placed;
+        items_stay = tt;
+        hashes_stay = tt;
+        order_stays = tt;
+        memory = InsertsInParts-stored items grown new_items.capacity table mid new_table order (ordered_capacity put) r ix
+            more kept (ap (λ (s : SizedStore T). s.capacity) stored) reserves held counted uses ordered;
+        few_slots = few_slots_by items grown new_items.capacity valid kept grows (ap (λ (s : SizedStore T). s.capacity) stored);
+        few_cells = few_cells _ _ _ _ few uses.same_memory;
+      })
 
   -- where each part has room, none runs out of memory
   pub store_has_room : set_room items ≡ 0 → HasRoomInParts items table order → ⊥

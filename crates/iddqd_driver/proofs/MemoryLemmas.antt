@@ -7,11 +7,11 @@ use Rattle.std.specs.Cmp.{nat_cmp_total}
 use Rattle.std.proofs.lemmas.Bool.{cases_lt}
 use Rattle.std.proofs.lemmas.Cmp.{tied_itself}
 use Rattle.std.proofs.lemmas.List.{length-map}
-use Rattle.iddqd.specs.Store.{Store, IsValid, live_count, slot_count}
+use Rattle.iddqd.specs.Store.{Store, IsValid, empty_within, live_count, slot_count}
 use Rattle.iddqd.specs.ItemSet.{SizedStore, room as set_room}
 use Rattle.iddqd.specs.Sizes.{doubled}
 use Rattle.iddqd.proofs.LiveCountLemmas.{live_count-inserted, live_count-removed}
-use Rattle.iddqd_hash.specs.HashTable.{Table, UsesRoom, entries, capacity as hashed_capacity, memory as hashed_cells, room as hashed_room}
+use Rattle.iddqd_hash.specs.HashTable.{Table, HasNoMemory, UsesRoom, entries, capacity as hashed_capacity, memory as hashed_cells, room as hashed_room}
 use Rattle.iddqd_hash.specs.MapHashTable.{filed, filed_from, swapped, indexes_of}
 use Rattle.iddqd_hash.specs.Sizes as hash_sizes
 use Rattle.iddqd_hash.specs.Sizes.{most_cells, Reserves}
@@ -19,9 +19,9 @@ use Rattle.iddqd_order.specs.MapBTreeTable.{Order, order_of, capacity as ordered
 use Rattle.iddqd_order.specs.Sizes as order_sizes
 use Rattle.iddqd_by_order.proofs.OrderedCountLemmas.{length-held}
 use Rattle.iddqd_driver.specs.Keys.{Keys}
-use Rattle.iddqd_driver.specs.State.{State, state_of, IsPaired}
+use Rattle.iddqd_driver.specs.State.{State, state_of, empty_state_within, IsPaired}
 use Rattle.iddqd_driver.specs.Machine.{Removes, StoresAt}
-use Rattle.iddqd_driver.specs.Memory.{Memory, SizedState, IsNoLower, InsertsInMemory, HasRoomInParts, memory_of, ReservesInMemory, ShrinksInMemory, sized_of, capacity, room, reservable}
+use Rattle.iddqd_driver.specs.Memory.{Memory, SizedState, IsMadeFor, IsNoLower, InsertsInMemory, no_memory, HasRoomInParts, memory_of, ReservesInMemory, ShrinksInMemory, sized_of, capacity, room, reservable}
 use Rattle.iddqd_driver.specs.declared.keyed_items.InsertRefusal.{InsertRefusal}
 use Rattle.iddqd_driver.proofs.KeepsLemmas.{Holds-order}
 use Rattle.iddqd_driver.proofs.ValidationLemmas.{filed_has_live_indexes}
@@ -394,10 +394,10 @@ module _
   ReservesInMemory-failed error wanted meant lacks same_store slots_stay few same_filed hashed cells ordered = record {
     contents = rw (same_store, same_filed, ordered) refl;
     no_lower = record {
-        slots = slots_stay;
-        hashed = hashed;
-        cells = omega (arith, cells);
-        ordered = rw ordered (omega arith);
+      slots = slots_stay;
+      hashed = hashed;
+      cells = omega (arith, cells);
+      ordered = rw ordered (omega arith);
     };
     reserved = tt;
     had_room = λ enough. absurd (omega (arith, enough, meant, lacks));
@@ -444,3 +444,40 @@ module _
           (length-order was.state paired) ordered.shrunk;
       never_more = (slots_fall, cells_fall);
     }
+
+-- ---- a collection that is made for so many items
+
+pub record IsMadeWithin {T S : Type 0} (limit n : ℕ) (hasher : S) (k : SizedState T S) : Type 0 where
+  pub state : k.state ≡ empty_state_within limit hasher
+  pub has_room : n ≤ room k
+  pub made : IsMadeFor n k.memory
+  pub none : n ≡ 0 → k.memory ≡ no_memory
+
+module _
+    {T S : Type 0} (hasher : S) (items : SizedStore T) (table : Table ℕ) (order : Order) (limit wanted n : ℕ)
+    (n_is : n ≡ min wanted limit) (contents : items.store ≡ empty_within limit) (slots : items.capacity ≡ n)
+    (unfiled : filed table ≡ finite.empty) (roomy : n ≤ hashed_room table) (few : hashed_cells table ≤ hash_sizes.most_cells n)
+    (bare : n ≡ 0 → HasNoMemory table) (empty : order_of order ≡ []) (blocks : ordered_capacity order ≡ capacity_for n)
+    (fits : n ≤ ordered_capacity order)
+  where
+    pairs : length (entries table) ≡ 0
+    pairs = length-entries_of_none table unfiled
+
+    hashed : n ≤ hashed_capacity table
+    hashed = omega (arith, pairs, roomy)
+
+    all_fit : n ≤ min (min items.capacity limit) (min (hashed_capacity table) (ordered_capacity order)) - 0
+    all_fit = omega (arith, n_is, slots, hashed, fits)
+
+    nothing : n ≡ 0 → memory_of items table order ≡ no_memory
+    nothing none =
+        let held : hashed_capacity table ≡ 0 = omega (arith, pairs, (bare none).no_room) in
+        rw (slots, held, (bare none).no_cell, blocks, none) refl
+
+    pub IsMadeWithin-parts : IsMadeWithin limit (min wanted limit) hasher (sized_of hasher items table order)
+    IsMadeWithin-parts = rw (← n_is, contents, unfiled, empty) (record {
+      state = refl;
+      has_room = all_fit;
+      made = record { slots = slots; hashed = hashed; cells = few; ordered = blocks };
+      none = nothing;
+    })

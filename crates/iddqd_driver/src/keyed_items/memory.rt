@@ -52,10 +52,19 @@ impl<T: KeyedItem, S: BuildHasher> KeyedItems<T, S> {
         ensures no_memory { min items limit ≡ 0 → IfOk result (λ k. k.memory ≡ no_memory) }
     {
         let items = items.min(limit as usize);
+        let Ok(set) = empty_set(alloc, limit, items) else {
+            return Err(AllocError);
+        };
+        let Ok(filed) = MapHashTable::with_capacity(alloc, items) else {
+            return Err(AllocError);
+        };
+        let Ok(order) = MapBTreeTable::with_capacity(alloc, items) else {
+            return Err(AllocError);
+        };
         Ok(KeyedItems {
-            items: empty_set(alloc, limit, items)?,
-            filed: MapHashTable::with_capacity(alloc, items)?,
-            order: MapBTreeTable::with_capacity(alloc, items)?,
+            items: set,
+            filed,
+            order,
             state,
             alloc,
         })

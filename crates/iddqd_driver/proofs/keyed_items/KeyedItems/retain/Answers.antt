@@ -51,7 +51,7 @@ returns g c =
       count = counted;
       keeps = Keeps-retained _ (CalledAt g.F.FnMut) c.args.f _ _
           (AreLawful-from_bounds g.S.BuildHasher g.S.Hasher.Hasher g.met.T.Key1.PartialEq.laws
-    g.met.T.Key1.Hash.respects_eq g.met.T.Key2.Ord.total) c.self.invariant done;
+          g.met.T.Key1.Hash.respects_eq g.met.T.Key2.Ord.total) c.self.invariant done;
       memory = same;
       capacity = capacity-same whole left limit same;
       room = room-more whole left limit same _ counted;
