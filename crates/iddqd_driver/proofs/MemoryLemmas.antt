@@ -456,8 +456,9 @@ pub record IsMadeWithin {T S : Type 0} (limit n : ℕ) (hasher : S) (k : SizedSt
 module _
     {T S : Type 0} (hasher : S) (items : SizedStore T) (table : Table ℕ) (order : Order) (limit wanted n : ℕ)
     (n_is : n ≡ min wanted limit) (contents : items.store ≡ empty_within limit) (slots : items.capacity ≡ n)
-    (unfiled : filed table ≡ finite.empty) (roomy : n ≤ hashed_room table) (few : hashed_cells table ≤ hash_sizes.most_cells n)
-    (bare : n ≡ 0 → HasNoMemory table) (empty : order_of order ≡ []) (blocks : ordered_capacity order ≡ capacity_for n)
+    (unfiled : filed table ≡ finite.empty) (roomy : n ≤ hashed_room table)
+    (few : hashed_cells table ≤ hash_sizes.most_cells n) (bare : n ≡ 0 → HasNoMemory table)
+    (empty : order_of order ≡ []) (blocks : ordered_capacity order ≡ capacity_for n)
     (fits : n ≤ ordered_capacity order)
   where
     pairs : length (entries table) ≡ 0

@@ -62,7 +62,8 @@ GivesFound-at s finds (Some ix) item found live = (ix, found, live)
 -- a modification at the index that a look-up returned
 module _ {F T R S : Type 0} (g : Once F (MutBor T × Unit {0}) (R × (MutBor T × Unit {0}))) (f : F) where
   pub ModifiesFound-hit :
-      (finds : Option ℕ → Type 0) (test : T → Bool) (old : State T S) (found : Option ℕ) (result : Option R) (new : State T S)
+      (finds : Option ℕ → Type 0) (test : T → Bool) (old : State T S) (found : Option ℕ) (result : Option R)
+      (new : State T S)
       → finds found
       → ((ix : ℕ) → finds (Some ix) → IsHit old.store test ix)
       → ModifiesHit g f old found result new

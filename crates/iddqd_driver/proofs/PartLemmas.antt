@@ -107,7 +107,8 @@ module _
     (is : key ≡ keys.first item) (hash : ℕ) (found : Option ℕ) (hashed : hash ≡ hash_in keys old.state key)
     (looked : LooksUp (first_key_index keys) old.state key found) (new_items : SizedStore T) (new_table : Table ℕ)
     (new_order : Order) (r : Result ℕ (InsertRefusal T)) (reported : (finds_reported r).0 ≡ found)
-    (second : LooksUp (second_key_index keys) (state_of hasher items.store table order) (keys.second item) (finds_reported r).1)
+    (second :
+    LooksUp (second_key_index keys) (state_of hasher items.store table order) (keys.second item) (finds_reported r).1)
     (refused : IfErr r (Refuses items.store item))
     (parts : InsertsParts keys.second keys.compare_second item hash items table order r new_items new_table new_order)
   where
@@ -131,7 +132,9 @@ module _
     unchanged : OnErr r (left ≡ s)
     unchanged = same-from_parts keys s item _ _ _ r parts.items_stay parts.hashes_stay parts.order_stays
 
-    memory : InsertsInMemory (1 ≤ room (sized_of hasher items table order)) (memory_of items table order) r (memory_of new_items new_table new_order)
+    memory :
+        InsertsInMemory (1 ≤ room (sized_of hasher items table order)) (memory_of items table order) r
+        (memory_of new_items new_table new_order)
     memory = InsertsInMemory-where (HasRoomInParts-from_room hasher items table order paired) parts.memory
 
     pub LeavesInserted-parts : LeavesInserted keys old item r (sized_of hasher new_items new_table new_order)

@@ -456,7 +456,8 @@ pub record LeavesReplaced
   pub replaces : Replaces keys old.state ix item r new.state
   pub keeps : Keeps keys old.state new.state
   pub memory : new.memory ≡ old.memory
-  pub not_refused : live_count old.state.store ≤ old.memory.ordered → IfErr r (λ refusal. IsReplaceOutOfMemory refusal → ⊥)
+  pub not_refused :
+      live_count old.state.store ≤ old.memory.ordered → IfErr r (λ refusal. IsReplaceOutOfMemory refusal → ⊥)
   pub count : live_count new.state.store ≡ live_count old.state.store
 
 -- the index isn't live
@@ -501,7 +502,8 @@ module _
         (was : IfOk r (λ was. get items.store ix ≡ Some was))
         (stored : OnOk r (new_items.store ≡ rebound items.store ix item))
         (refiled : OnOk r (filed new_table ≡ moved (filed table) ix (planned hash at1)))
-        (placed : OnOk r (Reorders keys.second keys.compare_second items.store ix item at2 (order_of order) (order_of new_order)))
+        (placed :
+        OnOk r (Reorders keys.second keys.compare_second items.store ix item at2 (order_of order) (order_of new_order)))
         (refused : IfErr r (λ refusal. (refusal ≡ Memory item) × (at2 ≡ None)))
         (items_stay : OnErr r (new_items.store ≡ items.store))
         (hashes_stay : OnErr r (filed new_table ≡ filed table))

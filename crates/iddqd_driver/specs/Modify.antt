@@ -43,8 +43,8 @@ module _ {F T R S : Type 0} (g : Once F (MutBor T × Unit {0}) (R × (MutBor T �
     abbrev pub ModifiesByKey : KeyIndex T S K1 K2 K → State T S → K → Option R → State T S → Type 0
     ModifiesByKey key_index old key result new = ModifiesFound (LooksUp key_index old key) old result new
 
-    -- f may be called with a `&mut` to each item that a look-up by a query may return, and leaves it both keys; the query
-    -- stands for the keys that pass the test
+    -- f may be called with a `&mut` to each item that a look-up by a query may return, and leaves it both keys; the
+    -- query stands for the keys that pass the test
     abbrev pub KeepsKeysOfQueried : Keys T K1 K2 S → KeyIndex T S K1 K2 K → State T S → (K → Bool) → Type 0
     KeepsKeysOfQueried keys key_index s test =
         KeepsKey g f (pair_keys keys.first keys.second) (λ item. LooksUpItemBy key_index s test (Some item))

@@ -1,5 +1,5 @@
--- What a look-up by a query returns, as an index and as an item, what a removal by a query does, and whether the look-up
--- of a key hits.
+-- What a look-up by a query returns, as an index and as an item, what a removal by a query does, and whether a look-up
+-- hits.
 use Rattle.std.specs.Prelude.{◌≡◌, ℕ, Bool, true, false, Option, Some, None, IfSome}
 use Rattle.iddqd.specs.Store.{Store, get}
 use Rattle.iddqd_keys.specs.Scan.{IsHit, AnswersScan, passes_by}

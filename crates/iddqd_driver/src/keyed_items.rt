@@ -12,12 +12,10 @@
 //! `run` are proved from the calls' clauses alone.
 //!
 //! The calls that the machine's commands make stand in one file. What else the type has stands in the modules below.
-ghost use Rattle.std.specs.Prelude.{◌≡◌, ◌↔◌, ◌≤◌, ◌+◌, ◌*◌, min, max, [], None, IsTrue, IsSome, OnSome, IsOk, IfOk, OnOk, IfErr, OnErr, option_copied};
+ghost use Rattle.std.specs.Prelude.{◌≡◌, ◌↔◌, ◌≤◌, ◌+◌, [], None, IsTrue, IsSome, OnSome, IsOk, IfOk, OnOk, IfErr, OnErr, option_copied};
 ghost use Rattle.std.specs.FinMap as finite;
-ghost use Rattle.iddqd.specs.{get, live_count, slot_count, next_index, inserted, removed, IsFull, IsValid, IsRemapOf};
+ghost use Rattle.iddqd.specs.{get, live_count, slot_count, next_index, removed, IsValid, IsRemapOf};
 ghost use Rattle.iddqd_hash.specs.{filed};
-ghost use Rattle.iddqd_hash.specs.HashTable.{memory as cells};
-ghost use Rattle.iddqd_hash.specs.Sizes.{most_cells};
 ghost use Rattle.iddqd_order.specs.{indexes_left, order_of, without};
 ghost use Rattle.iddqd_order.specs.MapBTreeTable.{capacity as ordered_capacity};
 ghost use Rattle.iddqd_keys.specs.Scan.{IsLive};

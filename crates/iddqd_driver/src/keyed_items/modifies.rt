@@ -90,8 +90,8 @@ impl<T: KeyedItem, S: BuildHasher> KeyedItems<T, S> {
         self.modify_found(self.find2_by(query), f)
     }
 
-    // Does what `modify_at` says, at the index that a look-up returned. Its condition is two clauses here, which makes a
-    // call cheaper to check.
+    // Does what `modify_at` says, at the index that a look-up returned. Its condition is two clauses here, which makes
+    // a call cheaper to check.
     fn modify_found<R, F: FnOnce(&mut T) -> R>(
         &mut self,
         found: Option<ItemIndex>,

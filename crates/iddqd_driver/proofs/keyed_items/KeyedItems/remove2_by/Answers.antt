@@ -1,11 +1,10 @@
-use Rattle.std.proofs.Common.{None, refl, arith}
+use Rattle.std.proofs.Common.{None, arith}
 use Rattle.std.proofs.lemmas.Grind.{common_steps}
 use Rattle.iddqd_keys.specs.OrderedQuery.{compares_as_key}
 use Rattle.iddqd_driver.proofs.KeyLemmas.{AreLawful-from_bounds}
 use Rattle.iddqd_driver.specs.Keys.{keys_of}
 use Rattle.iddqd_driver.specs.Memory.{sized_of}
 use Rattle.iddqd_driver.proofs.QueryLemmas.{LooksUpBy-ordered}
-use Rattle.iddqd_driver.proofs.KeepsLemmas.{Keeps-same}
 use Rattle.iddqd_driver.proofs.RemovalLemmas.{removed-paired, LeavesAll-ordered, LeavesOthers-removed}
 use Rattle.iddqd_driver.proofs.keyed_items.KeyedItems.remove2_by.Goals as goal
 
