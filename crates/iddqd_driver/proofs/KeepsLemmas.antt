@@ -99,6 +99,13 @@ module _ {T S K1 K2 : Type 0} (keys : Keys T K1 K2 S) where
       second_keys = record { placed = λ p. p; in_sync = λ o. o };
     })
 
+    pub KeepsUnlessChanged-same : (ix : ℕ) (item : T) → KeepsUnlessChanged keys s ix item s
+    KeepsUnlessChanged-same ix item = record {
+      paired = (paired, paired);
+      first_keys = λ _. record { placed = λ p. p; in_sync = λ o. o };
+      second_keys = λ _. record { placed = λ p. p; in_sync = λ o. o };
+    }
+
     pub Keeps-cleared : Keeps keys s (cleared_state s)
     Keeps-cleared = record {
       paired = (paired, IsPaired-cleared s paired);

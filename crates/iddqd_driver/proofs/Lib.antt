@@ -17,3 +17,4 @@ pub mod CountLemmas
 pub mod RemovalLemmas
 pub mod CloneLemmas
 pub mod EqualityLemmas
+pub mod PartLemmas

@@ -7,11 +7,11 @@ use Rattle.std.specs.Cmp.{nat_cmp_total}
 use Rattle.std.proofs.lemmas.Bool.{cases_lt}
 use Rattle.std.proofs.lemmas.Cmp.{tied_itself}
 use Rattle.std.proofs.lemmas.List.{length-map}
-use Rattle.iddqd.specs.Store.{Store, IsValid, live_count, slot_count}
+use Rattle.iddqd.specs.Store.{Store, IsValid, empty_within, live_count, slot_count}
 use Rattle.iddqd.specs.ItemSet.{SizedStore, room as set_room}
 use Rattle.iddqd.specs.Sizes.{doubled}
 use Rattle.iddqd.proofs.LiveCountLemmas.{live_count-inserted, live_count-removed}
-use Rattle.iddqd_hash.specs.HashTable.{Table, UsesRoom, entries, capacity as hashed_capacity, memory as hashed_cells, room as hashed_room}
+use Rattle.iddqd_hash.specs.HashTable.{Table, HasNoMemory, UsesRoom, entries, capacity as hashed_capacity, memory as hashed_cells, room as hashed_room}
 use Rattle.iddqd_hash.specs.MapHashTable.{filed, filed_from, swapped, indexes_of}
 use Rattle.iddqd_hash.specs.Sizes as hash_sizes
 use Rattle.iddqd_hash.specs.Sizes.{most_cells, Reserves}
@@ -19,9 +19,9 @@ use Rattle.iddqd_order.specs.MapBTreeTable.{Order, order_of, capacity as ordered
 use Rattle.iddqd_order.specs.Sizes as order_sizes
 use Rattle.iddqd_by_order.proofs.OrderedCountLemmas.{length-held}
 use Rattle.iddqd_driver.specs.Keys.{Keys}
-use Rattle.iddqd_driver.specs.State.{State, state_of, IsPaired}
+use Rattle.iddqd_driver.specs.State.{State, state_of, empty_state_within, IsPaired}
 use Rattle.iddqd_driver.specs.Machine.{Removes, StoresAt}
-use Rattle.iddqd_driver.specs.Memory.{Memory, SizedState, IsNoLower, InsertsInMemory, HasRoomInParts, memory_of, ReservesInMemory, ShrinksInMemory, sized_of, capacity, room, reservable}
+use Rattle.iddqd_driver.specs.Memory.{Memory, SizedState, IsMadeFor, IsNoLower, InsertsInMemory, no_memory, HasRoomInParts, memory_of, ReservesInMemory, ShrinksInMemory, sized_of, capacity, room, reservable}
 use Rattle.iddqd_driver.specs.declared.keyed_items.InsertRefusal.{InsertRefusal}
 use Rattle.iddqd_driver.proofs.KeepsLemmas.{Holds-order}
 use Rattle.iddqd_driver.proofs.ValidationLemmas.{filed_has_live_indexes}
@@ -88,6 +88,13 @@ module _ {T S : Type 0} (s : State T S) (paired : IsPaired s) where
   length-filed =
       finite.len-entries s.filed ∙ sym (length-map (finite.entries s.filed) (λ e. e.0))
       ∙ length-held s.store (indexes_of s.filed) (filed_has_live_indexes s paired)
+
+  -- as many cells as one more index needs are as many as one more item needs
+  pub few_for_live :
+      (old new : ℕ)
+      → new ≤ max old (most_cells (finite.len s.filed + 1))
+      → new ≤ max old (most_cells (live_count s.store + 1))
+  few_for_live old new few = subst (λ n. new ≤ max old (most_cells (n + 1))) length-filed few
 
   pub length-order : length s.order ≡ live_count s.store
   length-order = length-held s.store s.order (Holds-order s paired)
@@ -168,11 +175,8 @@ few_slots old new valid kept grown = elim (none_or_some (set_room old)) [
     none_or_some zero = inl refl
     none_or_some (suc n) = inr (omega arith)
 
-pub none_wanted : (wanted items most : ℕ) → wanted ≡ min items most → items ≡ 0 → wanted ≡ 0
-none_wanted wanted items most is none = omega arith
-
-pub none_fits : (wanted items most free : ℕ) → wanted ≡ min items most → items ≡ 0 → wanted ≤ free
-none_fits wanted items most free is none = omega arith
+pub none_fits : (wanted free : ℕ) → wanted ≡ 0 → wanted ≤ free
+none_fits wanted free none = omega arith
 
 -- a number is at most the greater of it and another
 pub not_more : (n more : ℕ) → n ≤ max n more
@@ -240,6 +244,54 @@ least_of_four n a b c d first second third fourth = omega arith
 
 room_from : (held live more : ℕ) → live + more ≤ held → more ≤ held - live
 room_from held live more fits = omega arith
+
+-- there was that room, so nothing changed
+pub ReservesInMemory-had :
+    {T S E : Type 0} (k : SizedState T S) (additional : ℕ)
+    → reservable additional k ≤ room k
+    → ReservesInMemory {E = E} additional k (Ok tt) k
+ReservesInMemory-had k additional enough = record {
+  contents = refl;
+  no_lower = IsNoLower-same _ _ refl;
+  reserved = enough;
+  had_room = λ _. (refl, refl);
+  few_slots = not_more _ _;
+  few_cells = not_more _ _;
+  few_blocks = not_more _ _;
+}
+
+-- how many items a reserve is to make room for, from what was read
+module _
+    {T S : Type 0} (k : SizedState T S) (additional limit len wanted : ℕ) (limit_is : limit ≡ k.state.store.limit)
+    (len_is : len ≡ live_count k.state.store) (wanted_is : wanted ≡ min additional (limit - len))
+  where
+    pub wanted_reservable : wanted ≡ reservable additional k
+    wanted_reservable = omega (arith, limit_is, len_is, wanted_is)
+
+    pub had_enough : (free : ℕ) → free ≡ room k → wanted ≤ free → reservable additional k ≤ room k
+    had_enough free free_is enough = omega (arith, wanted_reservable, free_is, enough)
+
+    pub lacks_room : (free : ℕ) → free ≡ room k → free < wanted → room k < wanted
+    lacks_room free free_is fewer = omega (arith, free_is, fewer)
+
+    pub slots_within :
+        IsValid k.state.store
+        → (items slots : ℕ)
+        → items ≡ live_count k.state.store
+        → items + wanted ≤ slots
+        → live_count k.state.store + wanted ≤ min slots k.state.store.limit
+    slots_within valid items slots items_is reserved =
+        omega (arith, wanted_reservable, items_is, reserved, valid.counted, valid.small)
+
+pub not_fewer : (n : ℕ) → n ≤ n
+not_fewer n = omega arith
+
+pub few_slots_for :
+    (live items wanted slots held limit : ℕ)
+    → items ≡ live
+    → slots ≤ max held (max (items + wanted) (min limit (2 * held)))
+    → slots ≤ max held (max (live + wanted) (min limit (2 * held)))
+few_slots_for live items wanted slots held limit items_is few = rw (← items_is) few
 
 -- what the parts took for so many more items
 module _
@@ -325,6 +377,37 @@ module _
           (few_blocks ordered r refl);
     }
 
+  -- memory ran out in one of the parts
+  pub ReservesInMemory-failed :
+      {E : Type 0} (error : E) (wanted : ℕ)
+      → wanted ≡ reservable additional was
+      → room was < wanted
+      → new_items.store ≡ items.store
+      → items.capacity ≤ new_items.capacity
+      → new_items.capacity
+      ≤ max items.capacity (max (live_count items.store + wanted) (min items.store.limit (2 * items.capacity)))
+      → (filed new_table ≡ filed table)
+      → (hashed_capacity table ≤ hashed_capacity new_table)
+      → (hashed_cells new_table ≡ hashed_cells table)
+      → new_order ≡ order
+      → ReservesInMemory additional was (Err error) is
+  ReservesInMemory-failed error wanted meant lacks same_store slots_stay few same_filed hashed cells ordered = record {
+    contents = rw (same_store, same_filed, ordered) refl;
+    no_lower = record {
+      slots = slots_stay;
+      hashed = hashed;
+      cells = omega (arith, cells);
+      ordered = rw ordered (omega arith);
+    };
+    reserved = tt;
+    had_room = λ enough. absurd (omega (arith, enough, meant, lacks));
+    few_slots = subst
+        (λ n. new_items.capacity ≤ max items.capacity (max (live_count items.store + n) (min items.store.limit (2 * items.capacity))))
+        meant few;
+    few_cells = omega (arith, cells);
+    few_blocks = rw ordered (omega arith);
+  }
+
   -- ---- memory given back
 
   module _
@@ -361,3 +444,41 @@ module _
           (length-order was.state paired) ordered.shrunk;
       never_more = (slots_fall, cells_fall);
     }
+
+-- ---- a collection that is made for so many items
+
+pub record IsMadeWithin {T S : Type 0} (limit n : ℕ) (hasher : S) (k : SizedState T S) : Type 0 where
+  pub state : k.state ≡ empty_state_within limit hasher
+  pub has_room : n ≤ room k
+  pub made : IsMadeFor n k.memory
+  pub none : n ≡ 0 → k.memory ≡ no_memory
+
+module _
+    {T S : Type 0} (hasher : S) (items : SizedStore T) (table : Table ℕ) (order : Order) (limit wanted n : ℕ)
+    (n_is : n ≡ min wanted limit) (contents : items.store ≡ empty_within limit) (slots : items.capacity ≡ n)
+    (unfiled : filed table ≡ finite.empty) (roomy : n ≤ hashed_room table)
+    (few : hashed_cells table ≤ hash_sizes.most_cells n) (bare : n ≡ 0 → HasNoMemory table)
+    (empty : order_of order ≡ []) (blocks : ordered_capacity order ≡ capacity_for n)
+    (fits : n ≤ ordered_capacity order)
+  where
+    pairs : length (entries table) ≡ 0
+    pairs = length-entries_of_none table unfiled
+
+    hashed : n ≤ hashed_capacity table
+    hashed = omega (arith, pairs, roomy)
+
+    all_fit : n ≤ min (min items.capacity limit) (min (hashed_capacity table) (ordered_capacity order)) - 0
+    all_fit = omega (arith, n_is, slots, hashed, fits)
+
+    nothing : n ≡ 0 → memory_of items table order ≡ no_memory
+    nothing none =
+        let held : hashed_capacity table ≡ 0 = omega (arith, pairs, (bare none).no_room) in
+        rw (slots, held, (bare none).no_cell, blocks, none) refl
+
+    pub IsMadeWithin-parts : IsMadeWithin limit (min wanted limit) hasher (sized_of hasher items table order)
+    IsMadeWithin-parts = rw (← n_is, contents, unfiled, empty) (record {
+      state = refl;
+      has_room = all_fit;
+      made = record { slots = slots; hashed = hashed; cells = few; ordered = blocks };
+      none = nothing;
+    })

@@ -9,7 +9,8 @@ use Rattle.iddqd_keys.specs.Scan.{IsHit}
 use Rattle.iddqd_keys.specs.AnyTable.{ChangesAt}
 use Rattle.iddqd_keys.specs.KeyKeeping.{pair_keys}
 use Rattle.iddqd_driver.specs.Keys.{Keys, equal_second}
-use Rattle.iddqd_driver.specs.Modify.{ModifiesAt, ModifiesFound}
+use Rattle.iddqd_driver.specs.Modify.{IsItemAt, ModifiesHit, ModifiesFound}
+use Rattle.iddqd_driver.specs.Queries.{GivesFound}
 use Rattle.iddqd_driver.specs.KeyIndexes.{Keeps}
 use Rattle.iddqd_driver.specs.State.{State, IsPaired}
 use Rattle.iddqd_driver.proofs.KeepsLemmas.{KeepsUnlessChanged-rebound}
@@ -49,13 +50,27 @@ module _ {T K1 K2 S : Type 0} (keys : Keys T K1 K2 S) where
             (unchanged keys.second (equal_second keys) s.store ix was is live (ap (λ p. p.1) same) itself);
       }
 
--- the index was one that a look-up hit
+-- what a look-up may return leads to the item at the index that it returned
+pub GivesFound-at :
+    {T : Type 0} (s : Store T) (finds : Option ℕ → Type 0) (found : Option ℕ) (item : T)
+    → finds found
+    → IsItemAt s found item
+    → GivesFound s finds (Some item)
+GivesFound-at s finds None item found never = absurd never
+GivesFound-at s finds (Some ix) item found live = (ix, found, live)
+
+-- a modification at the index that a look-up returned
 module _ {F T R S : Type 0} (g : Once F (MutBor T × Unit {0}) (R × (MutBor T × Unit {0}))) (f : F) where
   pub ModifiesFound-hit :
-      (finds : Option ℕ → Type 0) (test : T → Bool) (old : State T S) (ix : ℕ) (result : Option R) (new : State T S)
-      → finds (Some ix)
-      → IsHit old.store test ix
-      → ModifiesAt g f old ix result new
+      (finds : Option ℕ → Type 0) (test : T → Bool) (old : State T S) (found : Option ℕ) (result : Option R)
+      (new : State T S)
+      → finds found
+      → ((ix : ℕ) → finds (Some ix) → IsHit old.store test ix)
+      → ModifiesHit g f old found result new
       → ModifiesFound g f finds old result new
-  ModifiesFound-hit finds test old ix (Some result) new found hit did = (ix, found, did)
-  ModifiesFound-hit finds test old ix None new found (item, live, passed) (gone, same) = absurd (cc (gone, live))
+  ModifiesFound-hit finds test old None (Some result) new found hits (never, same) = absurd (cc)
+  ModifiesFound-hit finds test old None None new found hits (is, same) = (found, same)
+  ModifiesFound-hit finds test old (Some ix) (Some result) new found hits did = (ix, found, did)
+  ModifiesFound-hit finds test old (Some ix) None new found hits (gone, same) =
+      let (item, here, passed) = hits ix found in
+      absurd (cc (gone, here))

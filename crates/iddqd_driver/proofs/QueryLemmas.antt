@@ -1,5 +1,5 @@
 -- What a look-up by a query answers, in the words of the key for which the query stands.
-use Rattle.std.proofs.Common.{◌≡◌, ◌∙◌, ℕ, Bool, true, Option, Some, None, IfSome, sym, ap, subst, Ordering}
+use Rattle.std.proofs.Common.{◌≡◌, ◌∙◌, ℕ, Bool, true, Option, Some, None, IfSome, is_some, sym, ap, subst, Ordering}
 use Rattle.std.specs.Ordering.{is_eq}
 use Rattle.std.specs.Cmp.{Equal-is}
 use Rattle.std.specs.declared.cmp.Ordering.TheVariants.{Equal}
@@ -11,7 +11,7 @@ use Rattle.iddqd_driver.specs.Keys.{Keys, first_hashing}
 use Rattle.iddqd_driver.specs.State.{State}
 use Rattle.iddqd_driver.specs.KeyIndexes.{KeyIndex, hash_in, first_key_index, second_key_index}
 use Rattle.iddqd_driver.specs.Machine.{RemovesBy, RemovesFound}
-use Rattle.iddqd_driver.specs.Queries.{LooksUpBy}
+use Rattle.iddqd_driver.specs.Queries.{HitsFound, LooksUpBy}
 
 -- a hit of one test hits another one that passes what the first passes
 pub IsHit-alike :
@@ -121,3 +121,9 @@ module _
         → RemovesBy key_index s key removed new
     RemovesBy-query None new (looked, same) = record { removes = (looked.as_key key itself, same); as_scan = looked.as_scan }
     RemovesBy-query (Some (ix, item)) new (looked, removes) = record { removes = (looked.as_key key itself, removes); as_scan = looked.as_scan }
+
+-- whether the option that a look-up returned is some tells whether it hits
+pub HitsFound-is_some :
+    (finds : Option ℕ → Type 0) (found : Option ℕ) → finds found → HitsFound finds (is_some found)
+HitsFound-is_some finds None found = found
+HitsFound-is_some finds (Some ix) found = (ix, found)

@@ -3,6 +3,7 @@ use Rattle.std.proofs.Common.{◌≡◌, ◌↔◌, ◌+◌, ◌≤◌, ℕ, Opt
 use Rattle.std.specs.FinMap as finite
 use Rattle.iddqd.specs.Store.{get, removed, live_count}
 use Rattle.iddqd.specs.ItemSet.{SizedStore}
+use Rattle.iddqd.proofs.LiveLemmas.{live_at}
 use Rattle.iddqd_hash.specs.HashTable.{Table, KeepsMemory}
 use Rattle.iddqd_hash.specs.MapHashTable.{filed}
 use Rattle.iddqd_order.specs.MapBTreeTable.{Order, order_of, without, capacity as ordered_capacity}
@@ -16,6 +17,23 @@ use Rattle.iddqd_driver.proofs.KeyLemmas.{AreLawful}
 use Rattle.iddqd_driver.proofs.KeepsLemmas.{IsPaired-unbound, Keeps-unbound, Keeps-same}
 use Rattle.iddqd_driver.proofs.CountLemmas.{count-removed}
 use Rattle.iddqd_driver.proofs.MemoryLemmas.{room-removed}
+
+-- what the removal of the item at an index leaves
+pub record LeavesOthers
+    {T S K1 K2 : Type 0} (keys : Keys T K1 K2 S) (old new : SizedState T S) (ix : ℕ) (item : T)
+    : Type 0 where
+  pub removes : Removes old.state ix (Some item) new.state
+  pub live : IsLive old.state.store ix
+  pub keeps : Keeps keys old.state new.state
+  pub memory : new.memory ≡ old.memory
+  pub room : live_count old.state.store ≤ capacity old → room new ≡ room old + 1
+  pub count : live_count old.state.store ≡ live_count new.state.store + 1
+
+-- what a removal that finds nothing leaves
+pub record LeavesAll {T S K1 K2 : Type 0} (keys : Keys T K1 K2 S) (old new : SizedState T S) : Type 0 where
+  pub state : new.state ≡ old.state
+  pub keeps : Keeps keys old.state new.state
+  pub memory : new.memory ≡ old.memory
 
 module _
     {T S : Type 0} (hasher : S) (items : SizedStore T) (table : Table ℕ) (order : Order) (old : SizedState T S)
@@ -34,16 +52,26 @@ module _
       pub kept-paired : IsPaired (state_of hasher items.store new_table order)
       kept-paired = rw same paired
 
-      pub kept-keeps :
+      pub LeavesAll-filed :
           {K1 K2 : Type 0} (keys : Keys T K1 K2 S)
-          → Keeps keys old.state (state_of hasher items.store new_table order)
-      kept-keeps keys = rw (← seen, same) (Keeps-same keys _ paired _ refl)
+          → KeepsMemory table new_table
+          → LeavesAll keys old (sized_of hasher items new_table order)
+      LeavesAll-filed keys cells = record {
+        state = rw (← seen, same) refl;
+        keeps = rw (← seen, same) (Keeps-same keys _ paired _ refl);
+        memory = rw (← seen, cells.same_capacity, cells.same_memory) refl;
+      }
 
-      pub kept-state : state_of hasher items.store new_table order ≡ old.state
-      kept-state = rw (← seen, same) refl
-
-    pub kept-memory : (new_table : Table ℕ) → KeepsMemory table new_table → memory_of items new_table order ≡ old.memory
-    kept-memory new_table cells = rw (← seen, cells.same_capacity, cells.same_memory) refl
+    pub LeavesAll-ordered :
+        {K1 K2 : Type 0} (keys : Keys T K1 K2 S) (new_order : Order)
+        → order_of new_order ≡ order_of order
+        → ordered_capacity new_order ≡ ordered_capacity order
+        → LeavesAll keys old (sized_of hasher items table new_order)
+    LeavesAll-ordered keys new_order same held = record {
+      state = rw (← seen, same) refl;
+      keeps = rw (← seen, same) (Keeps-same keys _ paired _ refl);
+      memory = rw (← seen, held) refl;
+    }
 
     module _
         (new_items : SizedStore T) (new_table : Table ℕ) (new_order : Order) (ix : ℕ) (item : T)
@@ -85,3 +113,16 @@ module _
             removed-room =
                 rw (← seen)
                 (room-removed (sized_of hasher items table order) (sized_of hasher new_items new_table new_order) paired ix (Some item) (live, rw (stored, hashed, ordered) refl) same_memory)
+
+            pub LeavesOthers-removed :
+                {K1 K2 : Type 0} (keys : Keys T K1 K2 S)
+                → AreLawful keys
+                → LeavesOthers keys old (sized_of hasher new_items new_table new_order) ix item
+            LeavesOthers-removed keys lawful = record {
+              removes = removed-removes;
+              live = live_at old.state.store ix item removed-removes.0;
+              keeps = removed-keeps keys lawful;
+              memory = removed-memory;
+              room = removed-room;
+              count = removed-count;
+            }

@@ -1,5 +1,5 @@
 -- A live index that is given another item, in the store and in both tables: what it leaves paired, in place and exact.
-use Rattle.std.proofs.Common.{◌≡◌, ◌∙◌, ◌⊎◌, inl, inr, ◌↔◌, ◌==◌, ◌<◌, ◌≤◌, ℕ, zero, suc, Bool, true, false, not, cond, List, [], ◌∷◌, length, get_or, insert, Option, Some, None, IsSome, option_map, Result, Ok, Err, IsOk, IfOk, OnOk, IfErr, OnErr, refl, sym, ap, subst, arith, Ordering}
+use Rattle.std.proofs.Common.{◌≡◌, ◌∙◌, ◌⊎◌, inl, inr, ◌↔◌, ◌==◌, ◌<◌, ◌≤◌, ℕ, zero, suc, Bool, true, false, not, cond, List, [], ◌∷◌, length, get_or, insert, Option, Some, None, IsSome, is_some, option_map, Result, Ok, Err, IsOk, IfOk, OnOk, IfErr, OnErr, refl, sym, ap, subst, arith, Ordering}
 use Rattle.std.specs.Borrow.{Bor}
 use Rattle.std.specs.Fn.{Mut}
 use Rattle.std.specs.List.{Contains}
@@ -12,12 +12,15 @@ use Rattle.std.specs.FinMap.{FinMap}
 use Rattle.std.proofs.lemmas.Bool.{cases_eq, false≢true}
 use Rattle.std.proofs.lemmas.Cmp.{nat_cmp_total}
 use Rattle.std.proofs.lemmas.List.Kept.{IsStrictlySortedBy-filter}
-use Rattle.iddqd.specs.Store.{Store, get, rebound}
+use Rattle.iddqd.specs.Store.{Store, get, live_count, rebound}
+use Rattle.iddqd.specs.ItemSet.{SizedStore}
+use Rattle.iddqd_hash.specs.HashTable.{Table}
+use Rattle.iddqd_hash.specs.MapHashTable.{filed}
 use Rattle.iddqd.proofs.StoreLemmas.{get-rebound_at, get-rebound_other, IsValid-rebound}
 use Rattle.iddqd.proofs.LiveLemmas.{live_at}
 use Rattle.iddqd_hash.proofs.MemberLemmas.{get-insert_at, get-insert_other, get-remove_other}
 use Rattle.iddqd_order.specs.KeyOrder.{key_then_index, ComparesKeys}
-use Rattle.iddqd_order.specs.MapBTreeTable.{without}
+use Rattle.iddqd_order.specs.MapBTreeTable.{Order, order_of, without, capacity as ordered_capacity}
 use Rattle.iddqd_order.specs.PreparedBTreeMove.{PutsIn}
 use Rattle.iddqd_order.specs.Search.{IsPlace, IsRising, IsSteady, with_ties}
 use Rattle.iddqd_order.specs.declared.btree_table.asking.Asking.{Asking}
@@ -37,12 +40,15 @@ use Rattle.iddqd_keys.proofs.KeyWalkLemmas.{IsInPlace-alike}
 use Rattle.iddqd_keys.proofs.ScanLemmas.{rebound_cases, live_rebound}
 use Rattle.iddqd_keys.specs.AnyTable.{ChangesAt}
 use Rattle.iddqd_driver.specs.Keys.{Keys, first_hashing}
-use Rattle.iddqd_driver.specs.State.{State, IsPaired}
+use Rattle.iddqd_driver.specs.State.{State, state_of, IsPaired}
+use Rattle.iddqd_driver.specs.Memory.{SizedState, memory_of, sized_of}
 use Rattle.iddqd_driver.specs.KeyIndexes.{hash_in, first_key_index, second_key_index, LooksUp, Keeps}
 use Rattle.iddqd_driver.specs.Replacement.{ReportsOtherIndex, IsReplaceOutOfMemory, Becomes, HasNewSecondKey, Replaces, planned, Reinserts, Reorders}
 use Rattle.iddqd_driver.specs.declared.keyed_items.replaces.ReplaceRefusal.{ReplaceRefusal}
-use Rattle.iddqd_driver.specs.declared.keyed_items.replaces.ReplaceRefusal.TheVariants.{Memory}
+use Rattle.iddqd_driver.specs.declared.keyed_items.replaces.ReplaceRefusal.TheVariants.{Missing, Duplicate, Memory}
+use Rattle.iddqd_driver.proofs.CountLemmas.{count-replaced}
 use Rattle.iddqd_driver.proofs.KeyLemmas.{AreLawful}
+use Rattle.iddqd_driver.proofs.MemoryLemmas.{length-order}
 use Rattle.iddqd_driver.proofs.KeepsLemmas.{Holds-order, Keeps-same}
 
 -- ---- what is reported of other indexes
@@ -439,3 +445,100 @@ module _
       (became was found stored refiled reordered).1
   Keeps-rebound (Err refusal) found stored refiled reordered items hashes indexes =
       Keeps-same keys s paired is (same items hashes indexes)
+
+-- ---- a replacement of a collection
+
+-- what a replacement that is no duplicate leaves
+pub record LeavesReplaced
+    {T S K1 K2 : Type 0} (keys : Keys T K1 K2 S) (old : SizedState T S) (ix : ℕ) (item : T)
+    (r : Result T (ReplaceRefusal T)) (new : SizedState T S)
+    : Type 0 where
+  pub replaces : Replaces keys old.state ix item r new.state
+  pub keeps : Keeps keys old.state new.state
+  pub memory : new.memory ≡ old.memory
+  pub not_refused :
+      live_count old.state.store ≤ old.memory.ordered → IfErr r (λ refusal. IsReplaceOutOfMemory refusal → ⊥)
+  pub count : live_count new.state.store ≡ live_count old.state.store
+
+-- the index isn't live
+pub Replaces-missing :
+    {T S K1 K2 : Type 0} (keys : Keys T K1 K2 S) (s : State T S) (ix : ℕ) (item : T)
+    → None ≡ get s.store ix
+    → Replaces keys s ix item (Err (Missing item)) s
+Replaces-missing keys s ix item none = record {
+  first = λ live. absurd (false≢true (ap is_some none ∙ live));
+  second = λ live. absurd (false≢true (ap is_some none ∙ live));
+  replaced = tt;
+  refused = (refl, sym none);
+  unchanged = refl;
+}
+
+-- the look-ups of the keys of the new item, and what is reported of them
+module _
+    {T S K1 K2 : Type 0} (keys : Keys T K1 K2 S) (hasher : S) (items : SizedStore T) (table : Table ℕ) (order : Order)
+    (old : SizedState T S) (seen : sized_of hasher items table order ≡ old) (ix : ℕ) (item : T)
+    (live : IsLive items.store ix) (key1 : K1) (key2 : K2) (is1 : key1 ≡ keys.first item)
+    (is2 : key2 ≡ keys.second item) (at1 at2 other1 other2 : Option ℕ)
+    (looked1 : LooksUp (first_key_index keys) old.state key1 at1)
+    (looked2 : LooksUp (second_key_index keys) old.state key2 at2)
+    (reported1 : ReportsOtherIndex (λ at. at1 ≡ at) ix other1)
+    (reported2 : ReportsOtherIndex (λ at. at2 ≡ at) ix other2)
+  where
+    pub Replaces-duplicate :
+        IsSome other1 ⊎ IsSome other2
+        → Replaces keys old.state ix item (Err (Duplicate item other1 other2)) old.state
+    Replaces-duplicate some = record {
+      first = λ _. rw is1 at (ReportsOtherIndex-found (LooksUp (first_key_index keys) old.state key1) at1 ix other1 looked1 reported1);
+      second = λ _. rw is2 at (ReportsOtherIndex-found (LooksUp (second_key_index keys) old.state key2) at2 ix other2 looked2 reported2);
+      replaced = tt;
+      refused = (refl, rw (← seen) live, some);
+      unchanged = refl;
+    }
+
+    module _
+        (lawful : AreLawful keys) (paired : IsPaired (state_of hasher items.store table order)) (hash : ℕ)
+        (hashed : hash ≡ hash_in keys old.state key1) (none : (other1 ≡ None) × (other2 ≡ None))
+        (new_items : SizedStore T) (new_table : Table ℕ) (new_order : Order) (r : Result T (ReplaceRefusal T))
+        (was : IfOk r (λ was. get items.store ix ≡ Some was))
+        (stored : OnOk r (new_items.store ≡ rebound items.store ix item))
+        (refiled : OnOk r (filed new_table ≡ moved (filed table) ix (planned hash at1)))
+        (placed :
+        OnOk r (Reorders keys.second keys.compare_second items.store ix item at2 (order_of order) (order_of new_order)))
+        (refused : IfErr r (λ refusal. (refusal ≡ Memory item) × (at2 ≡ None)))
+        (items_stay : OnErr r (new_items.store ≡ items.store))
+        (hashes_stay : OnErr r (filed new_table ≡ filed table))
+        (order_stays : OnErr r (order_of new_order ≡ order_of order))
+        (memory : memory_of new_items new_table new_order ≡ memory_of items table order)
+        (roomy : length (order_of order) ≤ ordered_capacity order → IsOk r)
+      where
+        abbrev s : State T S
+        s = state_of hasher items.store table order
+
+        own1 : (at1 ≡ None) ⊎ (at1 ≡ Some ix)
+        own1 = subst (ReportsOtherIndex (λ at. at1 ≡ at) ix) none.0 reported1
+
+        own2 : (at2 ≡ None) ⊎ (at2 ≡ Some ix)
+        own2 = subst (ReportsOtherIndex (λ at. at2 ≡ at) ix) none.1 reported2
+
+        first : LooksUp (first_key_index keys) s (keys.first item) at1
+        first = rw (← seen, is1) at looked1
+
+        second : LooksUp (second_key_index keys) s (keys.second item) at2
+        second = rw (← seen, is2) at looked2
+
+        hash_is : hash ≡ hash_in keys s (keys.first item)
+        hash_is = rw (← seen, is1) at hashed
+
+        filed_is : OnOk r (filed new_table ≡ moved (filed table) ix (planned (hash_in keys s (keys.first item)) at1))
+        filed_is = subst (λ h. OnOk r (filed new_table ≡ moved (filed table) ix (planned h at1))) hash_is refiled
+
+        pub LeavesReplaced-parts : LeavesReplaced keys old ix item r (sized_of hasher new_items new_table new_order)
+        LeavesReplaced-parts = rw (← seen) (record {
+          replaces = Replaces-rebound keys s paired lawful ix item at1 at2 own1 own2 first second live _ _ _ r
+              was stored filed_is placed refused items_stay hashes_stay order_stays;
+          keeps = Keeps-rebound keys s paired lawful ix item at1 at2 own1 own2 first second live _ _ _ r
+              was stored filed_is placed items_stay hashes_stay order_stays;
+          memory = memory;
+          not_refused = λ within. not_for_memory r (roomy (rw (length-order s paired) within));
+          count = count-replaced items.store new_items.store paired.valid ix item r was stored items_stay;
+        })

@@ -1,5 +1,6 @@
--- What a look-up by a query returns, as an index and as an item, and what a removal by a query does.
-use Rattle.std.specs.Prelude.{◌≡◌, ℕ, Bool, true, Option, Some, None, IfSome}
+-- What a look-up by a query returns, as an index and as an item, what a removal by a query does, and whether a look-up
+-- hits.
+use Rattle.std.specs.Prelude.{◌≡◌, ℕ, Bool, true, false, Option, Some, None, IfSome}
 use Rattle.iddqd.specs.Store.{Store, get}
 use Rattle.iddqd_keys.specs.Scan.{IsHit, AnswersScan, passes_by}
 use Rattle.iddqd_driver.specs.State.{State}
@@ -20,7 +21,16 @@ abbrev pub GivesFound : {T : Type 0} → Store T → (Option ℕ → Type 0) →
 GivesFound s finds (Some item) = (ix : ℕ) × finds (Some ix) × (get s ix ≡ Some item)
 GivesFound s finds None = finds None
 
+-- whether a look-up hits; `finds` says what it may return
+abbrev pub HitsFound : (Option ℕ → Type 0) → Bool → Type 0
+HitsFound finds true = (ix : ℕ) × finds (Some ix)
+HitsFound finds false = finds None
+
 module _ {T S K1 K2 K : Type 0} (key_index : KeyIndex T S K1 K2 K) where
+  -- whether the look-up of a key hits
+  abbrev pub ContainsKey : State T S → K → Bool → Type 0
+  ContainsKey s key result = HitsFound (LooksUp key_index s key) result
+
   -- the item whose index the look-up of a key returns, or none if that misses
   abbrev pub LooksUpItem : State T S → K → Option T → Type 0
   LooksUpItem s key result = GivesFound s.store (LooksUp key_index s key) result

@@ -12,12 +12,10 @@
 //! `run` are proved from the calls' clauses alone.
 //!
 //! The calls that the machine's commands make stand in one file. What else the type has stands in the modules below.
-ghost use Rattle.std.specs.Prelude.{◌≡◌, ◌↔◌, ◌≤◌, ◌+◌, ◌*◌, min, max, [], None, IsTrue, IsSome, OnSome, IsOk, IfOk, OnOk, IfErr, OnErr, option_copied};
+ghost use Rattle.std.specs.Prelude.{◌≡◌, ◌↔◌, ◌≤◌, ◌+◌, [], None, IsTrue, IsSome, OnSome, IsOk, IfOk, OnOk, IfErr, OnErr, option_copied};
 ghost use Rattle.std.specs.FinMap as finite;
-ghost use Rattle.iddqd.specs.{get, live_count, slot_count, next_index, inserted, removed, IsFull, IsValid, IsRemapOf};
+ghost use Rattle.iddqd.specs.{get, live_count, slot_count, next_index, removed, IsValid, IsRemapOf};
 ghost use Rattle.iddqd_hash.specs.{filed};
-ghost use Rattle.iddqd_hash.specs.HashTable.{memory as cells};
-ghost use Rattle.iddqd_hash.specs.Sizes.{most_cells};
 ghost use Rattle.iddqd_order.specs.{indexes_left, order_of, without};
 ghost use Rattle.iddqd_order.specs.MapBTreeTable.{capacity as ordered_capacity};
 ghost use Rattle.iddqd_keys.specs.Scan.{IsLive};
@@ -27,7 +25,8 @@ ghost use Rattle.iddqd_driver.specs.State.{empty_state, empty_state_within, clea
 ghost use Rattle.iddqd_driver.specs.KeyIndexes.{first_key_index, second_key_index, finds_reported, hash_in, LooksUp, IsInSync, Keeps, KeepsUnlessChanged};
 ghost use Rattle.iddqd_driver.specs.Machine.{Refuses, Inserts, ReportsAsScan, Removes, RemovesBy, Overwrites, Step};
 ghost use Rattle.iddqd_driver.specs.Run.{Run};
-ghost use Rattle.iddqd_driver.specs.Memory.{no_memory, capacity, room, InsertsInMemory, InsertsInParts, IsDuplicate, TakesForOne, StepsInMemory, RunsInMemory};
+ghost use Rattle.iddqd_driver.specs.Memory.{no_memory, capacity, room, InsertsInMemory, IsDuplicate, TakesForOne, StepsInMemory, RunsInMemory};
+ghost use Rattle.iddqd_driver.specs.Parts.{InsertsParts};
 
 mod clones;
 mod defaults;
@@ -260,7 +259,9 @@ impl<T: KeyedItem, S: BuildHasher> KeyedItems<T, S> {
             (live_count self.old.state.store ≤ capacity self.old → room self.new ≡ room self.old + 1) }
         ensures count { OnSome result (live_count self.old.state.store ≡ live_count self.new.state.store + 1) }
     {
-        let item = self.items.get(ix)?;
+        let Some(item) = self.items.get(ix) else {
+            return None;
+        };
         let hash = hashed::hash_of::<T, First, S>(&self.state, item);
         hashed::remove_index(&mut self.filed, hash, ix);
         Some(remove_item(&mut self.order, &mut self.items, ix))
@@ -303,9 +304,9 @@ impl<T: KeyedItem, S: BuildHasher> KeyedItems<T, S> {
         ensures memory { self.new.memory ≡ self.old.memory }
         ensures count { live_count self.new.state.store ≡ live_count self.old.state.store }
     {
-        if self.items.get(ix).is_none() {
+        let Some(_) = self.items.get(ix) else {
             return Err(item);
-        }
+        };
         Ok(self.items.replace(ix, item))
     }
 
@@ -322,7 +323,10 @@ impl<T: KeyedItem, S: BuildHasher> KeyedItems<T, S> {
         ensures keeps { Keeps ⟦<Self as Keyed>⟧.keys self.old.state self.new.state }
         ensures memory { self.new.memory ≡ self.old.memory }
     {
-        let remap = self.items.compact()?;
+        let remap = match self.items.compact() {
+            Ok(remap) => remap,
+            Err(AllocError) => return Err(AllocError),
+        };
         self.filed.remap_indexes(&remap);
         self.order.remap_indexes(&remap);
         Ok(remap)
@@ -456,21 +460,9 @@ fn insert_item<T: KeyedItem>(
     ensures first { (finds_reported result).0 ≡ first }
     ensures second { by_order.LooksUp T.second_key T.Key2.cmp items.old.store (order_of order.old)
         (T.Key2.cmp (T.second_key item)) (finds_reported result).1 }
-    ensures not_full { IsOk result → IsFull items.old.store → ⊥ }
-    ensures index { IfOk result (λ ix. ix ≡ next_index items.old.store) }
-    ensures stored { OnOk result (items.new.store ≡ inserted items.old.store item) }
-    ensures filed { OnOk result (filed table.new
-        ≡ finite.insert (filed table.old) (next_index items.old.store) hash) }
-    ensures placed { OnOk result (by_order.AddsInPlace T.second_key T.Key2.cmp items.old.store item
-        (order_of order.old) (order_of order.new)) }
     ensures refused { IfErr result (Refuses items.old.store item) }
-    ensures items_stay { OnErr result (items.new.store ≡ items.old.store) }
-    ensures hashes_stay { OnErr result (filed table.new ≡ filed table.old) }
-    ensures order_stays { OnErr result (order_of order.new ≡ order_of order.old) }
-    ensures memory { InsertsInParts items.old table.old order.old result items.new table.new order.new }
-    ensures few_slots { items.new.capacity
-        ≤ max items.old.capacity (min items.old.store.limit (max 4 (2 * live_count items.old.store))) }
-    ensures few_cells { cells table.new ≤ max (cells table.old) (most_cells (finite.len (filed table.old) + 1)) }
+    ensures parts { InsertsParts T.second_key T.Key2.cmp item hash items.old table.old order.old result
+        items.new table.new order.new }
 {
     let query = KeyQuery(item.key2());
     let vacant = match ordered::entry::<T, Second, KeyQuery<T::Key2>>(order, items, &query) {

@@ -45,10 +45,10 @@ pub use Rattle.iddqd_driver.specs.KeyIndexes.{FirstKeysInSync, SecondKeysInSync,
 pub use Rattle.iddqd_driver.specs.Refusal.{refusal_text, replace_refusal_text}
 pub use Rattle.iddqd_driver.specs.Machine.{StoresAt, Inserts, ReportsAsScan, Removes, RemovesBy, Overwrites, Answers, Step}
 pub use Rattle.iddqd_driver.specs.Run.{IsSilentChange}
-pub use Rattle.iddqd_driver.specs.Queries.{LooksUpBy, LooksUpItem, LooksUpItemBy, GivesFound, RemovesByQuery}
+pub use Rattle.iddqd_driver.specs.Queries.{LooksUpBy, LooksUpItem, LooksUpItemBy, GivesFound, HitsFound, ContainsKey, RemovesByQuery}
 pub use Rattle.iddqd_driver.specs.Walks.{items_at, RangesWithin}
 pub use Rattle.iddqd_driver.specs.Replacement.{ReportsOtherIndex, Becomes, Replaces}
-pub use Rattle.iddqd_driver.specs.Modify.{KeepsKeysOfFound, ModifiesAt, ModifiesFound, ModifiesByKey}
+pub use Rattle.iddqd_driver.specs.Modify.{KeepsKeysOfFound, KeepsKeysOfQueried, ModifiesAt, ModifiesFound, ModifiesByKey, ModifiesByQuery}
 pub use Rattle.iddqd_by_hash.specs.Retain.{AsksInTurn, MayAskInTurn, RetainsTo, kept_of, removed_of}
 pub use Rattle.iddqd_driver.specs.Retain.{unbound_all, Retains}
 pub use Rattle.iddqd_driver.specs.Memory.{SizedState, no_memory, capacity, room, reservable, IsNoLower, IsMadeFor}

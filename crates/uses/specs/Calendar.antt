@@ -13,6 +13,10 @@ IsBooked s a = (ix : ℕ) × (get s ix ≡ Some a)
 abbrev pub HasNone : Store Appointment → (Appointment → Type 0) → Type 0
 HasNone s IsThis = (a : Appointment) → IsBooked s a → IsThis a → ⊥
 
+-- the store has one of which this holds
+abbrev pub HasOne : Store Appointment → (Appointment → Type 0) → Type 0
+HasOne s IsThis = (a : Appointment) × IsBooked s a × IsThis a
+
 -- it has one with this one's number, or with its start
 pub record HasConflict (s : Store Appointment) (a : Appointment) : Type 0 where
   pub other : Appointment

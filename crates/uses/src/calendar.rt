@@ -12,7 +12,7 @@ ghost use Rattle.iddqd_keyed.specs.Scan.{AnswersScan, IsHit};
 ghost use Rattle.iddqd_keyed.specs.Store.{get, inserted, live_count, slot_count};
 ghost use Rattle.iddqd_keyed.specs.{capacity, empty_state, empty_state_within, no_memory, room, reservable};
 ghost use Rattle.iddqd_keyed.specs.{IsInSync, first_key_index, second_key_index, items_at};
-ghost use Rattle.uses.specs.Calendar.{lasting, starts_at, Cancels, Extends, HasConflict, HasNone, IsBooked};
+ghost use Rattle.uses.specs.Calendar.{lasting, starts_at, Cancels, Extends, HasConflict, HasNone, HasOne, IsBooked};
 ghost use Rattle.uses.specs.Updates.{UpdatesItem};
 ghost use Rattle.uses.specs.declared.calendar.Appointment.{Appointment};
 ghost use Rattle.uses.specs.declared.calendar.BookingError.TheVariants.{Taken};
@@ -174,6 +174,24 @@ pub fn page(diary: &Diary, start: u32) -> Option<ItemIndex>
     diary.find2_by(&start)
 }
 
+/// Whether an appointment has this number. While the table of numbers is in sync, it answers false only where none has.
+pub fn has_number(diary: &Diary, number: u32) -> bool
+    ensures found { OnTrue result (HasOne diary.now.state.store (λ a. a.number ≡ number)) }
+    ensures missed { IsInSync (first_key_index ⟦<Diary as Keyed>⟧.keys) diary.now.state →
+        OnFalse result (HasNone diary.now.state.store (λ a. a.number ≡ number)) }
+{
+    diary.contains_key1(&number)
+}
+
+/// Whether an appointment starts then. While the table of starts is in sync, it answers false only where none does.
+pub fn is_taken(diary: &Diary, start: u32) -> bool
+    ensures found { OnTrue result (HasOne diary.now.state.store (λ a. a.start ≡ start)) }
+    ensures missed { IsInSync (second_key_index ⟦<Diary as Keyed>⟧.keys) diary.now.state →
+        OnFalse result (HasNone diary.now.state.store (λ a. a.start ≡ start)) }
+{
+    diary.contains_key2(&start)
+}
+
 /// An appointment that starts then. While the table of starts is in sync, it is none only where no appointment does.
 pub fn starting(diary: &Diary, start: u32) -> Option<Appointment>
     ensures found { IfSome result (λ a. IsBooked diary.now.state.store a × (a.start ≡ start)) }
@@ -218,6 +236,28 @@ pub fn extend_starting(diary: &mut Diary, start: u32, minutes: u32) -> Option<()
     diary.modify2(&start, |appointment| appointment.minutes = minutes)
 }
 
+/// The same of the one with this number, by a query.
+pub fn extend_numbered(diary: &mut Diary, number: u32, minutes: u32) -> Option<()>
+    ensures extended { MatchOption result (diary.new.state ≡ diary.old.state)
+        (λ _. Extends (λ a. a.number ≡ number) minutes diary.old.state diary.new.state) }
+    ensures missed { IsInSync (first_key_index ⟦<Diary as Keyed>⟧.keys) diary.old.state →
+        result ≡ None → HasNone diary.old.state.store (λ a. a.number ≡ number) }
+    ensures memory { diary.new.memory ≡ diary.old.memory }
+{
+    diary.modify1_by(&number, |appointment| appointment.minutes = minutes)
+}
+
+/// The same of the one that starts then, by a query.
+pub fn extend_begun(diary: &mut Diary, start: u32, minutes: u32) -> Option<()>
+    ensures extended { MatchOption result (diary.new.state ≡ diary.old.state)
+        (λ _. Extends (λ a. a.start ≡ start) minutes diary.old.state diary.new.state) }
+    ensures missed { IsInSync (second_key_index ⟦<Diary as Keyed>⟧.keys) diary.old.state →
+        result ≡ None → HasNone diary.old.state.store (λ a. a.start ≡ start) }
+    ensures memory { diary.new.memory ≡ diary.old.memory }
+{
+    diary.modify2_by(&start, |appointment| appointment.minutes = minutes)
+}
+
 /// The same of the one at an index; none exactly where there is none.
 pub fn extend_at(diary: &mut Diary, ix: ItemIndex, minutes: u32) -> Option<()>
     ensures extended { OnSome result
@@ -247,6 +287,27 @@ pub fn with_room_and_hasher(
     ensures room { IfOk result (λ diary. appointments ≤ room diary) }
 {
     KeyedItems::with_capacity(alloc, hasher, appointments as usize)
+}
+
+/// The same for at most so many appointments.
+pub fn within_with_room_and_hasher(
+    alloc: Global,
+    hasher: DefaultHashBuilder,
+    limit: u32,
+    appointments: u32,
+) -> Result<Diary, AllocError>
+    ensures none { IfOk result (λ diary. diary.state ≡ empty_state_within limit hasher) }
+    ensures room { IfOk result (λ diary. min appointments limit ≤ room diary) }
+{
+    KeyedItems::with_limit_and_capacity(alloc, hasher, limit, appointments as usize)
+}
+
+/// The same with the default hasher.
+pub fn within_with_room(alloc: Global, limit: u32, appointments: u32) -> Result<Diary, AllocError>
+    ensures none { IfOk result (λ diary. diary.state ≡ empty_state_within limit diary.state.hasher) }
+    ensures room { IfOk result (λ diary. min appointments limit ≤ room diary) }
+{
+    KeyedItems::with_limit_capacity_and_default_hasher(alloc, limit, appointments as usize)
 }
 
 /// An empty diary, which takes no memory.

@@ -1,7 +1,7 @@
 //! Collections with the default hasher.
 //!
-//! `new`, `with_limit` and `with_capacity` take the state of a hasher. The calls here use `DefaultHashBuilder`, whose
-//! seed is fixed: it doesn't resist first keys that are chosen to collide.
+//! `new`, `with_limit`, `with_capacity` and `with_limit_and_capacity` take the state of a hasher. The calls here use
+//! `DefaultHashBuilder`, whose seed is fixed: it doesn't resist first keys that are chosen to collide.
 ghost use Rattle.std.specs.Prelude.{◌≡◌, ◌≤◌, min, IsOk, IfOk};
 ghost use Rattle.iddqd.specs.{slot_limit};
 ghost use Rattle.iddqd_driver.specs.Keys.{IsDefaultHasher};
@@ -50,5 +50,22 @@ impl<T: KeyedItem> KeyedItems<T, DefaultHashBuilder> {
         ensures no_memory { items ≡ 0 → IfOk result (λ k. k.memory ≡ no_memory) }
     {
         KeyedItems::with_capacity(alloc, DefaultHashBuilder::default(), items)
+    }
+
+    /// Empty, with the default hasher, never with more slots than the limit, and with memory for that many items or for
+    /// as many as the limit allows. If that is 0 it takes no memory.
+    pub fn with_limit_capacity_and_default_hasher(
+        alloc: Global,
+        limit: u32,
+        items: usize,
+    ) -> Result<KeyedItems<T, DefaultHashBuilder>, AllocError>
+        ensures hasher { IfOk result (λ k. IsDefaultHasher k.state.hasher) }
+        ensures state { IfOk result (λ k. k.state ≡ empty_state_within limit k.state.hasher) }
+        ensures room { IfOk result (λ k. min items limit ≤ room k) }
+        ensures made { IfOk result (λ k. IsMadeFor (min items limit) k.memory) }
+        ensures none { min items limit ≡ 0 → IsOk result }
+        ensures no_memory { min items limit ≡ 0 → IfOk result (λ k. k.memory ≡ no_memory) }
+    {
+        KeyedItems::with_limit_and_capacity(alloc, DefaultHashBuilder::default(), limit, items)
     }
 }

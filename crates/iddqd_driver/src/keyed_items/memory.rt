@@ -5,8 +5,8 @@
 //! out of memory, whatever was inserted and removed before. Only an insert without room and the calls here change the
 //! capacity.
 ghost use Rattle.std.specs.Prelude.{◌≡◌, ◌≤◌, min, IsOk, IfOk};
-ghost use Rattle.iddqd.specs.{slot_limit};
-ghost use Rattle.iddqd_driver.specs.State.{empty_state};
+ghost use Rattle.iddqd.specs.{slot_limit, empty_within};
+ghost use Rattle.iddqd_driver.specs.State.{empty_state, empty_state_within};
 ghost use Rattle.iddqd_driver.specs.Memory.{no_memory, capacity, room, IsMadeFor, ReservesInMemory, ShrinksInMemory};
 
 use super::KeyedItems;
@@ -32,11 +32,39 @@ impl<T: KeyedItem, S: BuildHasher> KeyedItems<T, S> {
         ensures none { items ≡ 0 → IsOk result }
         ensures no_memory { items ≡ 0 → IfOk result (λ k. k.memory ≡ no_memory) }
     {
-        let items = items.min(u32::MAX as usize);
+        KeyedItems::with_limit_and_capacity(alloc, state, u32::MAX, items)
+    }
+
+    /// Empty, never with more slots than the limit, and with memory for that many items or for as many as the limit
+    /// allows. If that is 0 it takes no memory.
+    pub fn with_limit_and_capacity(
+        alloc: Global,
+        state: S,
+        limit: u32,
+        items: usize,
+    ) -> Result<KeyedItems<T, S>, AllocError>
+    where
+        S: Drop,
+        ensures state { IfOk result (λ k. k.state ≡ empty_state_within limit state) }
+        ensures room { IfOk result (λ k. min items limit ≤ room k) }
+        ensures made { IfOk result (λ k. IsMadeFor (min items limit) k.memory) }
+        ensures none { min items limit ≡ 0 → IsOk result }
+        ensures no_memory { min items limit ≡ 0 → IfOk result (λ k. k.memory ≡ no_memory) }
+    {
+        let items = items.min(limit as usize);
+        let Ok(set) = empty_set(alloc, limit, items) else {
+            return Err(AllocError);
+        };
+        let Ok(filed) = MapHashTable::with_capacity(alloc, items) else {
+            return Err(AllocError);
+        };
+        let Ok(order) = MapBTreeTable::with_capacity(alloc, items) else {
+            return Err(AllocError);
+        };
         Ok(KeyedItems {
-            items: ItemSet::with_capacity(alloc, items)?,
-            filed: MapHashTable::with_capacity(alloc, items)?,
-            order: MapBTreeTable::with_capacity(alloc, items)?,
+            items: set,
+            filed,
+            order,
             state,
             alloc,
         })
@@ -72,8 +100,12 @@ impl<T: KeyedItem, S: BuildHasher> KeyedItems<T, S> {
             return Ok(());
         }
         let items = self.items.len() + wanted;
-        self.items.reserve_slots(items)?;
-        self.filed.try_reserve(wanted)?;
+        if let Err(AllocError) = self.items.reserve_slots(items) {
+            return Err(AllocError);
+        }
+        if let Err(AllocError) = self.filed.try_reserve(wanted) {
+            return Err(AllocError);
+        }
         self.order.try_reserve(wanted)
     }
 
@@ -104,4 +136,15 @@ impl<T: KeyedItem, S: BuildHasher> KeyedItems<T, S> {
         self.items.shrink_capacity_to(least)?;
         self.filed.shrink_to(least)
     }
+}
+
+// An empty set with memory for exactly so many slots.
+fn empty_set<T: Drop>(alloc: Global, limit: u32, slots: usize) -> Result<ItemSet<T>, AllocError>
+    ensures contents { IfOk result (λ set. set.store ≡ empty_within limit) }
+    ensures capacity { IfOk result (λ set. set.capacity ≡ slots) }
+    ensures none { slots ≡ 0 → IsOk result }
+{
+    let mut set = ItemSet::with_limit(alloc, limit);
+    set.reserve_slots(slots)?;
+    Ok(set)
 }

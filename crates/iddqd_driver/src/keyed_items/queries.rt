@@ -1,4 +1,5 @@
-//! Look-ups that return the item, and look-ups and removals by a query of another form than the key.
+//! Look-ups that return the item or whether there is one, and look-ups and removals by a query of another form than the
+//! key.
 //!
 //! A query stands for a key: a `&str` for a `String`, say, so that no key is copied for a look-up. In every state a
 //! look-up by it returns what a look-up by each key for which it stands may return.
@@ -7,7 +8,7 @@ ghost use Rattle.iddqd.specs.{live_count};
 ghost use Rattle.iddqd_by_order.specs.Ordered.{is_equal};
 ghost use Rattle.iddqd_driver.specs.KeyIndexes.{first_key_index, second_key_index, Keeps};
 ghost use Rattle.iddqd_driver.specs.Memory.{capacity, room};
-ghost use Rattle.iddqd_driver.specs.Queries.{LooksUpBy, LooksUpItem, LooksUpItemBy, RemovesByQuery};
+ghost use Rattle.iddqd_driver.specs.Queries.{ContainsKey, LooksUpBy, LooksUpItem, LooksUpItemBy, RemovesByQuery};
 
 use super::{Keyed, KeyedItems, remove_item, take_item};
 use crate::keyed_item::{First, KeyedItem, Second};
@@ -24,14 +25,34 @@ impl<T: KeyedItem, S: BuildHasher> KeyedItems<T, S> {
     pub fn get1(&self, key: &T::Key1) -> Option<&T>
         ensures { LooksUpItem (first_key_index ⟦<Self as Keyed>⟧.keys) self.now.state key.now (option_copied result) }
     {
-        self.items.get(self.find1(key)?)
+        match self.find1(key) {
+            Some(ix) => self.items.get(ix),
+            None => None,
+        }
     }
 
     /// The item with this second key, found as `find2` finds its index.
     pub fn get2(&self, key: &T::Key2) -> Option<&T>
         ensures { LooksUpItem (second_key_index ⟦<Self as Keyed>⟧.keys) self.now.state key.now (option_copied result) }
     {
-        self.items.get(self.find2(key)?)
+        match self.find2(key) {
+            Some(ix) => self.items.get(ix),
+            None => None,
+        }
+    }
+
+    /// Whether an item with this first key is found, as `find1` finds its index.
+    pub fn contains_key1(&self, key: &T::Key1) -> bool
+        ensures { ContainsKey (first_key_index ⟦<Self as Keyed>⟧.keys) self.now.state key.now result }
+    {
+        self.find1(key).is_some()
+    }
+
+    /// Whether an item with this second key is found, as `find2` finds its index.
+    pub fn contains_key2(&self, key: &T::Key2) -> bool
+        ensures { ContainsKey (second_key_index ⟦<Self as Keyed>⟧.keys) self.now.state key.now result }
+    {
+        self.find2(key).is_some()
     }
 
     /// The index of the item with the first key for which the query stands. Only keys of the same hash are compared
@@ -57,7 +78,10 @@ impl<T: KeyedItem, S: BuildHasher> KeyedItems<T, S> {
         ensures { LooksUpItemBy (first_key_index ⟦<Self as Keyed>⟧.keys) self.now.state
             (Q.stands_for query) (option_copied result) }
     {
-        self.items.get(self.find1_by(query)?)
+        match self.find1_by(query) {
+            Some(ix) => self.items.get(ix),
+            None => None,
+        }
     }
 
     /// The item with the second key for which the query stands, found as `find2_by` finds its index.
@@ -65,7 +89,10 @@ impl<T: KeyedItem, S: BuildHasher> KeyedItems<T, S> {
         ensures { LooksUpItemBy (second_key_index ⟦<Self as Keyed>⟧.keys) self.now.state
             (is_equal (Q.compare query)) (option_copied result) }
     {
-        self.items.get(self.find2_by(query)?)
+        match self.find2_by(query) {
+            Some(ix) => self.items.get(ix),
+            None => None,
+        }
     }
 
     /// Removes the item with the first key for which the query stands. It takes no memory.
@@ -80,7 +107,10 @@ impl<T: KeyedItem, S: BuildHasher> KeyedItems<T, S> {
     {
         let hash = query_hash(&self.state, query);
         let (filed, query) = (&mut self.filed, AsEquivalent(query));
-        let ix = hashed::take::<T, First, AsEquivalent<Q>>(filed, &self.items, hash, &query)?;
+        let Some(ix) = hashed::take::<T, First, AsEquivalent<Q>>(filed, &self.items, hash, &query)
+        else {
+            return None;
+        };
         Some((ix, remove_item(&mut self.order, &mut self.items, ix)))
     }
 
@@ -96,7 +126,10 @@ impl<T: KeyedItem, S: BuildHasher> KeyedItems<T, S> {
         ensures count { OnSome result (live_count self.old.state.store ≡ live_count self.new.state.store + 1) }
     {
         let (order, query) = (&mut self.order, AsComparable(query));
-        let ix = ordered::take::<T, Second, AsComparable<Q>>(order, &self.items, &query)?;
+        let Some(ix) = ordered::take::<T, Second, AsComparable<Q>>(order, &self.items, &query)
+        else {
+            return None;
+        };
         let item = take_item(&mut self.items, ix);
         let hash = hashed::hash_of::<T, First, S>(&self.state, &item);
         hashed::remove_index(&mut self.filed, hash, ix);

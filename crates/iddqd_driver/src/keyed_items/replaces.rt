@@ -3,7 +3,7 @@
 //! Each new key is looked up once. If that hits the index itself, its table stays as it is. If it misses, the index is
 //! removed from the table, wherever it stands there, and inserted where the new key belongs. So the call works after
 //! silent changes too. The ordered table takes its memory before anything changes; the hash table needs none.
-ghost use Rattle.std.specs.Prelude.{◌≡◌, ◌≤◌, length, Some, IsSome, IsOk, IfOk, OnOk, IfErr, OnErr};
+ghost use Rattle.std.specs.Prelude.{◌≡◌, ◌≤◌, ◌⊎◌, false, length, None, Some, IsTrue, IsSome, IsOk, IfOk, OnOk, IfErr, OnErr};
 ghost use Rattle.std.specs.FinMap as finite;
 ghost use Rattle.iddqd.specs.{get, live_count, rebound};
 ghost use Rattle.iddqd_hash.specs.{filed};
@@ -84,13 +84,13 @@ impl<T: KeyedItem, S: BuildHasher> KeyedItems<T, S> {
             → IfErr result (λ refusal. IsReplaceOutOfMemory refusal → ⊥) }
         ensures count { live_count self.new.state.store ≡ live_count self.old.state.store }
     {
-        if self.items.get(ix).is_none() {
+        let Some(_) = self.items.get(ix) else {
             return Err(ReplaceRefusal::Missing(item));
-        }
+        };
         let (hash, at1) = self.hash_and_find(item.key1());
         let at2 = self.find2(item.key2());
         let (first, second) = (other_than(ix, &at1), other_than(ix, &at2));
-        if first.is_some() || second.is_some() {
+        if is_taken(&first, &second) {
             return Err(ReplaceRefusal::Duplicate {
                 item,
                 first,
@@ -126,6 +126,14 @@ fn other_than(ix: ItemIndex, found: &Option<ItemIndex>) -> Option<ItemIndex>
         Some(at) if *at != ix => Some(*at),
         _ => None,
     }
+}
+
+// Whether either look-up hit another index.
+fn is_taken(first: &Option<ItemIndex>, second: &Option<ItemIndex>) -> bool
+    ensures taken { IsTrue result → IsSome first.now ⊎ IsSome second.now }
+    ensures free { result ≡ false → (first.now ≡ None) × (second.now ≡ None) }
+{
+    first.is_some() || second.is_some()
 }
 
 // Replaces the item at a live index, and updates both tables: the index stays in a table if the look-up of the new key

@@ -1,18 +1,10 @@
-use Rattle.std.specs.Result.{IfOk, OnErr}
-use Rattle.std.proofs.Common.{◌≡◌, ◌≤◌, ◌+◌, max, subst}
 use Rattle.iddqd_driver.specs.Keys.{Keys, keys_of}
-use Rattle.iddqd_driver.specs.State.{State, state_of}
-use Rattle.iddqd_driver.specs.KeyIndexes.{LooksUp, Keeps, first_key_index, finds_reported}
-use Rattle.iddqd_driver.specs.Machine.{StoresAt}
+use Rattle.iddqd_driver.specs.Memory.{sized_of}
 use Rattle.iddqd_driver.proofs.KeyLemmas.{AreLawful-from_bounds}
 use Rattle.iddqd_driver.proofs.KeepsLemmas.{Holds-order}
-use Rattle.iddqd_hash.specs.HashTable.{memory as cells}
-use Rattle.iddqd_hash.specs.Sizes.{most_cells}
-use Rattle.iddqd_driver.specs.Memory.{sized_of}
-use Rattle.iddqd_driver.proofs.MemoryLemmas.{InsertsInMemory-where, HasRoomInParts-from_room, room-inserted, length-filed}
-use Rattle.iddqd_driver.proofs.CountLemmas.{count-inserted, IsDuplicate-with_room}
-use Rattle.iddqd_driver.proofs.InsertLemmas.{StoresAt-from_parts, same-from_parts, Keeps-from_stored}
+use Rattle.iddqd_driver.proofs.PartLemmas.{LeavesInserted, LeavesInserted-parts}
 use Rattle.iddqd_by_hash.proofs.HoldsLemmas.{next_unfiled}
+use Rattle.iddqd_driver.proofs.keyed_items.KeyedItems.insert.Given.{Over}
 use Rattle.iddqd_driver.proofs.keyed_items.KeyedItems.insert.Goals.{After-insert_item}
 use Rattle.iddqd_driver.proofs.keyed_items.KeyedItems.insert.Goals as goal
 
@@ -25,101 +17,36 @@ insert_item-requires-clause-unfiled g c = next_unfiled _ _ c.self.invariant.file
 pub insert_item-requires-clause-ordered : goal.insert_item-requires-clause-ordered
 insert_item-requires-clause-ordered g c = Holds-order _ c.self.invariant
 
--- the state before and after the item was inserted
-abbrev was : (g : _) (c : After-insert_item g) → State g.row.T.Denot g.row.S.Denot
-was g c = state_of c.self.inside.state c.self.inside.items.store c.self.inside.filed c.self.inside.order
+abbrev keys_in : (g : Over) → Keys g.row.T.Denot g.row.T-Key1.Denot g.row.T-Key2.Denot g.row.S.Denot
+keys_in g = keys_of g.T.KeyedItem g.T.Key1.PartialEq.eq g.T.Key1.Hash.hash_input g.T.Key2.Ord.cmp g.S.BuildHasher g.S.Hasher.Hasher
 
-abbrev is : (g : _) (c : After-insert_item g) → State g.row.T.Denot g.row.S.Denot
-is g c = state_of c.self.inside.state c.insert_item.new.items.store c.insert_item.new.table c.insert_item.new.order
-
-abbrev keys : (g : _) (c : After-insert_item g) → Keys g.row.T.Denot g.row.T-Key1.Denot g.row.T-Key2.Denot g.row.S.Denot
-keys g c =
-    keys_of g.T.KeyedItem g.T.Key1.PartialEq.eq g.T.Key1.Hash.hash_input g.T.Key2.Ord.cmp g.S.BuildHasher
-    g.S.Hasher.Hasher
-
-first : (g : _) (c : After-insert_item g)
-    → let key = g.T.KeyedItem.first_key c.args.item in
-    LooksUp (first_key_index (keys g c)) (was g c) key (finds_reported c.insert_item.result).0
-first g c =
-    let found = rw (← c.self.view_is, c.key1.ensures) at c.hash_and_find-hash.ensures.found in
-    rw c.insert_item.ensures.first found
-
-stored : (g : _) (c : After-insert_item g)
-    → IfOk c.insert_item.result (λ ix. StoresAt (keys g c) (was g c) c.args.item ix (is g c))
-stored g c =
+left :
+    (g : _) (c : After-insert_item g)
+    → LeavesInserted (keys_in g) c.args.self.now c.args.item c.insert_item.result
+    (sized_of c.self.inside.state c.insert_item.new.items c.insert_item.new.table c.insert_item.new.order)
+left g c =
     let out = c.insert_item.ensures in
-    let hashed = rw (← c.self.view_is, c.key1.ensures) at c.hash_and_find-hash.ensures.hash in
-    let filed = rw hashed at out.filed in
-    StoresAt-from_parts (keys g c) (was g c) c.args.item _ _ _ c.insert_item.result
-    out.not_full out.index out.stored filed out.placed
-
-unchanged : (g : _) (c : After-insert_item g) → OnErr c.insert_item.result (is g c ≡ was g c)
-unchanged g c =
-    let out = c.insert_item.ensures in
-    same-from_parts (keys g c) (was g c) c.args.item _ _ _ c.insert_item.result out.items_stay out.hashes_stay out.order_stays
-
-keeps : (g : _) (c : After-insert_item g) → Keeps (keys g c) (was g c) (is g c)
-keeps g c =
-    let out = c.insert_item.ensures in
-    Keeps-from_stored _ _ c.args.item _ _ _
+    LeavesInserted-parts (keys_in g) c.self.inside.state c.self.inside.items c.self.inside.filed c.self.inside.order
+    c.args.self.now c.self.view_is c.self.invariant
     (AreLawful-from_bounds {item = g.T.KeyedItem} g.S.BuildHasher g.S.Hasher.Hasher g.met.T.Key1.PartialEq.laws
-    g.met.T.Key1.Hash.respects_eq g.met.T.Key2.Ord.total)
-    c.self.invariant c.insert_item.result (first g c) out.second (stored g c) out.placed (unchanged g c)
+    g.met.T.Key1.Hash.respects_eq g.met.T.Key2.Ord.total) c.args.item c.key1.result.now c.key1.ensures
+    c.hash_and_find-hash.result.0 c.hash_and_find-hash.result.1 c.hash_and_find-hash.ensures.hash c.hash_and_find-hash.ensures.found
+    c.insert_item.new.items c.insert_item.new.table c.insert_item.new.order c.insert_item.result
+    out.first out.second out.refused out.parts
 
 pub invariant_of-self : goal.invariant_of-self
-invariant_of-self g c = (keeps g c).paired.1
+invariant_of-self g c = (left g c).keeps.paired.1
 
-pub returns-clause-inserts : goal.returns-clause-inserts
-returns-clause-inserts g c = rw (← c.self.view_is) (record {
-  first = (first g c).found;
-  second = c.insert_item.ensures.second.found;
-  stored = stored g c;
-  refused = c.insert_item.ensures.refused;
-  unchanged = unchanged g c;
-})
-
-pub returns-clause-tells : goal.returns-clause-tells
-returns-clause-tells g c =
-    rw (← c.self.view_is) (record { first = (first g c).as_scan; second = c.insert_item.ensures.second.as_scan })
-
-pub returns-clause-keeps : goal.returns-clause-keeps
-returns-clause-keeps g c = rw (← c.self.view_is) (keeps g c)
-
-pub returns-clause-memory : goal.returns-clause-memory
-returns-clause-memory g c =
-    rw (← c.self.view_is)
-    (InsertsInMemory-where
-    (HasRoomInParts-from_room c.self.inside.state c.self.inside.items c.self.inside.filed c.self.inside.order c.self.invariant)
-    c.insert_item.ensures.memory)
-
-pub returns-clause-few : goal.returns-clause-few
-returns-clause-few g c =
-    let same = length-filed (was g c) c.self.invariant in
-    rw (← c.self.view_is) (record {
-      slots = c.insert_item.ensures.few_slots;
-      cells = subst (λ n. cells c.insert_item.new.table ≤ max (cells c.self.inside.filed) (most_cells (n + 1))) same c.insert_item.ensures.few_cells;
-    })
-
-pub returns-clause-room : goal.returns-clause-room
-returns-clause-room g c =
-    let whole = sized_of c.self.inside.state c.self.inside.items c.self.inside.filed c.self.inside.order in
-    let left = sized_of c.self.inside.state c.insert_item.new.items c.insert_item.new.table c.insert_item.new.order in
-    rw (← c.self.view_is)
-    (room-inserted whole left c.self.invariant (keys g c) c.args.item c.insert_item.result (stored g c)
-    (InsertsInMemory-where
-    (HasRoomInParts-from_room c.self.inside.state c.self.inside.items c.self.inside.filed c.self.inside.order c.self.invariant)
-    c.insert_item.ensures.memory))
-
-pub returns-clause-not_refused : goal.returns-clause-not_refused
-returns-clause-not_refused g c =
-    let whole = sized_of c.self.inside.state c.self.inside.items c.self.inside.filed c.self.inside.order in
-    rw (← c.self.view_is)
-    (IsDuplicate-with_room whole _ c.self.invariant c.args.item c.insert_item.result c.insert_item.ensures.refused
-    (InsertsInMemory-where
-    (HasRoomInParts-from_room c.self.inside.state c.self.inside.items c.self.inside.filed c.self.inside.order c.self.invariant)
-    c.insert_item.ensures.memory))
-
-pub returns-clause-count : goal.returns-clause-count
-returns-clause-count g c =
-    rw (← c.self.view_is)
-    (count-inserted (was g c) (is g c) c.self.invariant (keys g c) c.args.item c.insert_item.result (stored g c))
+pub returns : goal.returns
+returns g c =
+    let did = left g c in
+    record {
+      inserts = did.inserts;
+      tells = did.tells;
+      keeps = did.keeps;
+      memory = did.memory;
+      few = did.few;
+      room = did.has_room;
+      not_refused = did.not_refused;
+      count = did.count;
+    }

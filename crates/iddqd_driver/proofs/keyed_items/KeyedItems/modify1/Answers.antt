@@ -1,28 +1,25 @@
-use Rattle.std.proofs.Common.{refl}
-use Rattle.iddqd_driver.specs.Keys.{keys_of}
+use Rattle.iddqd_driver.specs.Keys.{Keys, keys_of}
 use Rattle.iddqd_driver.specs.KeyIndexes.{first_key_index, LooksUp}
-use Rattle.iddqd_driver.proofs.ModifyLemmas.{ModifiesFound-hit}
-use Rattle.iddqd_driver.proofs.KeepsLemmas.{Keeps-same}
+use Rattle.iddqd_driver.proofs.ModifyLemmas.{GivesFound-at, ModifiesFound-hit}
+use Rattle.iddqd_driver.proofs.keyed_items.KeyedItems.modify1.Given.{Over}
 use Rattle.iddqd_driver.proofs.keyed_items.KeyedItems.modify1.Goals as goal
 
-pub modify_live-requires-clause-callable : goal.modify_live-requires-clause-callable
-modify_live-requires-clause-callable g c = λ p live. (c.requires p (c.in_ok-find1.field-0, c.in_ok-find1.ensures.found, live)).0
+-- the keys of the items
+abbrev keys_in : (g : Over) → Keys g.row.T.Denot g.row.T-Key1.Denot g.row.T-Key2.Denot g.row.S.Denot
+keys_in g = keys_of g.T.KeyedItem g.T.Key1.PartialEq.eq g.T.Key1.Hash.hash_input g.T.Key2.Ord.cmp g.S.BuildHasher g.S.Hasher.Hasher
 
-pub modify_live-requires-clause-keeps : goal.modify_live-requires-clause-keeps
-modify_live-requires-clause-keeps g c = λ p live. c.requires p (c.in_ok-find1.field-0, c.in_ok-find1.ensures.found, live)
+pub modify_found-requires-clause-callable : goal.modify_found-requires-clause-callable
+modify_found-requires-clause-callable g c = λ p at.
+    let finds = LooksUp (first_key_index (keys_in g)) c.args.self.now.state c.args.key.now in
+    (c.requires p (GivesFound-at c.args.self.now.state.store finds c.find1.result p.now c.find1.ensures.found at)).0
+
+pub modify_found-requires-clause-keeps : goal.modify_found-requires-clause-keeps
+modify_found-requires-clause-keeps g c = λ p at.
+    let finds = LooksUp (first_key_index (keys_in g)) c.args.self.now.state c.args.key.now in
+    c.requires p (GivesFound-at c.args.self.now.state.store finds c.find1.result p.now c.find1.ensures.found at)
 
 pub returns-clause-modifies : goal.returns-clause-modifies
 returns-clause-modifies g c =
-    let keys = keys_of g.T.KeyedItem g.T.Key1.PartialEq.eq g.T.Key1.Hash.hash_input g.T.Key2.Ord.cmp g.S.BuildHasher g.S.Hasher.Hasher in
-    let finds = LooksUp (first_key_index keys) c.args.self.now.state c.args.key.now in
-    let found = c.in_ok-find1.ensures.found in
-    ModifiesFound-hit g.F.FnOnce c.args.f finds _ c.args.self.now.state c.in_ok-find1.field-0 c.modify_live.result c.modify_live.new.self.state found found.found.hit c.modify_live.ensures.modifies
-
-pub returns-in_err-find1 : goal.returns-in_err-find1
-returns-in_err-find1 g c =
-    rw c.from_residual.ensures
-    (record {
-      modifies = (c.in_err-find1.ensures.found, refl);
-      keeps = Keeps-same _ _ c.in_err-find1.ensures.paired _ refl;
-      memory = refl;
-    })
+    let finds = LooksUp (first_key_index (keys_in g)) c.args.self.now.state c.args.key.now in
+    ModifiesFound-hit g.F.FnOnce c.args.f finds _ c.args.self.now.state c.find1.result c.modify_found.result
+    c.modify_found.new.self.state c.find1.ensures.found (λ ix hit. hit.found.hit) c.modify_found.ensures.modifies

@@ -1,43 +1,36 @@
 use Rattle.iddqd_driver.proofs.KeyLemmas.{AreLawful-from_bounds}
 use Rattle.iddqd_driver.proofs.KeepsLemmas.{Keeps-same}
 use Rattle.std.proofs.Common.{refl}
-use Rattle.iddqd_driver.proofs.RemovalLemmas.{none-removes, read-live, removed-paired, removed-removes, removed-keeps, removed-count, removed-memory, removed-room}
+use Rattle.iddqd_driver.proofs.RemovalLemmas.{none-removes, read-live, removed-paired, LeavesOthers-removed}
 use Rattle.iddqd_driver.proofs.keyed_items.KeyedItems.remove.Goals as goal
 
 pub invariant_of-self : goal.invariant_of-self
 invariant_of-self g c =
     removed-paired c.self.inside.state c.self.inside.items c.self.inside.filed c.self.inside.order c.args.self.now c.self.view_is c.self.invariant c.remove_item.new.items c.remove_index.new.table c.remove_item.new.order c.args.ix _ c.remove_item.ensures.item c.remove_item.ensures.removed c.remove_index.ensures.taken c.remove_item.ensures.taken
 
-pub returns-clause-keeps : goal.returns-clause-keeps
-returns-clause-keeps g c =
-    removed-keeps c.self.inside.state c.self.inside.items c.self.inside.filed c.self.inside.order c.args.self.now c.self.view_is c.self.invariant c.remove_item.new.items c.remove_index.new.table c.remove_item.new.order c.args.ix _ c.remove_item.ensures.item c.remove_item.ensures.removed c.remove_index.ensures.taken c.remove_item.ensures.taken _
-    (AreLawful-from_bounds {item = g.T.KeyedItem} g.S.BuildHasher g.S.Hasher.Hasher g.met.T.Key1.PartialEq.laws
-    g.met.T.Key1.Hash.respects_eq g.met.T.Key2.Ord.total)
-
-pub returns-clause-removes : goal.returns-clause-removes
-returns-clause-removes g c =
-    removed-removes c.self.inside.state c.self.inside.items c.self.inside.filed c.self.inside.order c.args.self.now c.self.view_is c.self.invariant c.remove_item.new.items c.remove_index.new.table c.remove_item.new.order c.args.ix _ c.remove_item.ensures.item c.remove_item.ensures.removed c.remove_index.ensures.taken c.remove_item.ensures.taken
-
-pub returns-clause-memory : goal.returns-clause-memory
-returns-clause-memory g c =
-    removed-memory c.self.inside.state c.self.inside.items c.self.inside.filed c.self.inside.order c.args.self.now c.self.view_is c.self.invariant c.remove_item.new.items c.remove_index.new.table c.remove_item.new.order c.args.ix _ c.remove_item.ensures.item c.remove_item.ensures.removed c.remove_index.ensures.taken c.remove_item.ensures.taken c.remove_item.ensures.slots c.remove_index.ensures.memory c.remove_item.ensures.ordered
-
-pub returns-clause-room : goal.returns-clause-room
-returns-clause-room g c =
-    removed-room c.self.inside.state c.self.inside.items c.self.inside.filed c.self.inside.order c.args.self.now c.self.view_is c.self.invariant c.remove_item.new.items c.remove_index.new.table c.remove_item.new.order c.args.ix _ c.remove_item.ensures.item c.remove_item.ensures.removed c.remove_index.ensures.taken c.remove_item.ensures.taken c.remove_item.ensures.slots c.remove_index.ensures.memory c.remove_item.ensures.ordered
-
-pub returns-clause-count : goal.returns-clause-count
-returns-clause-count g c =
-    removed-count c.self.inside.state c.self.inside.items c.self.inside.filed c.self.inside.order c.args.self.now c.self.view_is c.self.invariant c.remove_item.new.items c.remove_index.new.table c.remove_item.new.order c.args.ix _ c.remove_item.ensures.item c.remove_item.ensures.removed c.remove_index.ensures.taken c.remove_item.ensures.taken
-
-pub returns-in_err-item : goal.returns-in_err-item
-returns-in_err-item g c =
-    rw c.from_residual.ensures
-    (record {
-      removes = none-removes c.self.inside.state c.self.inside.items c.self.inside.filed c.self.inside.order c.args.self.now c.self.view_is c.self.invariant c.args.ix _ c.in_err-item.ensures refl;
-      live = read-live c.self.inside.state c.self.inside.items c.self.inside.filed c.self.inside.order c.args.self.now c.self.view_is c.self.invariant c.args.ix _ c.in_err-item.ensures;
+pub returns-in_default : goal.returns-in_default
+returns-in_default g c =
+    record {
+      removes = none-removes c.self.inside.state c.self.inside.items c.self.inside.filed c.self.inside.order c.args.self.now c.self.view_is c.self.invariant c.args.ix _ c.in_default.ensures refl;
+      live = read-live c.self.inside.state c.self.inside.items c.self.inside.filed c.self.inside.order c.args.self.now c.self.view_is c.self.invariant c.args.ix _ c.in_default.ensures;
       keeps = rw (← c.self.view_is) (Keeps-same _ _ c.self.invariant _ refl);
       memory = refl;
       room = tt;
       count = tt;
-    })
+    }
+
+pub returns : goal.returns
+returns g c =
+    let did =
+    LeavesOthers-removed c.self.inside.state c.self.inside.items c.self.inside.filed c.self.inside.order c.args.self.now c.self.view_is c.self.invariant
+    c.remove_item.new.items c.remove_index.new.table c.remove_item.new.order c.args.ix _ c.remove_item.ensures.item c.remove_item.ensures.removed c.remove_index.ensures.taken c.remove_item.ensures.taken c.remove_item.ensures.slots c.remove_index.ensures.memory c.remove_item.ensures.ordered _
+    (AreLawful-from_bounds {item = g.T.KeyedItem} g.S.BuildHasher g.S.Hasher.Hasher g.met.T.Key1.PartialEq.laws
+    g.met.T.Key1.Hash.respects_eq g.met.T.Key2.Ord.total) in
+    record {
+      removes = did.removes;
+      live = (λ _. did.live, λ _. refl);
+      keeps = did.keeps;
+      memory = did.memory;
+      room = did.room;
+      count = did.count;
+    }

@@ -1,65 +1,56 @@
-use Rattle.std.proofs.Common.{None, refl, arith}
+use Rattle.std.proofs.Common.{None, arith}
 use Rattle.std.proofs.lemmas.Grind.{common_steps}
 use Rattle.iddqd_keys.specs.OrderedQuery.{compares_as_key}
 use Rattle.iddqd_driver.proofs.KeyLemmas.{AreLawful-from_bounds}
 use Rattle.iddqd_driver.specs.Keys.{keys_of}
 use Rattle.iddqd_driver.specs.Memory.{sized_of}
 use Rattle.iddqd_driver.proofs.QueryLemmas.{LooksUpBy-ordered}
-use Rattle.iddqd_driver.proofs.KeepsLemmas.{Keeps-same}
-use Rattle.iddqd_driver.proofs.RemovalLemmas.{removed-paired, removed-removes, removed-keeps, removed-count, removed-memory, removed-room}
+use Rattle.iddqd_driver.proofs.RemovalLemmas.{removed-paired, LeavesAll-ordered, LeavesOthers-removed}
 use Rattle.iddqd_driver.proofs.keyed_items.KeyedItems.remove2_by.Goals as goal
 
 pub invariant_of-self-2 : goal.invariant_of-self-2
 invariant_of-self-2 g c =
-    removed-paired c.self.inside.state c.self.inside.items c.self.inside.filed c.self.inside.order c.args.self.now c.self.view_is c.self.invariant c.take_item-item.new.items c.remove_index.new.table c.take.new.table c.in_ok-ix.ix _ c.take_item-item.ensures.item c.take_item-item.ensures.removed c.remove_index.ensures.taken c.in_ok-ix.ensures.taken
+    removed-paired c.self.inside.state c.self.inside.items c.self.inside.filed c.self.inside.order c.args.self.now c.self.view_is c.self.invariant c.take_item-item.new.items c.remove_index.new.table c.take.new.table c.in-Some.ix _ c.take_item-item.ensures.item c.take_item-item.ensures.removed c.remove_index.ensures.taken c.in-Some.ensures.taken
 
-pub returns-clause-removes : goal.returns-clause-removes
-returns-clause-removes g c =
+pub invariant_of-self : goal.invariant_of-self
+invariant_of-self g c = grind (arith, common_steps)
+
+pub returns-in_default : goal.returns-in_default
+returns-in_default g c =
     let comparing = g.Q.OrdQuery.compare c.args.query in
     let keys =
     keys_of g.T.KeyedItem g.T.Key1.PartialEq.eq g.T.Key1.Hash.hash_input g.T.Key2.Ord.cmp g.S.BuildHasher g.S.Hasher.Hasher in
     let looked =
     LooksUpBy-ordered keys (sized_of c.self.inside.state c.self.inside.items c.self.inside.filed c.self.inside.order).state comparing
     (compares_as_key g.T.Key2.Ord.cmp g.met.T.Key2.Ord.total comparing (g.met.Q.OrdQuery.lawful c.args.query))
-    _ c.in_ok-ix.ensures.found in
-    (rw (← c.self.view_is) looked, removed-removes c.self.inside.state c.self.inside.items c.self.inside.filed c.self.inside.order c.args.self.now c.self.view_is c.self.invariant c.take_item-item.new.items c.remove_index.new.table c.take.new.table c.in_ok-ix.ix _ c.take_item-item.ensures.item c.take_item-item.ensures.removed c.remove_index.ensures.taken c.in_ok-ix.ensures.taken)
-
-pub returns-clause-keeps : goal.returns-clause-keeps
-returns-clause-keeps g c =
-    removed-keeps c.self.inside.state c.self.inside.items c.self.inside.filed c.self.inside.order c.args.self.now c.self.view_is c.self.invariant c.take_item-item.new.items c.remove_index.new.table c.take.new.table c.in_ok-ix.ix _ c.take_item-item.ensures.item c.take_item-item.ensures.removed c.remove_index.ensures.taken c.in_ok-ix.ensures.taken _
-    (AreLawful-from_bounds {item = g.T.KeyedItem} g.S.BuildHasher g.S.Hasher.Hasher g.met.T.Key1.PartialEq.laws
-    g.met.T.Key1.Hash.respects_eq g.met.T.Key2.Ord.total)
-
-pub invariant_of-self : goal.invariant_of-self
-invariant_of-self g c = grind (arith, common_steps)
-
-pub returns-clause-memory : goal.returns-clause-memory
-returns-clause-memory g c =
-    removed-memory c.self.inside.state c.self.inside.items c.self.inside.filed c.self.inside.order c.args.self.now c.self.view_is c.self.invariant c.take_item-item.new.items c.remove_index.new.table c.take.new.table c.in_ok-ix.ix _ c.take_item-item.ensures.item c.take_item-item.ensures.removed c.remove_index.ensures.taken c.in_ok-ix.ensures.taken c.take_item-item.ensures.slots c.remove_index.ensures.memory c.in_ok-ix.ensures.memory
-
-pub returns-clause-room : goal.returns-clause-room
-returns-clause-room g c =
-    removed-room c.self.inside.state c.self.inside.items c.self.inside.filed c.self.inside.order c.args.self.now c.self.view_is c.self.invariant c.take_item-item.new.items c.remove_index.new.table c.take.new.table c.in_ok-ix.ix _ c.take_item-item.ensures.item c.take_item-item.ensures.removed c.remove_index.ensures.taken c.in_ok-ix.ensures.taken c.take_item-item.ensures.slots c.remove_index.ensures.memory c.in_ok-ix.ensures.memory
-
-pub returns-clause-count : goal.returns-clause-count
-returns-clause-count g c =
-    removed-count c.self.inside.state c.self.inside.items c.self.inside.filed c.self.inside.order c.args.self.now c.self.view_is c.self.invariant c.take_item-item.new.items c.remove_index.new.table c.take.new.table c.in_ok-ix.ix _ c.take_item-item.ensures.item c.take_item-item.ensures.removed c.remove_index.ensures.taken c.in_ok-ix.ensures.taken
-
-pub returns-in_err-ix : goal.returns-in_err-ix
-returns-in_err-ix g c =
-    let comparing = g.Q.OrdQuery.compare c.args.query in
-    rw (← c.self.view_is, c.from_residual.ensures, c.in_err-ix.ensures.taken)
-    (record {
-      removes = (
-        LooksUpBy-ordered
-            (keys_of g.T.KeyedItem g.T.Key1.PartialEq.eq g.T.Key1.Hash.hash_input g.T.Key2.Ord.cmp g.S.BuildHasher
-            g.S.Hasher.Hasher) _ comparing
-            (compares_as_key g.T.Key2.Ord.cmp g.met.T.Key2.Ord.total comparing (g.met.Q.OrdQuery.lawful c.args.query))
-            None c.in_err-ix.ensures.found,
-        refl,
-      );
-      keeps = Keeps-same _ _ c.self.invariant _ refl;
-      memory = rw c.in_err-ix.ensures.memory refl;
+    None c.in_default.ensures.found in
+    let left = LeavesAll-ordered c.self.inside.state c.self.inside.items c.self.inside.filed c.self.inside.order c.args.self.now c.self.view_is c.self.invariant _ c.take.new.table c.in_default.ensures.taken c.in_default.ensures.memory in
+    record {
+      removes = (rw (← c.self.view_is) looked, left.state);
+      keeps = left.keeps;
+      memory = left.memory;
       room = tt;
       count = tt;
-    })
+    }
+
+pub returns : goal.returns
+returns g c =
+    let comparing = g.Q.OrdQuery.compare c.args.query in
+    let keys =
+    keys_of g.T.KeyedItem g.T.Key1.PartialEq.eq g.T.Key1.Hash.hash_input g.T.Key2.Ord.cmp g.S.BuildHasher g.S.Hasher.Hasher in
+    let looked =
+    LooksUpBy-ordered keys (sized_of c.self.inside.state c.self.inside.items c.self.inside.filed c.self.inside.order).state comparing
+    (compares_as_key g.T.Key2.Ord.cmp g.met.T.Key2.Ord.total comparing (g.met.Q.OrdQuery.lawful c.args.query))
+    _ c.in-Some.ensures.found in
+    let did =
+    LeavesOthers-removed c.self.inside.state c.self.inside.items c.self.inside.filed c.self.inside.order c.args.self.now c.self.view_is c.self.invariant
+    c.take_item-item.new.items c.remove_index.new.table c.take.new.table c.in-Some.ix _ c.take_item-item.ensures.item c.take_item-item.ensures.removed c.remove_index.ensures.taken c.in-Some.ensures.taken c.take_item-item.ensures.slots c.remove_index.ensures.memory c.in-Some.ensures.memory _
+    (AreLawful-from_bounds {item = g.T.KeyedItem} g.S.BuildHasher g.S.Hasher.Hasher g.met.T.Key1.PartialEq.laws
+    g.met.T.Key1.Hash.respects_eq g.met.T.Key2.Ord.total) in
+    record {
+      removes = (rw (← c.self.view_is) looked, did.removes);
+      keeps = did.keeps;
+      memory = did.memory;
+      room = did.room;
+      count = did.count;
+    }

@@ -25,15 +25,10 @@ did g c =
 pub invariant_of-self : goal.invariant_of-self
 invariant_of-self g c = IsPaired-retained (CalledAt g.F.FnMut) c.args.f _ _ c.self.invariant (did g c)
 
-pub returns-clause-retained : goal.returns-clause-retained
-returns-clause-retained g c = rw (← c.self.view_is) (did g c)
-
-pub returns-clause-keeps : goal.returns-clause-keeps
-returns-clause-keeps g c =
-    rw (← c.self.view_is)
-    (Keeps-retained _ (CalledAt g.F.FnMut) c.args.f _ _
-    (AreLawful-from_bounds {item = g.T.KeyedItem} g.S.BuildHasher g.S.Hasher.Hasher g.met.T.Key1.PartialEq.laws
-    g.met.T.Key1.Hash.respects_eq g.met.T.Key2.Ord.total) c.self.invariant (did g c))
+pub overflow_sub-result : goal.overflow_sub-result
+overflow_sub-result g c =
+    let fewer = RetainsTo-fewer (CalledAt g.F.FnMut) _ _ _ _ c.remove_refused.ensures.retained in
+    no_more_after _ _ _ _ c.len-before.ensures c.len.ensures fewer
 
 same_memory : (g : _) (c : After-drop-f g)
     → memory_of c.remove_refused.new.items c.forget_filed.new.table c.forget_ordered.new.table
@@ -42,31 +37,22 @@ same_memory g c =
     let hashed = c.forget_filed.ensures.memory in
     rw (c.remove_refused.ensures.slots, hashed.same_capacity, hashed.same_memory, c.forget_ordered.ensures.memory) refl
 
-pub returns-clause-memory : goal.returns-clause-memory
-returns-clause-memory g c = rw (← c.self.view_is) (same_memory g c)
-
-pub returns-clause-capacity : goal.returns-clause-capacity
-returns-clause-capacity g c =
+pub returns : goal.returns
+returns g c =
+    let done = did g c in
+    let same = same_memory g c in
     let whole = sized_of c.self.inside.state c.self.inside.items c.self.inside.filed c.self.inside.order in
     let left = sized_of c.self.inside.state c.remove_refused.new.items c.forget_filed.new.table c.forget_ordered.new.table in
-    let limit = limit-retained (CalledAt g.F.FnMut) c.args.f whole.state left.state (did g c) in
-    rw (← c.self.view_is) (capacity-same whole left limit (same_memory g c))
-
-pub returns-clause-room : goal.returns-clause-room
-returns-clause-room g c =
-    let whole = sized_of c.self.inside.state c.self.inside.items c.self.inside.filed c.self.inside.order in
-    let left = sized_of c.self.inside.state c.remove_refused.new.items c.forget_filed.new.table c.forget_ordered.new.table in
-    let limit = limit-retained (CalledAt g.F.FnMut) c.args.f whole.state left.state (did g c) in
+    let limit = limit-retained (CalledAt g.F.FnMut) c.args.f whole.state left.state done in
     let fewer = RetainsTo-fewer (CalledAt g.F.FnMut) _ _ _ _ c.remove_refused.ensures.retained in
-    rw (← c.self.view_is)
-    (room-more whole left limit (same_memory g c) _ (removed_and_left _ _ _ _ c.len-before.ensures c.len.ensures fewer))
-
-pub overflow_sub-result : goal.overflow_sub-result
-overflow_sub-result g c =
-    let fewer = RetainsTo-fewer (CalledAt g.F.FnMut) _ _ _ _ c.remove_refused.ensures.retained in
-    no_more_after _ _ _ _ c.len-before.ensures c.len.ensures fewer
-
-pub returns-clause-count : goal.returns-clause-count
-returns-clause-count g c =
-    let fewer = RetainsTo-fewer (CalledAt g.F.FnMut) _ _ _ _ c.remove_refused.ensures.retained in
-    rw (← c.self.view_is) (removed_and_left _ _ _ _ c.len-before.ensures c.len.ensures fewer)
+    let counted = removed_and_left _ _ _ _ c.len-before.ensures c.len.ensures fewer in
+    rw (← c.self.view_is) (record {
+      retained = done;
+      count = counted;
+      keeps = Keeps-retained _ (CalledAt g.F.FnMut) c.args.f _ _
+          (AreLawful-from_bounds g.S.BuildHasher g.S.Hasher.Hasher g.met.T.Key1.PartialEq.laws
+          g.met.T.Key1.Hash.respects_eq g.met.T.Key2.Ord.total) c.self.invariant done;
+      memory = same;
+      capacity = capacity-same whole left limit same;
+      room = room-more whole left limit same _ counted;
+    })
