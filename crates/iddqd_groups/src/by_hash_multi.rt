@@ -36,9 +36,11 @@ use iddqd_by_hash::hashed_move::Move;
 use iddqd_keys::hash_key::HashKey;
 use iddqd_keys::item_hash_query::ItemHashQuery;
 use iddqd_keys::key_kinds::Field;
-use iddqd_map::grouped_at::GroupedAt;
+use iddqd_map::grouped_at::{GroupedAt, StepsInGroup};
 use iddqd_map::hashed_plan::move_of;
-use iddqd_map::key_index::{Here, Inserts, KeyIndex, Moves, Upkeep};
+use iddqd_map::key_index::{
+    ComparesKeys, Here, IndexLaws, Inserts, KeyIndex, Moves, Overwrites, Removes, Upkeep,
+};
 use iddqd_map::map::Parts;
 pub use iddqd_map::no_conflict::NoConflict;
 use std::alloc::{AllocError, Global};
@@ -90,17 +92,12 @@ where
     E: HashKey<T>,
     S: BuildHasher,
 {
-    ghost use Rattle.std.proofs.Common.{refl};
-    ghost use Rattle.iddqd_hash.proofs.LeastCellsLemmas.{least_cells-grows};
-    ghost use Rattle.iddqd_groups.specs.LinkedTable.{most_linked, kept_linked, needed_linked};
-    ghost use Rattle.iddqd_map.specs.PairLaws.{sum_grows};
-    ghost use Rattle.iddqd_groups.specs.ByHashMulti.{FilesWithin, HasSameIndexes};
-    ghost use Rattle.iddqd_groups.specs.ByHashMultiLaws.{FilesWithin-kept, FilesWithin-key_kept, FilesWithin-keys_shared};
-    ghost use Rattle.iddqd_map.specs.HashLaws.{shares_laws};
-    ghost use Rattle.iddqd_map.specs.Map.{shares};
-    ghost use Rattle.iddqd_map.specs.NoConflict.{never_alike, never_apart, none_named};
-    ghost use Rattle.std.specs.Prelude.{◌<◌};
     ghost use Rattle.std.specs.FinMap as finite;
+    ghost use Rattle.iddqd_groups.specs.LinkedTable.{most_linked, kept_linked, needed_linked};
+    ghost use Rattle.iddqd_groups.specs.ByHashMulti.{FilesWithin, HasSameIndexes};
+    ghost use Rattle.iddqd_map.specs.Map.{shares};
+    ghost use Rattle.iddqd_map.specs.NoConflict.{never_alike};
+    ghost use Rattle.std.specs.Prelude.{◌<◌};
     ghost use Rattle.iddqd_map.specs.Files.{IsMoveFor};
     ghost use Rattle.iddqd_map.specs.Hashed.{moves};
 
@@ -141,9 +138,6 @@ where
 
     ghost needed = { needed_linked };
 
-    ghost needed_grows = { λ slots more_slots count more wider up.
-        sum_grows (least_cells-grows count more up) wider };
-
     ghost may_need_memory = { false };
 
     ghost same = { λ x y. HasSameIndexes x.table y.table };
@@ -155,6 +149,42 @@ where
     ghost taken = { λ s ix item at. ⊥ };
 
     ghost reports = { λ at ix. ⊥ };
+
+    ghost are_hashes = { λ state item hash. hash ≡ (hashing_of E.eq E.hash_input S.BuildHasher
+        S.Hasher.Hasher state).hash_of (E.key_of item) };
+
+    ghost is_position = { λ x state s item position. Unit {0} };
+
+    ghost is_planned = { λ x state s item plan. Unit {0} };
+
+    ghost has_room_for = { λ x plan blocks. finite.len x.table.filed < x.table.capacity };
+
+    ghost are_none = { λ blocks. Unit {0} };
+
+    ghost are_enough_after = { λ x blocks. Unit {0} };
+
+    ghost is_move = { λ state s ix item plan. IsMoveFor E.key_of (hashing_of E.eq E.hash_input S.BuildHasher
+        S.Hasher.Hasher state) s ix item plan };
+
+    ghost moves = { moves };
+
+    ghost are_enough_for = { λ x plan blocks. Unit {0} };
+}
+
+impl<T, S, E> IndexLaws<T, S> for ByHashMultiOf<E>
+where
+    E: HashKey<T>,
+    S: BuildHasher,
+{
+    ghost use Rattle.std.proofs.Common.{refl};
+    ghost use Rattle.iddqd_hash.proofs.LeastCellsLemmas.{least_cells-grows};
+    ghost use Rattle.iddqd_map.specs.PairLaws.{sum_grows};
+    ghost use Rattle.iddqd_groups.specs.ByHashMultiLaws.{FilesWithin-kept, FilesWithin-key_kept, FilesWithin-keys_shared};
+    ghost use Rattle.iddqd_map.specs.HashLaws.{shares_laws};
+    ghost use Rattle.iddqd_map.specs.NoConflict.{never_apart, none_named};
+
+    ghost needed_grows = { λ slots more_slots count more wider up.
+        sum_grows (least_cells-grows count more up) wider };
 
     ghost kept_none = { refl };
 
@@ -179,36 +209,16 @@ where
 
     ghost few_reported = { λ at. none_named };
 
-    ghost are_hashes = { λ state item hash. hash ≡ (hashing_of E.eq E.hash_input S.BuildHasher
-        S.Hasher.Hasher state).hash_of (E.key_of item) };
-
-    ghost is_position = { λ x state s item position. Unit {0} };
-
-    ghost is_planned = { λ x state s item plan. Unit {0} };
-
-    ghost has_room_for = { λ x plan blocks. finite.len x.table.filed < x.table.capacity };
-
-    ghost are_none = { λ blocks. Unit {0} };
-
-    ghost are_enough_after = { λ x blocks. Unit {0} };
-
     ghost same_plans = { λ x y state s item plan same is. is };
+}
 
-    ghost is_move = { λ state s ix item plan. IsMoveFor E.key_of (hashing_of E.eq E.hash_input S.BuildHasher
-        S.Hasher.Hasher state) s ix item plan };
-
-    ghost moves = { moves };
-
-    ghost are_enough_for = { λ x plan blocks. Unit {0} };
-
-    fn no_hashes() {}
-
+impl<T, S, E> Removes<T, S> for ByHashMultiOf<E>
+where
+    E: HashKey<T>,
+    S: BuildHasher,
+{
     fn remove(&mut self, items: &ItemSet<T>, state: &S, ix: ItemIndex) {
         self.table.remove(ix);
-    }
-
-    fn is_same(item: &T, other: &T) -> bool {
-        E::is_same(item, other)
     }
 }
 
@@ -240,7 +250,13 @@ where
     fn insert(&mut self, hashes: MapHash, plan: &(), blocks: (), ix: ItemIndex) {
         self.table.insert(hashes, ix);
     }
+}
 
+impl<T, S, E> Overwrites<T, S> for ByHashMultiOf<E>
+where
+    E: HashKey<T>,
+    S: BuildHasher,
+{
     fn next_reported(conflict: &NoConflict, before: Option<ItemIndex>) -> Option<ItemIndex> {
         None
     }
@@ -257,6 +273,8 @@ where
     E: HashKey<T>,
     S: BuildHasher,
 {
+    fn no_hashes() {}
+
     fn plan_move(
         &self,
         items: &ItemSet<T>,
@@ -346,6 +364,16 @@ where
     }
 }
 
+impl<T, S, E> ComparesKeys<T, S> for ByHashMultiOf<E>
+where
+    E: HashKey<T>,
+    S: BuildHasher,
+{
+    fn is_same(item: &T, other: &T) -> bool {
+        E::is_same(item, other)
+    }
+}
+
 impl<T, S, E, Q> GroupedAt<Here, Q, T, S> for ByHashMultiOf<E>
 where
     E: HashKey<T>,
@@ -361,7 +389,14 @@ where
     fn find_any(&self, items: &ItemSet<T>, state: &S, query: Q) -> Option<ItemIndex> {
         find_any::<T, E, S, Q>(&self.table, items, state, query)
     }
+}
 
+impl<T, S, E, Q> StepsInGroup<Here, Q, T, S> for ByHashMultiOf<E>
+where
+    E: HashKey<T>,
+    S: BuildHasher,
+    Q: ItemHashQuery<T, E>,
+{
     fn next_in_group(
         &self,
         items: &ItemSet<T>,

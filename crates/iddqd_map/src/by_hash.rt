@@ -17,7 +17,10 @@ ghost use Rattle.iddqd_map.specs.Indexing.{Indexes};
 use crate::hashed_plan::plan_move;
 use crate::hashed_query::{find_item, find_under, take_by};
 use crate::hashed_steps;
-use crate::key_index::{FindsSame, Here, Inserts, KeyIndex, Moves, ReportsAt, UniqueAt, Upkeep};
+use crate::key_index::{
+    ComparesKeys, FindsSame, Here, IndexLaws, Inserts, KeyIndex, Moves, Overwrites, Removes,
+    ReportsAt, TakesAt, UniqueAt, Upkeep,
+};
 use iddqd::index_remap::IndexRemap;
 use iddqd::internal::{ValidateCompact, ValidateRefusal, ValidationError};
 use iddqd::item_index::ItemIndex;
@@ -54,16 +57,12 @@ where
     E: HashKey<T>,
     S: BuildHasher,
 {
-    ghost use Rattle.std.proofs.Common.{refl};
     ghost use Rattle.std.specs.Prelude.{◌≢◌, Some, false, ◌≤◌};
     ghost use Rattle.iddqd_hash.specs.HashTable.{capacity, memory, room};
     ghost use Rattle.iddqd_hash.specs.OpenTableSizes.{least_cells};
-    ghost use Rattle.iddqd_hash.proofs.LeastCellsLemmas.{least_cells-grows};
     ghost use Rattle.iddqd_hash.specs.Sizes.{most_cells};
     ghost use Rattle.iddqd_hash.specs.MapHashTable.{filed};
     ghost use Rattle.iddqd_map.specs.Map.{shares};
-    ghost use Rattle.iddqd_map.specs.HashLaws.{shares_laws, Indexes-kept, Indexes-key_kept, Indexes-keys_shared};
-    ghost use Rattle.iddqd_map.specs.OneKeyLaws.{reported_one, few_one};
     ghost use Rattle.iddqd_map.specs.Hashed.{moves};
     ghost use Rattle.iddqd_map.specs.Indexing.{Plans};
 
@@ -104,8 +103,6 @@ where
 
     ghost needed = { λ slots count. least_cells count };
 
-    ghost needed_grows = { λ slots more_slots count more wider up. least_cells-grows count more up };
-
     ghost may_need_memory = { false };
 
     ghost same = { λ x y. filed y.table ≡ filed x.table };
@@ -117,6 +114,41 @@ where
     ghost taken = { λ s ix item at. (at ≢ ix) × AnswersScan s (shares E.key_of E.eq item) (Some at) };
 
     ghost reports = { λ at ix. ix ≡ at };
+
+    ghost are_hashes = { λ state item hash. hash ≡ (hashing_of E.eq E.hash_input S.BuildHasher
+        S.Hasher.Hasher state).hash_of (E.key_of item) };
+
+    ghost is_position = { λ x state s item position. Unit {0} };
+
+    ghost is_planned = { λ x state s item plan. Unit {0} };
+
+    ghost has_room_for = { λ x plan blocks. 1 ≤ room x.table };
+
+    ghost are_none = { λ blocks. Unit {0} };
+
+    ghost are_enough_after = { λ x blocks. Unit {0} };
+
+    ghost is_move = { λ state s ix item plan. Plans E.key_of (hashing_of E.eq E.hash_input S.BuildHasher
+        S.Hasher.Hasher state) s ix item plan };
+
+    ghost moves = { moves };
+
+    ghost are_enough_for = { λ x plan blocks. Unit {0} };
+}
+
+impl<T, S, E> IndexLaws<T, S> for ByHashOf<E>
+where
+    E: HashKey<T>,
+    S: BuildHasher,
+{
+    ghost use Rattle.std.proofs.Common.{refl};
+    ghost use Rattle.iddqd_hash.proofs.LeastCellsLemmas.{least_cells-grows};
+    ghost use Rattle.iddqd_hash.specs.MapHashTable.{filed};
+    ghost use Rattle.iddqd_map.specs.Map.{shares};
+    ghost use Rattle.iddqd_map.specs.HashLaws.{shares_laws, Indexes-kept, Indexes-key_kept, Indexes-keys_shared};
+    ghost use Rattle.iddqd_map.specs.OneKeyLaws.{reported_one, few_one};
+
+    ghost needed_grows = { λ slots more_slots count more wider up. least_cells-grows count more up };
 
     ghost kept_none = { refl };
 
@@ -141,38 +173,16 @@ where
 
     ghost few_reported = { few_one };
 
-    ghost are_hashes = { λ state item hash. hash ≡ (hashing_of E.eq E.hash_input S.BuildHasher
-        S.Hasher.Hasher state).hash_of (E.key_of item) };
-
-    ghost is_position = { λ x state s item position. Unit {0} };
-
-    ghost is_planned = { λ x state s item plan. Unit {0} };
-
-    ghost has_room_for = { λ x plan blocks. 1 ≤ room x.table };
-
-    ghost are_none = { λ blocks. Unit {0} };
-
-    ghost are_enough_after = { λ x blocks. Unit {0} };
-
     ghost same_plans = { λ x y state s item plan same is. is };
+}
 
-    ghost is_move = { λ state s ix item plan. Plans E.key_of (hashing_of E.eq E.hash_input S.BuildHasher
-        S.Hasher.Hasher state) s ix item plan };
-
-    ghost moves = { moves };
-
-    ghost are_enough_for = { λ x plan blocks. Unit {0} };
-
-    fn no_hashes() -> Option<MapHash> {
-        None
-    }
-
+impl<T, S, E> Removes<T, S> for ByHashOf<E>
+where
+    E: HashKey<T>,
+    S: BuildHasher,
+{
     fn remove(&mut self, items: &ItemSet<T>, state: &S, ix: ItemIndex) {
         hashed_steps::remove_live::<T, E, S>(&mut self.table, items, state, ix);
-    }
-
-    fn is_same(item: &T, other: &T) -> bool {
-        E::is_same(item, other)
     }
 }
 
@@ -207,7 +217,13 @@ where
     fn insert(&mut self, hashes: MapHash, plan: &(), blocks: (), ix: ItemIndex) {
         self.table.insert_prehashed_unchecked(hashes, ix);
     }
+}
 
+impl<T, S, E> Overwrites<T, S> for ByHashOf<E>
+where
+    E: HashKey<T>,
+    S: BuildHasher,
+{
     fn next_reported(conflict: &ItemIndex, before: Option<ItemIndex>) -> Option<ItemIndex> {
         let at = *conflict;
         match before {
@@ -228,6 +244,10 @@ where
     E: HashKey<T>,
     S: BuildHasher,
 {
+    fn no_hashes() -> Option<MapHash> {
+        None
+    }
+
     fn plan_move(
         &self,
         items: &ItemSet<T>,
@@ -317,6 +337,16 @@ where
     }
 }
 
+impl<T, S, E> ComparesKeys<T, S> for ByHashOf<E>
+where
+    E: HashKey<T>,
+    S: BuildHasher,
+{
+    fn is_same(item: &T, other: &T) -> bool {
+        E::is_same(item, other)
+    }
+}
+
 impl<T, S, E> FindsSame<T, S> for ByHashOf<E>
 where
     E: HashKey<T>,
@@ -369,7 +399,14 @@ where
         let found = find_under::<T, E, S, Q>(&self.table, items, state, hash, query);
         (found, Some(hash))
     }
+}
 
+impl<T, S, E, Q> TakesAt<Here, Q, T, S> for ByHashOf<E>
+where
+    E: HashKey<T>,
+    S: BuildHasher,
+    Q: ItemHashQuery<T, E>,
+{
     fn take(&mut self, items: &ItemSet<T>, state: &S, query: Q) -> Option<ItemIndex> {
         take_by::<T, E, S, Q>(&mut self.table, items, state, query)
     }

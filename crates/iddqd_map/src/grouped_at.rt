@@ -8,15 +8,12 @@ ghost use Rattle.iddqd_map.specs.Groups.{AreHits, FindsSome, listed_from};
 ghost use Rattle.iddqd_map.specs.ModifyMany.{MayLeave, ModifiesHits, TakesMut};
 ghost use Rattle.iddqd_map.specs.RangeRetain.{KeepsMisses};
 
-use crate::key_index::{KeyIndex, Left, Right};
+use crate::key_index::{KeyIndex, Left, Removes, Right};
 use crate::pair::Pair;
 use iddqd::item_index::ItemIndex;
 use iddqd::item_set::ItemSet;
 
 /// A key index with a key by its hash at the place `P`, which several items may have, found by queries `Q`.
-///
-/// A call that goes along a group may remove items as it goes. So nothing is borrowed between two steps. Of the three
-/// methods of such a call `find_any` alone looks the key up; the other two go on from an index.
 pub trait GroupedAt<P, Q, T, S>: KeyIndex<T, S> {
     ghost use Rattle.std.specs.Prelude.{ℕ, Bool, List};
     ghost use Rattle.iddqd.specs.Store.{Store};
@@ -34,7 +31,13 @@ pub trait GroupedAt<P, Q, T, S>: KeyIndex<T, S> {
         ensures some { FindsSome items.now.store (stands_for query) result }
         ensures group { AreHits items.now.store (stands_for query)
             (listed_from (behind self.now items.now.store query) result) };
+}
 
+/// A key index that goes along a group by hash at the place `P`, and modifies or removes items as it goes.
+///
+/// A call that goes along a group may remove items. So nothing is borrowed between two steps. Of the three methods of
+/// such a call `find_any` alone looks the key up; `next_in_group` and `take_in_group` go on from an index.
+pub trait StepsInGroup<P, Q, T, S>: GroupedAt<P, Q, T, S> {
     /// The next index of the group behind this one.
     fn next_in_group(
         &self,
@@ -44,9 +47,9 @@ pub trait GroupedAt<P, Q, T, S>: KeyIndex<T, S> {
         ix: ItemIndex,
     ) -> Option<ItemIndex>
         requires indexed { Self.KeyIndex.indexes self.now state.now items.now.store }
-        requires hit { IsHit items.now.store (stands_for query) ix }
-        ensures { behind self.now items.now.store query ix
-            ≡ listed_from (behind self.now items.now.store query) result };
+        requires hit { IsHit items.now.store (Self.GroupedAt.stands_for query) ix }
+        ensures { Self.GroupedAt.behind self.now items.now.store query ix
+            ≡ listed_from (Self.GroupedAt.behind self.now items.now.store query) result };
 
     /// Removes an index of the group, and returns the next one behind it. It takes no memory.
     fn take_in_group(
@@ -57,9 +60,9 @@ pub trait GroupedAt<P, Q, T, S>: KeyIndex<T, S> {
         ix: ItemIndex,
     ) -> Option<ItemIndex>
         requires indexed { Self.KeyIndex.indexes self.old state.now items.now.store }
-        requires hit { IsHit items.now.store (stands_for query) ix }
-        ensures next { behind self.old items.now.store query ix
-            ≡ listed_from (behind self.new (removed items.now.store ix) query) result }
+        requires hit { IsHit items.now.store (Self.GroupedAt.stands_for query) ix }
+        ensures next { Self.GroupedAt.behind self.old items.now.store query ix
+            ≡ listed_from (Self.GroupedAt.behind self.new (removed items.now.store ix) query) result }
         ensures indexed { Self.KeyIndex.indexes self.new state.now (removed items.now.store ix) }
         ensures capacity { Self.KeyIndex.capacity self.new ≡ Self.KeyIndex.capacity self.old }
         ensures cells { Self.KeyIndex.cells self.new ≡ Self.KeyIndex.cells self.old };
@@ -78,10 +81,10 @@ pub trait GroupedAt<P, Q, T, S>: KeyIndex<T, S> {
         requires valid { IsValid items.old.store }
         requires indexed { Self.KeyIndex.indexes self.now state.now items.old.store }
         requires callable { CanAsk (TakesMut F.FnMut) (MayLeave F.FnMut) f.old
-            (filter (stands_for query) (live_items items.old.store)) }
-        ensures modified { ModifiesHits F.FnMut (stands_for query) f.old items.old.store items.new.store f.new
-            result }
-        ensures others { KeepsMisses items.old.store (stands_for query) items.new.store }
+            (filter (Self.GroupedAt.stands_for query) (live_items items.old.store)) }
+        ensures modified { ModifiesHits F.FnMut (Self.GroupedAt.stands_for query) f.old items.old.store
+            items.new.store f.new result }
+        ensures others { KeepsMisses items.old.store (Self.GroupedAt.stands_for query) items.new.store }
         ensures count { live_count items.new.store ≡ live_count items.old.store }
         ensures limit { items.new.store.limit ≡ items.old.store.limit }
         ensures slots { items.new.capacity ≡ items.old.capacity };
@@ -99,7 +102,13 @@ where
     fn find_any(&self, items: &ItemSet<T>, state: &S, query: Q) -> Option<ItemIndex> {
         self.first.find_any(items, state, query)
     }
+}
 
+impl<P, Q, T, S, A, B> StepsInGroup<Left<P>, Q, T, S> for Pair<A, B>
+where
+    A: StepsInGroup<P, Q, T, S>,
+    B: Removes<T, S>,
+{
     fn next_in_group(
         &self,
         items: &ItemSet<T>,
@@ -144,7 +153,13 @@ where
     fn find_any(&self, items: &ItemSet<T>, state: &S, query: Q) -> Option<ItemIndex> {
         self.second.find_any(items, state, query)
     }
+}
 
+impl<P, Q, T, S, A, B> StepsInGroup<Right<P>, Q, T, S> for Pair<A, B>
+where
+    A: Removes<T, S>,
+    B: StepsInGroup<P, Q, T, S>,
+{
     fn next_in_group(
         &self,
         items: &ItemSet<T>,

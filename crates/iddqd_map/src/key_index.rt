@@ -17,10 +17,14 @@
 //! one index beyond its capacity are a value of their own, which the insert or the move consumes. So beyond its
 //! capacity no key index holds memory for a call to come.
 //!
-//! The trait `KeyIndex` has the types, the laws, a removal, and what look-ups need. Three traits above it have the
-//! other calls: `Inserts`, `Moves` and `Upkeep`. A look-up needs none of the three, which keeps callers cheap: the
-//! proof of a caller pays for each method of each trait that its bounds lead to, once for each path to it, and at a
-//! pair for both halves.
+//! The trait `KeyIndex` has types and definitions, and no method; `IndexLaws` above it has the laws. The calls are
+//! traits above these: `Removes`, `Inserts`, `Overwrites`, `Moves`, `Upkeep` and `ComparesKeys`, and for a key at a
+//! place one trait that finds and one that goes on from there and removes. So a look-up needs only the method that it
+//! calls, which keeps callers cheap: the proof of a caller pays for each method of each trait that its bounds lead to,
+//! once for each path to it, and at a pair for both halves.
+//!
+//! The laws stand apart since they are proved by laws of the keys. In a trait without methods only a member that names
+//! something of another trait counts as a law, and may be proved so.
 //!
 //! The traits are one file, since they are read together. More than half of its lines are contracts and laws.
 ghost use Rattle.std.specs.Prelude.{◌≡◌, ◌≢◌, ◌≤◌, ◌+◌, ◌<◌, true, false, min, max, length, IsOk, IfOk, OnOk, OnErr, IfSome};
@@ -48,12 +52,8 @@ use std::ops::Bound;
 /// Below the capacity `make_room` takes no memory. Only `with_capacity`, `reserve`, `shrink_to` and `make_room` change
 /// either number.
 pub trait KeyIndex<T, S>: Sized + Drop {
-    ghost use Rattle.std.specs.Prelude.{ℕ, Bool, List, Some, ◌↔◌};
-    ghost use Rattle.std.specs.List.{Contains};
-    ghost use Rattle.std.specs.Cmp.{IsEquivalence};
-    ghost use Rattle.iddqd.specs.Store.{Store, get};
-    ghost use Rattle.iddqd_keys.specs.Scan.{AreApart, IsHit};
-    ghost use Rattle.iddqd_map.specs.KeyIndex.{HaveSameKeys};
+    ghost use Rattle.std.specs.Prelude.{ℕ, Bool, Some};
+    ghost use Rattle.iddqd.specs.Store.{Store};
 
     /// The items that an item is alike to: at least one.
     type Conflict: Copy;
@@ -141,10 +141,62 @@ pub trait KeyIndex<T, S>: Sized + Drop {
 
     // They are enough for the planned move.
     ghost are_enough_for: { Self → Self.MovePlan → Self.Blocks → Type 0 };
+}
 
-    /// The value for no hash: no look-up computed one.
-    fn no_hashes() -> Self::KnownHashes;
+/// The laws of a key index.
+pub trait IndexLaws<T, S>: KeyIndex<T, S> {
+    ghost use Rattle.std.specs.Prelude.{ℕ, List, Some, ◌↔◌};
+    ghost use Rattle.std.specs.List.{Contains};
+    ghost use Rattle.std.specs.Cmp.{IsEquivalence};
+    ghost use Rattle.iddqd.specs.Store.{Store, get};
+    ghost use Rattle.iddqd_keys.specs.Scan.{AreApart, IsHit};
+    ghost use Rattle.iddqd_map.specs.KeyIndex.{HaveSameKeys};
 
+    // If there are no slots and no indexes, a shrink leaves nothing.
+    ghost kept_none: { Self.kept 0 0 ≡ 0 };
+
+    // More slots and more indexes need no fewer cells.
+    ghost needed_grows: { (slots more_slots count more : ℕ) → slots ≤ more_slots → count ≤ more
+        → Self.needed slots count ≤ Self.needed more_slots more };
+
+    // `same` is reflexive. Of two key indexes that are the same, the second indexes each store that the first does.
+    ghost same_as_itself: { (x : Self) → Self.same x x };
+
+    ghost same_indexes: { (x y : Self) (state : S) (s : Store T) → Self.same x y → Self.indexes x state s
+        → Self.indexes y state s };
+
+    // No two items are alike.
+    ghost apart: { (x : Self) (state : S) (s : Store T) → Self.indexes x state s → AreApart Self.alike s };
+
+    // A key index still indexes its store after an item was modified and kept its keys, and it indexes any store whose
+    // items have the same keys.
+    ghost modified: { (x : Self) (state : S) (s : Store T) (ix : ℕ) (was item : T) → Self.indexes x state s
+        → get s ix ≡ Some was → Self.keys item ≡ Self.keys was → Self.indexes x state (rebound s ix item) };
+
+    ghost same_items: { (x : Self) (state : S) (s t : Store T) → HaveSameKeys Self.same_keys s t
+        → Self.indexes x state s → Self.indexes x state t };
+
+    // To share all keys is an equivalence.
+    ghost equivalence: { IsEquivalence Self.same_keys };
+
+    // A conflict reports the stored items that share a key with the item, and no others.
+    ghost reported: { (s : Store T) (item : T) (at : Self.Conflict) → Self.conflicts s item at → (ix : ℕ)
+        → Self.reports at ix ↔ IsHit s (Self.alike item) ix };
+
+    // At least one is reported, and never more than there are keys.
+    ghost reported_some: { (s : Store T) (item : T) (at : Self.Conflict) → Self.conflicts s item at
+        → (ix : ℕ) × Self.reports at ix };
+
+    ghost few_reported: { (at : Self.Conflict) → (l : List ℕ) × (length l ≤ Self.unique_keys)
+        × ((ix : ℕ) → Self.reports at ix → Contains l ix) };
+
+    // What was planned by a key index is planned by one that is the same.
+    ghost same_plans: { (x y : Self) (state : S) (s : Store T) (item : T) (plan : Self.InsertPlan) → Self.same x y
+        → Self.is_planned x state s item plan → Self.is_planned y state s item plan };
+}
+
+/// What a removal asks of a key index.
+pub trait Removes<T, S>: KeyIndex<T, S> {
     /// Removes a live index. It takes no memory. What was taken for an insert after a removal is still enough for it.
     fn remove(&mut self, items: &ItemSet<T>, state: &S, ix: ItemIndex)
         requires live { IsLive items.now.store ix }
@@ -152,58 +204,14 @@ pub trait KeyIndex<T, S>: Sized + Drop {
         ensures indexed { Self.indexes self.new state.now (removed items.now.store ix) }
         ensures capacity { Self.capacity self.new ≡ Self.capacity self.old }
         ensures cells { Self.cells self.new ≡ Self.cells self.old }
-        ensures enough { (blocks : Self.Blocks) → are_enough_after self.old blocks → are_enough_after self.new blocks }
-        ensures roomy { (plan : Self.InsertPlan) (blocks : Self.Blocks) → are_enough_after self.old blocks
-            → has_room_for self.new plan blocks };
-
-    /// Whether the items share all keys.
-    fn is_same(item: &T, other: &T) -> bool
-        ensures { result ≡ Self.same_keys item.now other.now };
-
-    // If there are no slots and no indexes, a shrink leaves nothing.
-    ghost kept_none: { kept 0 0 ≡ 0 };
-
-    // More slots and more indexes need no fewer cells.
-    ghost needed_grows: { (slots more_slots count more : ℕ) → slots ≤ more_slots → count ≤ more
-        → needed slots count ≤ needed more_slots more };
-
-    // `same` is reflexive. Of two key indexes that are the same, the second indexes each store that the first does.
-    ghost same_as_itself: { (x : Self) → same x x };
-
-    ghost same_indexes: { (x y : Self) (state : S) (s : Store T) → same x y → indexes x state s → indexes y state s };
-
-    // No two items are alike.
-    ghost apart: { (x : Self) (state : S) (s : Store T) → indexes x state s → AreApart alike s };
-
-    // A key index still indexes its store after an item was modified and kept its keys, and it indexes any store whose
-    // items have the same keys.
-    ghost modified: { (x : Self) (state : S) (s : Store T) (ix : ℕ) (was item : T) → indexes x state s
-        → get s ix ≡ Some was → keys item ≡ keys was → indexes x state (rebound s ix item) };
-
-    ghost same_items: { (x : Self) (state : S) (s t : Store T) → HaveSameKeys same_keys s t → indexes x state s
-        → indexes x state t };
-
-    // To share all keys is an equivalence.
-    ghost equivalence: { IsEquivalence same_keys };
-
-    // A conflict reports the stored items that share a key with the item, and no others.
-    ghost reported: { (s : Store T) (item : T) (at : Self.Conflict) → conflicts s item at → (ix : ℕ)
-        → reports at ix ↔ IsHit s (alike item) ix };
-
-    // At least one is reported, and never more than there are keys.
-    ghost reported_some: { (s : Store T) (item : T) (at : Self.Conflict) → conflicts s item at
-        → (ix : ℕ) × reports at ix };
-
-    ghost few_reported: { (at : Self.Conflict) → (l : List ℕ) × (length l ≤ unique_keys)
-        × ((ix : ℕ) → reports at ix → Contains l ix) };
-
-    // What was planned by a key index is planned by one that is the same.
-    ghost same_plans: { (x y : Self) (state : S) (s : Store T) (item : T) (plan : Self.InsertPlan) → Self.same x y
-        → is_planned x state s item plan → is_planned y state s item plan };
+        ensures enough { (blocks : Self.Blocks) → Self.are_enough_after self.old blocks
+            → Self.are_enough_after self.new blocks }
+        ensures roomy { (plan : Self.InsertPlan) (blocks : Self.Blocks) → Self.are_enough_after self.old blocks
+            → Self.has_room_for self.new plan blocks };
 }
 
 /// What an insert asks of a key index: a position for the item, its memory, and then the index.
-pub trait Inserts<T, S>: KeyIndex<T, S> {
+pub trait Inserts<T, S>: IndexLaws<T, S> {
     /// Hashes the keys of an item, each once.
     fn hashes(state: &S, item: &T) -> Self::Hashes
         ensures { Self.are_hashes state.now item.now result };
@@ -268,7 +276,10 @@ pub trait Inserts<T, S>: KeyIndex<T, S> {
             (Self.indexes self.old) ix (Self.indexes self.new) }
         ensures capacity { Self.capacity self.new ≡ Self.capacity self.old }
         ensures cells { Self.cells self.new ≡ Self.cells self.old };
+}
 
+/// What a call that overwrites or remakes an item asks of a key index, besides an insert and a removal.
+pub trait Overwrites<T, S>: IndexLaws<T, S> {
     /// The least reported index that is greater than `before`; the least of all if `before` is `None`.
     fn next_reported(conflict: &Self::Conflict, before: Option<ItemIndex>) -> Option<ItemIndex>
         ensures { IsNextReported (Self.reports conflict.now) before result };
@@ -297,6 +308,9 @@ pub trait Inserts<T, S>: KeyIndex<T, S> {
 
 /// What a replacement of an item asks of a key index: how its index moves, the memory for that, and the move.
 pub trait Moves<T, S>: KeyIndex<T, S> {
+    /// The value for no hash: no look-up computed one.
+    fn no_hashes() -> Self::KnownHashes;
+
     /// How a live index must move if its item is replaced by this one; or the other items that share a key with it.
     fn plan_move(
         &self,
@@ -349,7 +363,7 @@ pub trait Moves<T, S>: KeyIndex<T, S> {
 }
 
 /// What concerns a key index as a whole: it is made, resized, cleared, renamed, copied and checked.
-pub trait Upkeep<T, S>: KeyIndex<T, S> {
+pub trait Upkeep<T, S>: IndexLaws<T, S> {
     /// How many indexes it can hold without more memory.
     fn capacity(&self) -> usize
         ensures { result ≡ Self.capacity self.now };
@@ -434,8 +448,15 @@ pub trait Upkeep<T, S>: KeyIndex<T, S> {
         ensures { Validates (Allows compactness (length items.now.store.free)) result };
 }
 
+/// A key index that compares all keys of two items.
+pub trait ComparesKeys<T, S>: KeyIndex<T, S> {
+    /// Whether the items share all keys.
+    fn is_same(item: &T, other: &T) -> bool
+        ensures { result ≡ Self.same_keys item.now other.now };
+}
+
 /// A key index that finds the one item that shares all keys with another: its first key is unique.
-pub trait FindsSame<T, S>: KeyIndex<T, S> {
+pub trait FindsSame<T, S>: IndexLaws<T, S> {
     ghost use Rattle.std.specs.Prelude.{true};
 
     /// The index of the item that shares all keys with this one.
@@ -487,11 +508,14 @@ pub trait UniqueAt<P, Q, T, S>: KeyIndex<T, S> {
     ) -> (Option<ItemIndex>, Self::KnownHashes)
         requires indexed { Self.KeyIndex.indexes self.now state.now items.now.store }
         ensures { AnswersScan items.now.store (stands_for query) result.0 };
+}
 
+/// A key index that removes an index by a unique key at the place `P`.
+pub trait TakesAt<P, Q, T, S>: UniqueAt<P, Q, T, S> {
     /// Finds as `find` does, and removes the index, by one search by that key. It takes no memory.
     fn take(&mut self, items: &ItemSet<T>, state: &S, query: Q) -> Option<ItemIndex>
         requires indexed { Self.KeyIndex.indexes self.old state.now items.now.store }
-        ensures found { AnswersScan items.now.store (stands_for query) result }
+        ensures found { AnswersScan items.now.store (Self.UniqueAt.stands_for query) result }
         ensures taken { TakesFound (Self.KeyIndex.indexes self.new) state.now items.now.store result }
         ensures capacity { Self.KeyIndex.capacity self.new ≡ Self.KeyIndex.capacity self.old }
         ensures cells { Self.KeyIndex.cells self.new ≡ Self.KeyIndex.cells self.old };
@@ -515,24 +539,28 @@ pub trait ReportsAt<P, T, S>: KeyIndex<T, S> {
 }
 
 /// A key index with a key by its order at the place `P`, unique or not, and queries `Q` that fit that order.
-///
-/// A call that goes along the order may remove items as it goes. So nothing is borrowed between two steps: a spot says
-/// where an index stands, and only `first_between` searches.
 pub trait OrderedAt<P, Q, T, S>: KeyIndex<T, S> {
-    ghost use Rattle.std.specs.Prelude.{ℕ};
-    ghost use Rattle.std.specs.Cmp.{IsTotalOrder};
     ghost use Rattle.std.specs.declared.cmp.Ordering.{Ordering};
-    ghost use Rattle.std.specs.declared.cmp.Ordering.TheVariants.{Equal};
-    ghost use Rattle.iddqd_keys.specs.OrderedQuery.{FitsOrder};
-
-    /// Where an index stands in the order.
-    type Spot: Drop;
 
     // How two items compare by that key.
     ghost order: { T → T → Ordering };
 
     // How the query compares with an item's key.
     ghost compare: { Q → T → Ordering };
+}
+
+/// A key index that goes along the order of the key at the place `P`, and removes indexes as it goes.
+///
+/// A call that goes along the order may remove items. So nothing is borrowed between two steps: a spot says where an
+/// index stands, and only `first_between` searches.
+pub trait StepsAt<P, Q, T, S>: OrderedAt<P, Q, T, S> {
+    ghost use Rattle.std.specs.Prelude.{ℕ};
+    ghost use Rattle.std.specs.Cmp.{IsTotalOrder};
+    ghost use Rattle.std.specs.declared.cmp.Ordering.TheVariants.{Equal};
+    ghost use Rattle.iddqd_keys.specs.OrderedQuery.{FitsOrder};
+
+    /// Where an index stands in the order.
+    type Spot: Drop;
 
     // The index stands at the spot.
     ghost stands: { Self → Self.Spot → ℕ → Type 0 };
@@ -546,8 +574,8 @@ pub trait OrderedAt<P, Q, T, S>: KeyIndex<T, S> {
         upper: Bound<Q>,
     ) -> Option<(ItemIndex, Self::Spot)>
         requires indexed { Self.KeyIndex.indexes self.now state.now items.now.store }
-        ensures first { IsFirstHit itself order items.now.store (is_within compare lower upper)
-            (option_map (λ (r : ℕ × Self.Spot). r.0) result) }
+        ensures first { IsFirstHit itself Self.OrderedAt.order items.now.store
+            (is_within Self.OrderedAt.compare lower upper) (option_map (λ (r : ℕ × Self.Spot). r.0) result) }
         ensures stands { IfSome result (λ r. stands self.now r.1 r.0) };
 
     /// Moves the spot of a live index to the next one behind it, by key and then by index, and returns that index, if
@@ -563,7 +591,8 @@ pub trait OrderedAt<P, Q, T, S>: KeyIndex<T, S> {
         requires live { IsLive items.now.store ix }
         requires indexed { Self.KeyIndex.indexes self.now state.now items.now.store }
         requires stands { stands self.now spot.old ix }
-        ensures next { IsNextHit itself order items.now.store (is_up_to (bound_map compare upper)) ix result }
+        ensures next { IsNextHit itself Self.OrderedAt.order items.now.store
+            (is_up_to (bound_map Self.OrderedAt.compare upper)) ix result }
         ensures stands { IfSome result (stands self.now spot.new) };
 
     /// Removes a live index, and moves its spot as `next_between` does. It takes no memory.
@@ -578,17 +607,18 @@ pub trait OrderedAt<P, Q, T, S>: KeyIndex<T, S> {
         requires live { IsLive items.now.store ix }
         requires indexed { Self.KeyIndex.indexes self.old state.now items.now.store }
         requires stands { stands self.old spot.old ix }
-        ensures next { IsNextHit itself order items.now.store (is_up_to (bound_map compare upper)) ix result }
+        ensures next { IsNextHit itself Self.OrderedAt.order items.now.store
+            (is_up_to (bound_map Self.OrderedAt.compare upper)) ix result }
         ensures stands { IfSome result (stands self.new spot.new) }
         ensures indexed { Self.KeyIndex.indexes self.new state.now (removed items.now.store ix) }
         ensures capacity { Self.KeyIndex.capacity self.new ≡ Self.KeyIndex.capacity self.old }
         ensures cells { Self.KeyIndex.cells self.new ≡ Self.KeyIndex.cells self.old };
 
     // The order is total, and each query fits it. A query may be Equal at keys that differ.
-    ghost total: { IsTotalOrder order };
+    ghost total: { IsTotalOrder Self.OrderedAt.order };
 
-    ghost fits: { (query : Q) → FitsOrder order (compare query) };
+    ghost fits: { (query : Q) → FitsOrder Self.OrderedAt.order (Self.OrderedAt.compare query) };
 
     // Items with the same keys compare Equal.
-    ghost keys_tie: { (x y : T) → Self.KeyIndex.keys x ≡ Self.KeyIndex.keys y → order x y ≡ Equal };
+    ghost keys_tie: { (x y : T) → Self.KeyIndex.keys x ≡ Self.KeyIndex.keys y → Self.OrderedAt.order x y ≡ Equal };
 }

@@ -20,6 +20,7 @@ pub mod mix;
 pub mod no_conflict;
 pub mod pair;
 pub mod pair_conflict;
+pub mod pair_hashes;
 pub mod refusal;
 mod reported;
 pub mod tri_hash_map;

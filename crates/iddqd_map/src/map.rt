@@ -46,7 +46,7 @@ mod upserts;
 mod walks;
 mod whole;
 
-use crate::key_index::{KeyIndex, Upkeep};
+use crate::key_index::{IndexLaws, KeyIndex, Upkeep};
 use iddqd::hash_builder::DefaultHashBuilder;
 use iddqd::item_index::ItemIndex;
 use iddqd::item_set::ItemSet;
@@ -118,7 +118,7 @@ impl<T, X: Upkeep<T, S>, S> Map<T, X, S> {
     }
 }
 
-impl<T, X: KeyIndex<T, S>, S> Map<T, X, S> {
+impl<T, X: IndexLaws<T, S>, S> Map<T, X, S> {
     /// The number of items.
     pub fn len(&self) -> usize
         ensures value { result ≡ live_count self.now.store }
@@ -128,7 +128,9 @@ impl<T, X: KeyIndex<T, S>, S> Map<T, X, S> {
     {
         self.items.len()
     }
+}
 
+impl<T, X: KeyIndex<T, S>, S> Map<T, X, S> {
     /// Whether there is no item.
     pub fn is_empty(&self) -> bool
         ensures { IsTrue result ↔ (live_count self.now.store ≡ 0) }

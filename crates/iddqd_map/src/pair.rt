@@ -19,9 +19,11 @@ ghost use Rattle.iddqd_map.specs.PairConflict.{IsReportedBy, first_of, second_of
 ghost use Rattle.iddqd_map.specs.Ranges.{itself};
 
 use crate::key_index::{
-    FindsSame, Inserts, KeyIndex, Left, Moves, OrderedAt, ReportsAt, Right, UniqueAt, Upkeep,
+    ComparesKeys, FindsSame, IndexLaws, Inserts, KeyIndex, Left, Moves, OrderedAt, Overwrites,
+    Removes, ReportsAt, Right, StepsAt, TakesAt, UniqueAt, Upkeep,
 };
 use crate::pair_conflict::PairConflict;
+use crate::pair_hashes::{PairHashes, first_known, second_known};
 use crate::reported::lesser;
 use iddqd::index_remap::IndexRemap;
 use iddqd::internal::{ValidateCompact, ValidateRefusal, ValidationError};
@@ -44,16 +46,13 @@ where
     A: KeyIndex<T, S>,
     B: KeyIndex<T, S>,
 {
-    ghost use Rattle.std.specs.Prelude.{◌||◌, ◌+◌, ◌⊎◌, min};
+    ghost use Rattle.std.specs.Prelude.{◌||◌, ◌+◌, min};
     ghost use Rattle.iddqd_map.specs.Several.{either_key, both_keys};
     ghost use Rattle.iddqd_map.specs.PairConflict.{ReportBoth, ReportBothOther, IsEither, IsReportedBy, first_of, second_of};
-    ghost use Rattle.std.proofs.Common.{ap};
-    ghost use Rattle.std.proofs.lemmas.Cmp.{and_equiv};
-    ghost use Rattle.iddqd_map.specs.PairLaws.{AreApart-either, HaveSameKeys-first, HaveSameKeys-second, alike_both, reported_by_one, reported_both, reported_some, few_by_one, few_both, sum_none, sum_grows};
 
     type Conflict = PairConflict<A::Conflict, B::Conflict>;
 
-    type KnownHashes = (A::KnownHashes, B::KnownHashes);
+    type KnownHashes = PairHashes<A::KnownHashes, B::KnownHashes>;
 
     type Hashes = (A::Hashes, B::Hashes);
 
@@ -87,10 +86,6 @@ where
 
     ghost needed = { λ slots count. A.needed slots count + B.needed slots count };
 
-    ghost needed_grows = { λ slots more_slots count more wider up.
-        sum_grows (A.needed_grows slots more_slots count more wider up)
-        (B.needed_grows slots more_slots count more wider up) };
-
     ghost may_need_memory = { A.may_need_memory || B.may_need_memory };
 
     ghost same = { λ x y. A.same x.first y.first × B.same x.second y.second };
@@ -104,6 +99,43 @@ where
         (second_of at) };
 
     ghost reports = { λ at. IsEither (IsReportedBy A.reports (first_of at)) (IsReportedBy B.reports (second_of at)) };
+
+    ghost are_hashes = { λ state item hashes. A.are_hashes state item hashes.0 × B.are_hashes state item hashes.1 };
+
+    ghost is_position = { λ x state s item position. A.is_position x.first state s item position.0
+        × B.is_position x.second state s item position.1 };
+
+    ghost is_planned = { λ x state s item plan. A.is_planned x.first state s item plan.0
+        × B.is_planned x.second state s item plan.1 };
+
+    ghost are_none = { λ blocks. A.are_none blocks.0 × B.are_none blocks.1 };
+
+    ghost has_room_for = { λ x plan blocks. A.has_room_for x.first plan.0 blocks.0
+        × B.has_room_for x.second plan.1 blocks.1 };
+
+    ghost are_enough_after = { λ x blocks. A.are_enough_after x.first blocks.0 × B.are_enough_after x.second blocks.1 };
+
+    ghost is_move = { λ state s ix item plan. A.is_move state s ix item plan.0 × B.is_move state s ix item plan.1 };
+
+    ghost moves = { λ plan. A.moves plan.0 || B.moves plan.1 };
+
+    ghost are_enough_for = { λ x plan blocks. A.are_enough_for x.first plan.0 blocks.0
+        × B.are_enough_for x.second plan.1 blocks.1 };
+}
+
+impl<T, S, A, B> IndexLaws<T, S> for Pair<A, B>
+where
+    A: IndexLaws<T, S>,
+    B: IndexLaws<T, S>,
+{
+    ghost use Rattle.iddqd_map.specs.PairConflict.{IsReportedBy, first_of, second_of};
+    ghost use Rattle.std.proofs.Common.{ap};
+    ghost use Rattle.std.proofs.lemmas.Cmp.{and_equiv};
+    ghost use Rattle.iddqd_map.specs.PairLaws.{AreApart-either, HaveSameKeys-first, HaveSameKeys-second, reported_by_one, reported_both, reported_some, few_by_one, few_both, sum_none, sum_grows};
+
+    ghost needed_grows = { λ slots more_slots count more wider up.
+        sum_grows (A.needed_grows slots more_slots count more wider up)
+        (B.needed_grows slots more_slots count more wider up) };
 
     ghost kept_none = { sum_none A.kept_none B.kept_none };
 
@@ -144,44 +176,20 @@ where
         B.unique_keys (few_by_one A.reports A.unique_keys A.few_reported (first_of at))
         (few_by_one B.reports B.unique_keys B.few_reported (second_of at)) };
 
-    ghost are_hashes = { λ state item hashes. A.are_hashes state item hashes.0 × B.are_hashes state item hashes.1 };
-
-    ghost is_position = { λ x state s item position. A.is_position x.first state s item position.0
-        × B.is_position x.second state s item position.1 };
-
-    ghost is_planned = { λ x state s item plan. A.is_planned x.first state s item plan.0
-        × B.is_planned x.second state s item plan.1 };
-
-    ghost are_none = { λ blocks. A.are_none blocks.0 × B.are_none blocks.1 };
-
-    ghost has_room_for = { λ x plan blocks. A.has_room_for x.first plan.0 blocks.0
-        × B.has_room_for x.second plan.1 blocks.1 };
-
-    ghost are_enough_after = { λ x blocks. A.are_enough_after x.first blocks.0 × B.are_enough_after x.second blocks.1 };
-
     ghost same_plans = { λ x y state s item plan same is. (
       A.same_plans x.first y.first state s item plan.0 same.0 is.0,
       B.same_plans x.second y.second state s item plan.1 same.1 is.1,
     ) };
+}
 
-    ghost is_move = { λ state s ix item plan. A.is_move state s ix item plan.0 × B.is_move state s ix item plan.1 };
-
-    ghost moves = { λ plan. A.moves plan.0 || B.moves plan.1 };
-
-    ghost are_enough_for = { λ x plan blocks. A.are_enough_for x.first plan.0 blocks.0
-        × B.are_enough_for x.second plan.1 blocks.1 };
-
-    fn no_hashes() -> (A::KnownHashes, B::KnownHashes) {
-        (A::no_hashes(), B::no_hashes())
-    }
-
+impl<T, S, A, B> Removes<T, S> for Pair<A, B>
+where
+    A: Removes<T, S>,
+    B: Removes<T, S>,
+{
     fn remove(&mut self, items: &ItemSet<T>, state: &S, ix: ItemIndex) {
         self.first.remove(items, state, ix);
         self.second.remove(items, state, ix);
-    }
-
-    fn is_same(item: &T, other: &T) -> bool {
-        A::is_same(item, other) && B::is_same(item, other)
     }
 }
 
@@ -249,7 +257,13 @@ where
         self.first.insert(hashes.0, &plan.0, first, ix);
         self.second.insert(hashes.1, &plan.1, second, ix);
     }
+}
 
+impl<T, S, A, B> Overwrites<T, S> for Pair<A, B>
+where
+    A: Overwrites<T, S>,
+    B: Overwrites<T, S>,
+{
     fn next_reported(
         conflict: &PairConflict<A::Conflict, B::Conflict>,
         before: Option<ItemIndex>,
@@ -288,6 +302,10 @@ where
     A: Moves<T, S>,
     B: Moves<T, S>,
 {
+    fn no_hashes() -> PairHashes<A::KnownHashes, B::KnownHashes> {
+        PairHashes::Neither
+    }
+
     fn plan_move(
         &self,
         items: &ItemSet<T>,
@@ -321,17 +339,19 @@ where
         &mut self,
         items: &ItemSet<T>,
         state: &S,
-        known: (A::KnownHashes, B::KnownHashes),
+        known: PairHashes<A::KnownHashes, B::KnownHashes>,
         plan: &(A::MovePlan, B::MovePlan),
         blocks: (A::Blocks, B::Blocks),
         ix: ItemIndex,
         item: &T,
     ) {
         let (first, second) = blocks;
+        let first_hashes = first_known::<T, S, A, B>(known);
+        let second_hashes = second_known::<T, S, A, B>(known);
         self.first
-            .commit_move(items, state, known.0, &plan.0, first, ix, item);
+            .commit_move(items, state, first_hashes, &plan.0, first, ix, item);
         self.second
-            .commit_move(items, state, known.1, &plan.1, second, ix, item);
+            .commit_move(items, state, second_hashes, &plan.1, second, ix, item);
     }
 }
 
@@ -402,11 +422,21 @@ where
     }
 }
 
+impl<T, S, A, B> ComparesKeys<T, S> for Pair<A, B>
+where
+    A: ComparesKeys<T, S>,
+    B: ComparesKeys<T, S>,
+{
+    fn is_same(item: &T, other: &T) -> bool {
+        A::is_same(item, other) && B::is_same(item, other)
+    }
+}
+
 // The first key index finds the only item that can share all keys.
 impl<T, S, A, B> FindsSame<T, S> for Pair<A, B>
 where
     A: FindsSame<T, S>,
-    B: KeyIndex<T, S>,
+    B: ComparesKeys<T, S> + IndexLaws<T, S>,
 {
     ghost use Rattle.iddqd_map.specs.PairLaws.{alike_both};
 
@@ -434,7 +464,7 @@ fn first_with<A, B>(one: A, other: Option<B>) -> PairConflict<A, B>
 }
 
 // The next reported index past `before`; `None` if this key index reported nothing.
-fn next_of<T, S, X: Inserts<T, S>>(
+fn next_of<T, S, X: Overwrites<T, S>>(
     conflict: Option<X::Conflict>,
     before: &Option<ItemIndex>,
 ) -> Option<ItemIndex>
@@ -456,11 +486,20 @@ where
         items: &ItemSet<T>,
         state: &S,
         query: Q,
-    ) -> (Option<ItemIndex>, (A::KnownHashes, B::KnownHashes)) {
+    ) -> (
+        Option<ItemIndex>,
+        PairHashes<A::KnownHashes, B::KnownHashes>,
+    ) {
         let (found, known) = self.first.find(items, state, query);
-        (found, (known, B::no_hashes()))
+        (found, PairHashes::First(known))
     }
+}
 
+impl<P, Q, T, S, A, B> TakesAt<Left<P>, Q, T, S> for Pair<A, B>
+where
+    A: TakesAt<P, Q, T, S>,
+    B: Removes<T, S>,
+{
     fn take(&mut self, items: &ItemSet<T>, state: &S, query: Q) -> Option<ItemIndex> {
         let ix = self.first.take(items, state, query)?;
         self.second.remove(items, state, ix);
@@ -480,11 +519,20 @@ where
         items: &ItemSet<T>,
         state: &S,
         query: Q,
-    ) -> (Option<ItemIndex>, (A::KnownHashes, B::KnownHashes)) {
+    ) -> (
+        Option<ItemIndex>,
+        PairHashes<A::KnownHashes, B::KnownHashes>,
+    ) {
         let (found, known) = self.second.find(items, state, query);
-        (found, (A::no_hashes(), known))
+        (found, PairHashes::Second(known))
     }
+}
 
+impl<P, Q, T, S, A, B> TakesAt<Right<P>, Q, T, S> for Pair<A, B>
+where
+    A: Removes<T, S>,
+    B: TakesAt<P, Q, T, S>,
+{
     fn take(&mut self, items: &ItemSet<T>, state: &S, query: Q) -> Option<ItemIndex> {
         let ix = self.second.take(items, state, query)?;
         self.first.remove(items, state, ix);
@@ -514,21 +562,21 @@ where
     A: OrderedAt<P, Q, T, S>,
     B: KeyIndex<T, S>,
 {
+    ghost order = { A.OrderedAt.order };
+
+    ghost compare = { A.OrderedAt.compare };
+}
+
+impl<P, Q, T, S, A, B> StepsAt<Left<P>, Q, T, S> for Pair<A, B>
+where
+    A: StepsAt<P, Q, T, S>,
+    B: Removes<T, S>,
+{
     ghost use Rattle.std.proofs.Common.{ap};
 
     type Spot = A::Spot;
 
-    ghost order = { A.OrderedAt.order };
-
-    ghost compare = { A.OrderedAt.compare };
-
-    ghost stands = { λ x spot ix. A.OrderedAt.stands x.first spot ix };
-
-    ghost total = { A.OrderedAt.total };
-
-    ghost fits = { A.OrderedAt.fits };
-
-    ghost keys_tie = { λ x y same. A.OrderedAt.keys_tie x y (ap (λ both. both.0) same) };
+    ghost stands = { λ x spot ix. A.StepsAt.stands x.first spot ix };
 
     fn first_between(
         &self,
@@ -541,7 +589,7 @@ where
             × B.KeyIndex.indexes self.now.second state.now items.now.store }
         ensures first { IsFirstHit itself A.OrderedAt.order items.now.store (is_within A.OrderedAt.compare lower upper)
             (option_map (λ (r : ℕ × A.Spot). r.0) result) }
-        ensures stands { IfSome result (λ r. A.OrderedAt.stands self.now.first r.1 r.0) }
+        ensures stands { IfSome result (λ r. A.StepsAt.stands self.now.first r.1 r.0) }
     {
         self.first.first_between(items, state, lower, upper)
     }
@@ -557,10 +605,10 @@ where
         requires live { IsLive items.now.store ix }
         requires indexed { A.KeyIndex.indexes self.now.first state.now items.now.store
             × B.KeyIndex.indexes self.now.second state.now items.now.store }
-        requires stands { A.OrderedAt.stands self.now.first spot.old ix }
+        requires stands { A.StepsAt.stands self.now.first spot.old ix }
         ensures next { let within = is_up_to (bound_map A.OrderedAt.compare upper) in
             IsNextHit itself A.OrderedAt.order items.now.store within ix result }
-        ensures stands { IfSome result (A.OrderedAt.stands self.now.first spot.new) }
+        ensures stands { IfSome result (A.StepsAt.stands self.now.first spot.new) }
     {
         self.first.next_between(items, state, spot, ix, upper)
     }
@@ -576,10 +624,10 @@ where
         requires live { IsLive items.now.store ix }
         requires indexed { A.KeyIndex.indexes self.old.first state.now items.now.store
             × B.KeyIndex.indexes self.old.second state.now items.now.store }
-        requires stands { A.OrderedAt.stands self.old.first spot.old ix }
+        requires stands { A.StepsAt.stands self.old.first spot.old ix }
         ensures next { let within = is_up_to (bound_map A.OrderedAt.compare upper) in
             IsNextHit itself A.OrderedAt.order items.now.store within ix result }
-        ensures stands { IfSome result (A.OrderedAt.stands self.new.first spot.new) }
+        ensures stands { IfSome result (A.StepsAt.stands self.new.first spot.new) }
         ensures indexed { A.KeyIndex.indexes self.new.first state.now (removed items.now.store ix)
             × B.KeyIndex.indexes self.new.second state.now (removed items.now.store ix) }
         ensures capacity { min (A.KeyIndex.capacity self.new.first) (B.KeyIndex.capacity self.new.second)
@@ -590,6 +638,12 @@ where
         self.second.remove(items, state, ix);
         self.first.take_between(items, state, spot, ix, upper)
     }
+
+    ghost total = { A.StepsAt.total };
+
+    ghost fits = { A.StepsAt.fits };
+
+    ghost keys_tie = { λ x y same. A.StepsAt.keys_tie x y (ap (λ both. both.0) same) };
 }
 
 impl<P, T, S, A, B> ReportsAt<Right<P>, T, S> for Pair<A, B>
@@ -614,21 +668,21 @@ where
     A: KeyIndex<T, S>,
     B: OrderedAt<P, Q, T, S>,
 {
+    ghost order = { B.OrderedAt.order };
+
+    ghost compare = { B.OrderedAt.compare };
+}
+
+impl<P, Q, T, S, A, B> StepsAt<Right<P>, Q, T, S> for Pair<A, B>
+where
+    A: Removes<T, S>,
+    B: StepsAt<P, Q, T, S>,
+{
     ghost use Rattle.std.proofs.Common.{ap};
 
     type Spot = B::Spot;
 
-    ghost order = { B.OrderedAt.order };
-
-    ghost compare = { B.OrderedAt.compare };
-
-    ghost stands = { λ x spot ix. B.OrderedAt.stands x.second spot ix };
-
-    ghost total = { B.OrderedAt.total };
-
-    ghost fits = { B.OrderedAt.fits };
-
-    ghost keys_tie = { λ x y same. B.OrderedAt.keys_tie x y (ap (λ both. both.1) same) };
+    ghost stands = { λ x spot ix. B.StepsAt.stands x.second spot ix };
 
     fn first_between(
         &self,
@@ -641,7 +695,7 @@ where
             × B.KeyIndex.indexes self.now.second state.now items.now.store }
         ensures first { IsFirstHit itself B.OrderedAt.order items.now.store (is_within B.OrderedAt.compare lower upper)
             (option_map (λ (r : ℕ × B.Spot). r.0) result) }
-        ensures stands { IfSome result (λ r. B.OrderedAt.stands self.now.second r.1 r.0) }
+        ensures stands { IfSome result (λ r. B.StepsAt.stands self.now.second r.1 r.0) }
     {
         self.second.first_between(items, state, lower, upper)
     }
@@ -657,10 +711,10 @@ where
         requires live { IsLive items.now.store ix }
         requires indexed { A.KeyIndex.indexes self.now.first state.now items.now.store
             × B.KeyIndex.indexes self.now.second state.now items.now.store }
-        requires stands { B.OrderedAt.stands self.now.second spot.old ix }
+        requires stands { B.StepsAt.stands self.now.second spot.old ix }
         ensures next { let within = is_up_to (bound_map B.OrderedAt.compare upper) in
             IsNextHit itself B.OrderedAt.order items.now.store within ix result }
-        ensures stands { IfSome result (B.OrderedAt.stands self.now.second spot.new) }
+        ensures stands { IfSome result (B.StepsAt.stands self.now.second spot.new) }
     {
         self.second.next_between(items, state, spot, ix, upper)
     }
@@ -676,10 +730,10 @@ where
         requires live { IsLive items.now.store ix }
         requires indexed { A.KeyIndex.indexes self.old.first state.now items.now.store
             × B.KeyIndex.indexes self.old.second state.now items.now.store }
-        requires stands { B.OrderedAt.stands self.old.second spot.old ix }
+        requires stands { B.StepsAt.stands self.old.second spot.old ix }
         ensures next { let within = is_up_to (bound_map B.OrderedAt.compare upper) in
             IsNextHit itself B.OrderedAt.order items.now.store within ix result }
-        ensures stands { IfSome result (B.OrderedAt.stands self.new.second spot.new) }
+        ensures stands { IfSome result (B.StepsAt.stands self.new.second spot.new) }
         ensures indexed { A.KeyIndex.indexes self.new.first state.now (removed items.now.store ix)
             × B.KeyIndex.indexes self.new.second state.now (removed items.now.store ix) }
         ensures capacity { min (A.KeyIndex.capacity self.new.first) (B.KeyIndex.capacity self.new.second)
@@ -690,4 +744,10 @@ where
         self.first.remove(items, state, ix);
         self.second.take_between(items, state, spot, ix, upper)
     }
+
+    ghost total = { B.StepsAt.total };
+
+    ghost fits = { B.StepsAt.fits };
+
+    ghost keys_tie = { λ x y same. B.StepsAt.keys_tie x y (ap (λ both. both.1) same) };
 }

@@ -39,7 +39,8 @@ use iddqd_keys::key_kinds::Field;
 use iddqd_keys::key_of::{Itself, key_at};
 use iddqd_keys::order_key::OrdKey;
 use iddqd_map::key_index::{
-    FindsSame, Here, Inserts, KeyIndex, Moves, OrderedAt, ReportsAt, UniqueAt, Upkeep,
+    ComparesKeys, FindsSame, Here, IndexLaws, Inserts, KeyIndex, Moves, OrderedAt, Overwrites,
+    Removes, ReportsAt, StepsAt, TakesAt, UniqueAt, Upkeep,
 };
 use iddqd_order::btree_table::{Asking, Blocks, Gap, MapBTreeTable, Spot};
 use std::alloc::{AllocError, Global};
@@ -78,15 +79,11 @@ impl<T, S, E> KeyIndex<T, S> for ByOrderOf<E>
 where
     E: OrdKey<T>,
 {
-    ghost use Rattle.std.proofs.Common.{refl};
     ghost use Rattle.std.specs.Prelude.{◌≢◌, Some, true, Ok};
     ghost use Rattle.std.specs.Ordering.{eq_by_cmp};
     ghost use Rattle.iddqd_order.specs.MapBTreeTable.{HasSameTree};
     ghost use Rattle.iddqd_map.specs.Map.{shares};
     ghost use Rattle.iddqd_ord_map.specs.OrderedSteps.{reserved_for, most_cells, HasBlocksAt, HasBlocksAnywhere, HasBlocksFor, moves};
-    ghost use Rattle.iddqd_map.specs.OneKeyLaws.{reported_one, few_one};
-    ghost use Rattle.iddqd_ord_map.specs.ByOrderLaws.{Sorts-same_tree, Sorts-modified, Sorts-alike, IsGapFor-same_tree};
-    ghost use Rattle.iddqd_ord_map.specs.SortedScanLaws.{shares_equivalence};
     ghost use Rattle.iddqd_ord_map.specs.ByOrder.{IsGapFor};
     ghost use Rattle.iddqd_ord_map.specs.OrderedIndexing.{PlansOrConflicts};
 
@@ -126,8 +123,6 @@ where
 
     ghost needed = { λ slots count. count };
 
-    ghost needed_grows = { λ slots more_slots count more wider up. up };
-
     ghost may_need_memory = { true };
 
     ghost same = { λ x y. HasSameTree x.table y.table };
@@ -139,6 +134,38 @@ where
     ghost taken = { λ s ix item at. (at ≢ ix) × AnswersScan s (shares E.key_of (eq_by_cmp E.cmp) item) (Some at) };
 
     ghost reports = { λ at ix. ix ≡ at };
+
+    ghost are_hashes = { λ state item hashes. Unit {0} };
+
+    ghost is_position = { λ x state s item gap. IsGapFor E.key_of E.cmp s x.table item gap };
+
+    ghost is_planned = { λ x state s item gap. IsGapFor E.key_of E.cmp s x.table item gap };
+
+    ghost are_none = { λ blocks. blocks ≡ 0 };
+
+    ghost has_room_for = { λ x gap blocks. HasBlocksAt x.table blocks gap };
+
+    ghost are_enough_after = { λ x blocks. HasBlocksAnywhere x.table blocks };
+
+    ghost is_move = { λ state s ix item plan. PlansOrConflicts E.key_of E.cmp s ix item (Ok plan) };
+
+    ghost moves = { moves };
+
+    ghost are_enough_for = { λ x plan blocks. HasBlocksFor x.table blocks plan };
+}
+
+impl<T, S, E> IndexLaws<T, S> for ByOrderOf<E>
+where
+    E: OrdKey<T>,
+{
+    ghost use Rattle.std.proofs.Common.{refl};
+    ghost use Rattle.std.specs.Ordering.{eq_by_cmp};
+    ghost use Rattle.iddqd_map.specs.Map.{shares};
+    ghost use Rattle.iddqd_map.specs.OneKeyLaws.{reported_one, few_one};
+    ghost use Rattle.iddqd_ord_map.specs.ByOrderLaws.{Sorts-same_tree, Sorts-modified, Sorts-alike, IsGapFor-same_tree};
+    ghost use Rattle.iddqd_ord_map.specs.SortedScanLaws.{shares_equivalence};
+
+    ghost needed_grows = { λ slots more_slots count more wider up. up };
 
     ghost kept_none = { refl };
 
@@ -162,35 +189,16 @@ where
 
     ghost few_reported = { few_one };
 
-    ghost are_hashes = { λ state item hashes. Unit {0} };
-
-    ghost is_position = { λ x state s item gap. IsGapFor E.key_of E.cmp s x.table item gap };
-
-    ghost is_planned = { λ x state s item gap. IsGapFor E.key_of E.cmp s x.table item gap };
-
-    ghost are_none = { λ blocks. blocks ≡ 0 };
-
-    ghost has_room_for = { λ x gap blocks. HasBlocksAt x.table blocks gap };
-
-    ghost are_enough_after = { λ x blocks. HasBlocksAnywhere x.table blocks };
-
     ghost same_plans = { λ x y state s item gap same is.
         IsGapFor-same_tree E.key_of E.cmp s x.table y.table item gap same is };
+}
 
-    ghost is_move = { λ state s ix item plan. PlansOrConflicts E.key_of E.cmp s ix item (Ok plan) };
-
-    ghost moves = { moves };
-
-    ghost are_enough_for = { λ x plan blocks. HasBlocksFor x.table blocks plan };
-
-    fn no_hashes() {}
-
+impl<T, S, E> Removes<T, S> for ByOrderOf<E>
+where
+    E: OrdKey<T>,
+{
     fn remove(&mut self, items: &ItemSet<T>, state: &S, ix: ItemIndex) {
         ordered_steps::remove_live::<T, E>(&mut self.table, items, ix);
-    }
-
-    fn is_same(item: &T, other: &T) -> bool {
-        E::compare(item, other) == Ordering::Equal
     }
 }
 
@@ -226,7 +234,12 @@ where
     fn insert(&mut self, hashes: (), plan: &Gap, blocks: Blocks, ix: ItemIndex) {
         self.table.insert_in(plan, ix, blocks);
     }
+}
 
+impl<T, S, E> Overwrites<T, S> for ByOrderOf<E>
+where
+    E: OrdKey<T>,
+{
     fn next_reported(conflict: &ItemIndex, before: Option<ItemIndex>) -> Option<ItemIndex> {
         match before {
             Some(ix) if *conflict <= ix => None,
@@ -250,6 +263,8 @@ impl<T, S, E> Moves<T, S> for ByOrderOf<E>
 where
     E: OrdKey<T>,
 {
+    fn no_hashes() {}
+
     fn plan_move(
         &self,
         items: &ItemSet<T>,
@@ -339,6 +354,15 @@ where
     }
 }
 
+impl<T, S, E> ComparesKeys<T, S> for ByOrderOf<E>
+where
+    E: OrdKey<T>,
+{
+    fn is_same(item: &T, other: &T) -> bool {
+        E::compare(item, other) == Ordering::Equal
+    }
+}
+
 impl<T, S, E> FindsSame<T, S> for ByOrderOf<E>
 where
     E: OrdKey<T>,
@@ -376,7 +400,13 @@ where
     fn find(&self, items: &ItemSet<T>, state: &S, query: Q) -> (Option<ItemIndex>, ()) {
         (find_by::<T, E, Q>(&self.table, items, query), ())
     }
+}
 
+impl<T, S, E, Q> TakesAt<Here, Q, T, S> for ByOrderOf<E>
+where
+    E: OrdKey<T>,
+    Q: ItemOrdQuery<T, E>,
+{
     fn take(&mut self, items: &ItemSet<T>, state: &S, query: Q) -> Option<ItemIndex> {
         take_by::<T, E, Q>(&mut self.table, items, query)
     }
@@ -387,22 +417,22 @@ where
     E: OrdKey<T>,
     Q: ItemRangeQuery<T, E>,
 {
+    ghost order = { on E.key_of E.cmp };
+
+    ghost compare = { Q.compare_item };
+}
+
+impl<T, S, E, Q> StepsAt<Here, Q, T, S> for ByOrderOf<E>
+where
+    E: OrdKey<T>,
+    Q: ItemRangeQuery<T, E>,
+{
     ghost use Rattle.std.proofs.lemmas.Cmp.{on_total};
     ghost use Rattle.iddqd_ord_map.specs.SortedScanLaws.{tied_by_key};
 
     type Spot = Spot;
 
-    ghost order = { on E.key_of E.cmp };
-
-    ghost compare = { Q.compare_item };
-
     ghost stands = { λ x spot ix. StandsAt x.table spot ix };
-
-    ghost total = { on_total E.key_of E.total };
-
-    ghost fits = { Q.fits };
-
-    ghost keys_tie = { tied_by_key E.key_of E.cmp E.total };
 
     fn first_between(
         &self,
@@ -457,4 +487,10 @@ where
     {
         take_between::<T, E, Q>(&mut self.table, items, spot, upper)
     }
+
+    ghost total = { on_total E.key_of E.total };
+
+    ghost fits = { Q.fits };
+
+    ghost keys_tie = { tied_by_key E.key_of E.cmp E.total };
 }

@@ -34,7 +34,10 @@ use iddqd_keys::item_order_query::ItemRangeQuery;
 use iddqd_keys::key_kinds::Field;
 use iddqd_keys::key_of::{Itself, key_at};
 use iddqd_keys::order_key::OrdKey;
-use iddqd_map::key_index::{Here, Inserts, KeyIndex, Moves, OrderedAt, Upkeep};
+use iddqd_map::key_index::{
+    ComparesKeys, Here, IndexLaws, Inserts, KeyIndex, Moves, OrderedAt, Overwrites, Removes,
+    StepsAt, Upkeep,
+};
 pub use iddqd_map::no_conflict::NoConflict;
 use iddqd_order::btree_table::{Asking, Blocks, Gap, MapBTreeTable, Spot};
 use std::alloc::{AllocError, Global};
@@ -75,16 +78,13 @@ impl<T, S, E> KeyIndex<T, S> for ByOrderMultiOf<E>
 where
     E: OrdKey<T>,
 {
-    ghost use Rattle.std.proofs.Common.{refl};
     ghost use Rattle.std.specs.Prelude.{true};
     ghost use Rattle.std.specs.Ordering.{eq_by_cmp};
     ghost use Rattle.iddqd_order.specs.MapBTreeTable.{HasSameTree};
     ghost use Rattle.iddqd_map.specs.Map.{shares};
-    ghost use Rattle.iddqd_map.specs.NoConflict.{never_alike, never_apart, none_named};
+    ghost use Rattle.iddqd_map.specs.NoConflict.{never_alike};
     ghost use Rattle.iddqd_ord_map.specs.OrderedSteps.{reserved_for, most_cells, HasBlocksAt, HasBlocksAnywhere, HasBlocksFor, moves};
-    ghost use Rattle.iddqd_ord_map.specs.SortedScanLaws.{IsSortedScan-same_tree, IsSortedScan-modified, IsSortedScan-alike, shares_equivalence};
     ghost use Rattle.iddqd_ord_map.specs.ByOrderMulti.{IsOwnGapFor, IsMoveFor};
-    ghost use Rattle.iddqd_ord_map.specs.ByOrderMultiLaws.{IsOwnGapFor-same_tree};
 
     type Conflict = NoConflict;
 
@@ -122,8 +122,6 @@ where
 
     ghost needed = { λ slots count. count };
 
-    ghost needed_grows = { λ slots more_slots count more wider up. up };
-
     ghost may_need_memory = { true };
 
     ghost same = { λ x y. HasSameTree x.table y.table };
@@ -135,6 +133,36 @@ where
     ghost taken = { λ s ix item at. ⊥ };
 
     ghost reports = { λ at ix. ⊥ };
+
+    ghost are_hashes = { λ state item hashes. Unit {0} };
+
+    ghost is_position = { λ x state s item position. Unit {0} };
+
+    ghost is_planned = { λ x state s item gap. IsOwnGapFor E.key_of E.cmp s x.table item gap };
+
+    ghost are_none = { λ blocks. blocks ≡ 0 };
+
+    ghost has_room_for = { λ x gap blocks. HasBlocksAt x.table blocks gap };
+
+    ghost are_enough_after = { λ x blocks. HasBlocksAnywhere x.table blocks };
+
+    ghost is_move = { λ state s ix item plan. IsMoveFor E.key_of E.cmp s ix item plan };
+
+    ghost moves = { moves };
+
+    ghost are_enough_for = { λ x plan blocks. HasBlocksFor x.table blocks plan };
+}
+
+impl<T, S, E> IndexLaws<T, S> for ByOrderMultiOf<E>
+where
+    E: OrdKey<T>,
+{
+    ghost use Rattle.std.proofs.Common.{refl};
+    ghost use Rattle.iddqd_map.specs.NoConflict.{never_apart, none_named};
+    ghost use Rattle.iddqd_ord_map.specs.SortedScanLaws.{IsSortedScan-same_tree, IsSortedScan-modified, IsSortedScan-alike, shares_equivalence};
+    ghost use Rattle.iddqd_ord_map.specs.ByOrderMultiLaws.{IsOwnGapFor-same_tree};
+
+    ghost needed_grows = { λ slots more_slots count more wider up. up };
 
     ghost kept_none = { refl };
 
@@ -159,35 +187,16 @@ where
 
     ghost few_reported = { λ at. none_named };
 
-    ghost are_hashes = { λ state item hashes. Unit {0} };
-
-    ghost is_position = { λ x state s item position. Unit {0} };
-
-    ghost is_planned = { λ x state s item gap. IsOwnGapFor E.key_of E.cmp s x.table item gap };
-
-    ghost are_none = { λ blocks. blocks ≡ 0 };
-
-    ghost has_room_for = { λ x gap blocks. HasBlocksAt x.table blocks gap };
-
-    ghost are_enough_after = { λ x blocks. HasBlocksAnywhere x.table blocks };
-
     ghost same_plans = { λ x y state s item gap same is.
         IsOwnGapFor-same_tree E.key_of E.cmp s x.table y.table item gap same is };
+}
 
-    ghost is_move = { λ state s ix item plan. IsMoveFor E.key_of E.cmp s ix item plan };
-
-    ghost moves = { moves };
-
-    ghost are_enough_for = { λ x plan blocks. HasBlocksFor x.table blocks plan };
-
-    fn no_hashes() {}
-
+impl<T, S, E> Removes<T, S> for ByOrderMultiOf<E>
+where
+    E: OrdKey<T>,
+{
     fn remove(&mut self, items: &ItemSet<T>, state: &S, ix: ItemIndex) {
         ordered_steps::remove_live::<T, E>(&mut self.table, items, ix);
-    }
-
-    fn is_same(item: &T, other: &T) -> bool {
-        E::compare(item, other) == Ordering::Equal
     }
 }
 
@@ -223,7 +232,12 @@ where
     fn insert(&mut self, hashes: (), plan: &Gap, blocks: Blocks, ix: ItemIndex) {
         self.table.insert_in(plan, ix, blocks);
     }
+}
 
+impl<T, S, E> Overwrites<T, S> for ByOrderMultiOf<E>
+where
+    E: OrdKey<T>,
+{
     fn next_reported(conflict: &NoConflict, before: Option<ItemIndex>) -> Option<ItemIndex> {
         None
     }
@@ -239,6 +253,8 @@ impl<T, S, E> Moves<T, S> for ByOrderMultiOf<E>
 where
     E: OrdKey<T>,
 {
+    fn no_hashes() {}
+
     fn plan_move(
         &self,
         items: &ItemSet<T>,
@@ -331,7 +347,26 @@ where
     }
 }
 
+impl<T, S, E> ComparesKeys<T, S> for ByOrderMultiOf<E>
+where
+    E: OrdKey<T>,
+{
+    fn is_same(item: &T, other: &T) -> bool {
+        E::compare(item, other) == Ordering::Equal
+    }
+}
+
 impl<T, S, E, Q> OrderedAt<Here, Q, T, S> for ByOrderMultiOf<E>
+where
+    E: OrdKey<T>,
+    Q: ItemRangeQuery<T, E>,
+{
+    ghost order = { on E.key_of E.cmp };
+
+    ghost compare = { Q.compare_item };
+}
+
+impl<T, S, E, Q> StepsAt<Here, Q, T, S> for ByOrderMultiOf<E>
 where
     E: OrdKey<T>,
     Q: ItemRangeQuery<T, E>,
@@ -341,17 +376,7 @@ where
 
     type Spot = Spot;
 
-    ghost order = { on E.key_of E.cmp };
-
-    ghost compare = { Q.compare_item };
-
     ghost stands = { λ x spot ix. StandsAt x.table spot ix };
-
-    ghost total = { on_total E.key_of E.total };
-
-    ghost fits = { Q.fits };
-
-    ghost keys_tie = { tied_by_key E.key_of E.cmp E.total };
 
     fn first_between(
         &self,
@@ -406,4 +431,10 @@ where
     {
         take_between::<T, E, Q>(&mut self.table, items, spot, upper)
     }
+
+    ghost total = { on_total E.key_of E.total };
+
+    ghost fits = { Q.fits };
+
+    ghost keys_tie = { tied_by_key E.key_of E.cmp E.total };
 }

@@ -10,7 +10,7 @@ ghost use Rattle.iddqd_ord_map.specs.InOrder.{ListsInOrder};
 ghost use Rattle.iddqd_order.specs.{indexes_ahead, indexes_left};
 
 use crate::ranges_at::{RangesAt, SortedAt};
-use iddqd_map::key_index::{Here, KeyIndex, OrderedAt};
+use iddqd_map::key_index::{Here, KeyIndex, StepsAt};
 use iddqd_map::map::Parts;
 use iddqd_order::btree_table::{Iter, Range};
 use std::ops::Bound;
@@ -50,7 +50,7 @@ pub trait OrderedParts<'a, T, X: KeyIndex<T, S>, S>: Sized {
     /// Whether an item has the key for which the query stands, by one search.
     fn contains_key<Q: Copy>(self, query: Q) -> bool
     where
-        X: OrderedAt<Here, Q, T, S>,
+        X: StepsAt<Here, Q, T, S>,
         ensures { (result ≡ false) ↔ HasNoHit (store self) (is_equal (X.compare query)) };
 }
 
@@ -90,7 +90,7 @@ impl<'a, T, X: KeyIndex<T, S>, S> OrderedParts<'a, T, X, S> for Parts<'a, T, X, 
 
     fn contains_key<Q: Copy>(self, query: Q) -> bool
     where
-        X: OrderedAt<Here, Q, T, S>,
+        X: StepsAt<Here, Q, T, S>,
     {
         let Parts {
             items,

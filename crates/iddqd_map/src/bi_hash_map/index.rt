@@ -8,7 +8,8 @@ use super::clash::{BiClash, both_moves, clash_of};
 use super::item::{BiHashItem, Key1, Key2};
 use crate::by_hash::ByHashOf;
 use crate::key_index::{
-    FindsSame, First, Inserts, KeyIndex, Moves, ReportsAt, Second, UniqueAt, Upkeep,
+    ComparesKeys, FindsSame, First, IndexLaws, Inserts, KeyIndex, Moves, Overwrites, Removes,
+    ReportsAt, Second, TakesAt, UniqueAt, Upkeep,
 };
 use crate::reported::{lesser, past};
 use iddqd::index_remap::IndexRemap;
@@ -42,19 +43,14 @@ where
     B: HashKey<T>,
     S: BuildHasher,
 {
-    ghost use Rattle.std.proofs.Common.{ap, refl};
-    ghost use Rattle.std.proofs.lemmas.Cmp.{and_equiv};
     ghost use Rattle.std.specs.Prelude.{◌≡◌, ◌+◌, min, false, ◌≤◌, ◌||◌};
     ghost use Rattle.iddqd_hash.specs.HashTable.{capacity, memory, room};
     ghost use Rattle.iddqd_hash.specs.MapHashTable.{filed};
     ghost use Rattle.iddqd_hash.specs.OpenTableSizes.{least_cells};
     ghost use Rattle.iddqd_hash.specs.Sizes.{most_cells};
-    ghost use Rattle.iddqd_hash.proofs.LeastCellsLemmas.{least_cells-grows};
     ghost use Rattle.iddqd_by_hash.specs.Hashed.{hashing_of};
     ghost use Rattle.iddqd_map.specs.Indexing.{Indexes, Plans};
-    ghost use Rattle.iddqd_map.specs.HashLaws.{shares_laws, Indexes-kept, Indexes-key_kept, Indexes-keys_shared};
-    ghost use Rattle.iddqd_map.specs.KeyLaws.{IsOfTwo, reported_two, some_two, few_two};
-    ghost use Rattle.iddqd_map.specs.PairLaws.{AreApart-either, HaveSameKeys-first, HaveSameKeys-second, sum_grows};
+    ghost use Rattle.iddqd_map.specs.KeyLaws.{IsOfTwo};
     ghost use Rattle.iddqd_keys.specs.KeyKeeping.{pair_keys};
     ghost use Rattle.iddqd_map.specs.Map.{shares};
     ghost use Rattle.iddqd_map.specs.Several.{either_key, both_keys};
@@ -101,9 +97,6 @@ where
 
     ghost needed = { λ slots count. least_cells count + least_cells count };
 
-    ghost needed_grows = { λ slots more_slots count more wider up.
-        sum_grows (least_cells-grows count more up) (least_cells-grows count more up) };
-
     ghost may_need_memory = { false };
 
     ghost same = { λ x y. (filed y.first.table ≡ filed x.first.table) × (filed y.second.table ≡ filed x.second.table) };
@@ -115,6 +108,51 @@ where
     ghost taken = { AreTaken (shares A.key_of A.eq) (shares B.key_of B.eq) };
 
     ghost reports = { λ at. IsOfTwo at.key1 at.key2 };
+
+    ghost are_hashes = { λ state item hashes.
+        (hashes.0 ≡ (hashing_of A.eq A.hash_input S.BuildHasher S.Hasher.Hasher state).hash_of
+        (A.key_of item))
+        × (hashes.1 ≡ (hashing_of B.eq B.hash_input S.BuildHasher S.Hasher.Hasher state).hash_of
+        (B.key_of item)) };
+
+    ghost is_position = { λ x state s item position. Unit {0} };
+
+    ghost is_planned = { λ x state s item plan. Unit {0} };
+
+    ghost has_room_for = { λ x plan blocks. (1 ≤ room x.first.table) × (1 ≤ room x.second.table) };
+
+    ghost are_none = { λ blocks. Unit {0} };
+
+    ghost are_enough_after = { λ x blocks. Unit {0} };
+
+    ghost is_move = { λ state s ix item plan.
+        Plans A.key_of (hashing_of A.eq A.hash_input S.BuildHasher S.Hasher.Hasher state) s ix item plan.0
+        × Plans B.key_of (hashing_of B.eq B.hash_input S.BuildHasher S.Hasher.Hasher state) s ix item
+        plan.1 };
+
+    ghost moves = { λ plan. moves plan.0 || moves plan.1 };
+
+    ghost are_enough_for = { λ x plan blocks. Unit {0} };
+}
+
+impl<T, S, A, B> IndexLaws<T, S> for BiIndexOf<A, B>
+where
+    A: HashKey<T>,
+    B: HashKey<T>,
+    S: BuildHasher,
+{
+    ghost use Rattle.std.proofs.Common.{ap, refl};
+    ghost use Rattle.std.proofs.lemmas.Cmp.{and_equiv};
+    ghost use Rattle.iddqd_hash.specs.MapHashTable.{filed};
+    ghost use Rattle.iddqd_hash.proofs.LeastCellsLemmas.{least_cells-grows};
+    ghost use Rattle.iddqd_by_hash.specs.Hashed.{hashing_of};
+    ghost use Rattle.iddqd_map.specs.HashLaws.{shares_laws, Indexes-kept, Indexes-key_kept, Indexes-keys_shared};
+    ghost use Rattle.iddqd_map.specs.KeyLaws.{reported_two, some_two, few_two};
+    ghost use Rattle.iddqd_map.specs.PairLaws.{AreApart-either, HaveSameKeys-first, HaveSameKeys-second, sum_grows};
+    ghost use Rattle.iddqd_map.specs.Map.{shares};
+
+    ghost needed_grows = { λ slots more_slots count more wider up.
+        sum_grows (least_cells-grows count more up) (least_cells-grows count more up) };
 
     ghost kept_none = { refl };
 
@@ -157,45 +195,18 @@ where
 
     ghost few_reported = { λ at. few_two at.key1 at.key2 };
 
-    ghost are_hashes = { λ state item hashes.
-        (hashes.0 ≡ (hashing_of A.eq A.hash_input S.BuildHasher S.Hasher.Hasher state).hash_of
-        (A.key_of item))
-        × (hashes.1 ≡ (hashing_of B.eq B.hash_input S.BuildHasher S.Hasher.Hasher state).hash_of
-        (B.key_of item)) };
-
-    ghost is_position = { λ x state s item position. Unit {0} };
-
-    ghost is_planned = { λ x state s item plan. Unit {0} };
-
-    ghost has_room_for = { λ x plan blocks. (1 ≤ room x.first.table) × (1 ≤ room x.second.table) };
-
-    ghost are_none = { λ blocks. Unit {0} };
-
-    ghost are_enough_after = { λ x blocks. Unit {0} };
-
     ghost same_plans = { λ x y state s item plan same is. is };
+}
 
-    ghost is_move = { λ state s ix item plan.
-        Plans A.key_of (hashing_of A.eq A.hash_input S.BuildHasher S.Hasher.Hasher state) s ix item plan.0
-        × Plans B.key_of (hashing_of B.eq B.hash_input S.BuildHasher S.Hasher.Hasher state) s ix item
-        plan.1 };
-
-    ghost moves = { λ plan. moves plan.0 || moves plan.1 };
-
-    ghost are_enough_for = { λ x plan blocks. Unit {0} };
-
-    fn no_hashes() -> (Option<MapHash>, Option<MapHash>) {
-        (None, None)
-    }
-
+impl<T, S, A, B> Removes<T, S> for BiIndexOf<A, B>
+where
+    A: HashKey<T>,
+    B: HashKey<T>,
+    S: BuildHasher,
+{
     fn remove(&mut self, items: &ItemSet<T>, state: &S, ix: ItemIndex) {
         self.first.remove(items, state, ix);
         self.second.remove(items, state, ix);
-    }
-
-    fn is_same(item: &T, other: &T) -> bool {
-        <ByHashOf<A> as KeyIndex<T, S>>::is_same(item, other)
-            && <ByHashOf<B> as KeyIndex<T, S>>::is_same(item, other)
     }
 }
 
@@ -234,7 +245,14 @@ where
         <ByHashOf<A> as Inserts<T, S>>::insert(&mut self.first, hashes.0, plan, blocks, ix);
         <ByHashOf<B> as Inserts<T, S>>::insert(&mut self.second, hashes.1, plan, blocks, ix);
     }
+}
 
+impl<T, S, A, B> Overwrites<T, S> for BiIndexOf<A, B>
+where
+    A: HashKey<T>,
+    B: HashKey<T>,
+    S: BuildHasher,
+{
     fn next_reported(conflict: &BiClash, before: Option<ItemIndex>) -> Option<ItemIndex> {
         lesser(past(&conflict.key1, &before), past(&conflict.key2, &before))
     }
@@ -252,6 +270,10 @@ where
     B: HashKey<T>,
     S: BuildHasher,
 {
+    fn no_hashes() -> (Option<MapHash>, Option<MapHash>) {
+        (None, None)
+    }
+
     fn plan_move(
         &self,
         items: &ItemSet<T>,
@@ -358,6 +380,18 @@ where
     }
 }
 
+impl<T, S, A, B> ComparesKeys<T, S> for BiIndexOf<A, B>
+where
+    A: HashKey<T>,
+    B: HashKey<T>,
+    S: BuildHasher,
+{
+    fn is_same(item: &T, other: &T) -> bool {
+        <ByHashOf<A> as ComparesKeys<T, S>>::is_same(item, other)
+            && <ByHashOf<B> as ComparesKeys<T, S>>::is_same(item, other)
+    }
+}
+
 impl<T, S, A, B> FindsSame<T, S> for BiIndexOf<A, B>
 where
     A: HashKey<T>,
@@ -369,7 +403,7 @@ where
 
     fn find_same(&self, items: &ItemSet<T>, state: &S, item: &T) -> Option<ItemIndex> {
         let ix = self.first.find_same(items, state, item)?;
-        if <ByHashOf<B> as KeyIndex<T, S>>::is_same(item, &items[ix]) {
+        if <ByHashOf<B> as ComparesKeys<T, S>>::is_same(item, &items[ix]) {
             Some(ix)
         } else {
             None
@@ -416,7 +450,15 @@ where
         let (found, known) = self.first.find(items, state, query);
         (found, (known, None))
     }
+}
 
+impl<T, S, A, B, Q> TakesAt<First, Q, T, S> for BiIndexOf<A, B>
+where
+    A: HashKey<T>,
+    B: HashKey<T>,
+    S: BuildHasher,
+    Q: ItemHashQuery<T, A>,
+{
     fn take(&mut self, items: &ItemSet<T>, state: &S, query: Q) -> Option<ItemIndex> {
         let found = self.first.take(items, state, query)?;
         self.second.remove(items, state, found);
@@ -460,7 +502,15 @@ where
         let (found, known) = self.second.find(items, state, query);
         (found, (None, known))
     }
+}
 
+impl<T, S, A, B, Q> TakesAt<Second, Q, T, S> for BiIndexOf<A, B>
+where
+    A: HashKey<T>,
+    B: HashKey<T>,
+    S: BuildHasher,
+    Q: ItemHashQuery<T, B>,
+{
     fn take(&mut self, items: &ItemSet<T>, state: &S, query: Q) -> Option<ItemIndex> {
         let found = self.second.take(items, state, query)?;
         self.first.remove(items, state, found);

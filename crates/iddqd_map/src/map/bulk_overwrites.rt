@@ -16,13 +16,13 @@ use super::Map;
 use super::inserts::insert;
 use super::overwrites::insert_in_room;
 use super::retain_into::give_out;
-use crate::key_index::{Inserts, Upkeep};
+use crate::key_index::{Inserts, Overwrites, Removes, Upkeep};
 use crate::refusal::{InsertRefusal, OverwriteRefusal, StoppedOverwrite};
 use iddqd::item_index::ItemIndex;
 use iddqd::item_set::ItemSet;
 use std::alloc::AllocError;
 
-impl<T, X: Inserts<T, S> + Upkeep<T, S>, S> Map<T, X, S> {
+impl<T, X: Inserts<T, S> + Overwrites<T, S> + Removes<T, S> + Upkeep<T, S>, S> Map<T, X, S> {
     /// Inserts the items of an iterator in turn, each in place of those that share a key with it, up to the first that
     /// is refused, and returns how many were inserted.
     ///
@@ -119,7 +119,7 @@ impl<T, X: Inserts<T, S> + Upkeep<T, S>, S> Map<T, X, S> {
 }
 
 // Stores the item, and inserts its index. Those that share a key with it are removed, and passed to the closure.
-fn insert_or_displace<T, X: Inserts<T, S>, S, G: FnMut(T)>(
+fn insert_or_displace<T, X: Inserts<T, S> + Overwrites<T, S> + Removes<T, S>, S, G: FnMut(T)>(
     items: &mut ItemSet<T>,
     indexes: &mut X,
     state: &S,
@@ -147,7 +147,7 @@ fn insert_or_displace<T, X: Inserts<T, S>, S, G: FnMut(T)>(
 
 // Removes the items that share a key with this one, and passes them to the closure; then it stores the item and inserts
 // its index. If memory runs out, it returns the item before anything is removed.
-fn displace<T, X: Inserts<T, S>, S, G: FnMut(T)>(
+fn displace<T, X: Inserts<T, S> + Overwrites<T, S> + Removes<T, S>, S, G: FnMut(T)>(
     items: &mut ItemSet<T>,
     indexes: &mut X,
     state: &S,
@@ -175,7 +175,7 @@ fn displace<T, X: Inserts<T, S>, S, G: FnMut(T)>(
 }
 
 // Removes the items that were reported, at least one, by rising index, and passes each to the closure.
-fn give_reported<T, X: Inserts<T, S>, S, G: FnMut(T)>(
+fn give_reported<T, X: Inserts<T, S> + Overwrites<T, S> + Removes<T, S>, S, G: FnMut(T)>(
     items: &mut ItemSet<T>,
     indexes: &mut X,
     state: &S,

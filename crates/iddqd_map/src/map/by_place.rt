@@ -12,7 +12,7 @@ ghost use Rattle.iddqd_map.specs.Modify.{Modifies};
 use super::Map;
 use super::changes::change_found;
 use super::replaces::replace_found;
-use crate::key_index::{KeyIndex, Moves, UniqueAt};
+use crate::key_index::{IndexLaws, KeyIndex, Moves, TakesAt, UniqueAt};
 use crate::refusal::ReplaceRefusal;
 use iddqd::item_index::ItemIndex;
 
@@ -51,7 +51,7 @@ impl<T, X: KeyIndex<T, S>, S> Map<T, X, S> {
     /// Removes the item that has the key, and returns it. It takes no memory.
     pub fn remove_by<P, Q>(&mut self, query: Q) -> Option<T>
     where
-        X: UniqueAt<P, Q, T, S>,
+        X: TakesAt<P, Q, T, S>,
         ensures removes { Removes self.old (X.stands_for query) result self.new }
         ensures gone { HasNoHit self.new.store (X.stands_for query) }
         ensures room { room self.old ≤ room self.new }
@@ -122,7 +122,7 @@ impl<T, X: KeyIndex<T, S>, S> Map<T, X, S> {
     /// returns `None` and doesn't call the closure. It is one look-up.
     pub fn modify_by<P, Q, R, F: FnOnce(&mut T) -> R>(&mut self, query: Q, f: F) -> Option<R>
     where
-        X: UniqueAt<P, Q, T, S>,
+        X: UniqueAt<P, Q, T, S> + IndexLaws<T, S>,
         requires { KeepsKey F.FnOnce f X.keys (λ item. FindsItem self.old.store (X.stands_for query) (Some item)) }
         ensures modifies { Modifies F.FnOnce f self.old (X.stands_for query) result self.new }
         ensures room { room self.old ≤ room self.new }

@@ -9,8 +9,8 @@ ghost use Rattle.iddqd_map.specs.RangeRetain.{KeepsMisses};
 ghost use Rattle.iddqd_map.specs.Retain.{MayAsk};
 
 use super::Map;
-use crate::grouped_at::GroupedAt;
-use crate::key_index::KeyIndex;
+use crate::grouped_at::StepsInGroup;
+use crate::key_index::{IndexLaws, KeyIndex};
 
 impl<T, X: KeyIndex<T, S>, S> Map<T, X, S> {
     /// Calls the closure with a `&mut` to each item that has the key for which the query stands, once, in no particular
@@ -20,7 +20,7 @@ impl<T, X: KeyIndex<T, S>, S> Map<T, X, S> {
     /// memory is taken. It costs one look-up, which compares only keys of the same hash, each once.
     pub fn modify_hashed_group_by<P, Q, F: FnMut(&mut T)>(&mut self, query: Q, mut f: F) -> usize
     where
-        X: GroupedAt<P, Q, T, S>,
+        X: StepsInGroup<P, Q, T, S> + IndexLaws<T, S>,
         requires callable { MayAsk (TakesMut F.FnMut) (MayLeave F.FnMut) f
             (filter (X.stands_for query) (live_items self.old.store)) }
         requires keeps { KeepsKeys F.FnMut X.keys (IsStoredHit self.old.store (X.stands_for query)) }

@@ -19,7 +19,7 @@ ghost use Rattle.iddqd_map.specs.Retain.{MayAsk};
 
 use super::Map;
 use super::steps::take_out_in_group;
-use crate::grouped_at::GroupedAt;
+use crate::grouped_at::StepsInGroup;
 use crate::key_index::KeyIndex;
 use iddqd::item_index::ItemIndex;
 use iddqd::item_set::ItemSet;
@@ -38,7 +38,7 @@ impl<T, X: KeyIndex<T, S>, S> Map<T, X, S> {
     ) -> usize
     where
         T: Drop,
-        X: GroupedAt<P, Q, T, S>,
+        X: StepsInGroup<P, Q, T, S>,
         Q: Copy,
         requires { MayAsk (TakesAt F.FnMut) (CalledAt F.FnMut) f
             (filter (X.stands_for query) (live_items self.old.store)) }
@@ -71,7 +71,7 @@ impl<T, X: KeyIndex<T, S>, S> Map<T, X, S> {
         mut gone: G,
     ) -> usize
     where
-        X: GroupedAt<P, Q, T, S>,
+        X: StepsInGroup<P, Q, T, S>,
         Q: Copy,
         requires asked { MayAsk (TakesAt F.FnMut) (CalledAt F.FnMut) keep
             (filter (X.stands_for query) (live_items self.old.store)) }
@@ -107,7 +107,7 @@ pub(super) fn retain_counted<P, Q, T, S, X, F: FnMut(&T) -> bool, G: FnMut(T)>(
     gone: &mut G,
 ) -> usize
 where
-    X: GroupedAt<P, Q, T, S>,
+    X: StepsInGroup<P, Q, T, S>,
     Q: Copy,
     requires indexed { IsIndexed (X.indexes indexes.old) state.now items.old.store }
     requires can_ask { CanAsk (TakesAt F.FnMut) (CalledAt F.FnMut) keep.old
@@ -140,7 +140,7 @@ fn retain_group<P, Q, T, S, X, F: FnMut(&T) -> bool, G: FnMut(T)>(
     gone: &mut G,
 )
 where
-    X: GroupedAt<P, Q, T, S>,
+    X: StepsInGroup<P, Q, T, S>,
     Q: Copy,
     requires indexed { IsIndexed (X.indexes indexes.old) state.now items.old.store }
     requires can_ask { CanAsk (TakesAt F.FnMut) (CalledAt F.FnMut) keep.old
@@ -178,7 +178,7 @@ fn retain_in_group<P, Q, T, S, X, F: FnMut(&T) -> bool, G: FnMut(T)>(
     gone: &mut G,
 ) -> (bool, Option<ItemIndex>)
 where
-    X: GroupedAt<P, Q, T, S>,
+    X: StepsInGroup<P, Q, T, S>,
     requires hit { IsHit items.old.store (X.stands_for query) ix }
     requires indexed { IsIndexed (X.indexes indexes.old) state.now items.old.store }
     requires takes { (item : T) → get items.old.store ix ≡ Some item → TakesAt F.FnMut keep.old item }

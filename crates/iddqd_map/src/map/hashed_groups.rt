@@ -11,7 +11,7 @@ ghost use Rattle.iddqd_map.specs.Ranges.{LeavesOthers, GivesItem, MayGive};
 
 use super::Map;
 use super::hashed_group_retain::retain_counted;
-use crate::grouped_at::GroupedAt;
+use crate::grouped_at::{GroupedAt, StepsInGroup};
 use crate::key_index::KeyIndex;
 use iddqd::item_index::ItemIndex;
 
@@ -43,7 +43,7 @@ impl<T, X: KeyIndex<T, S>, S> Map<T, X, S> {
     /// compares only keys of the same hash, each once, and for each item a removal from each table.
     pub fn remove_hashed_group_by<P, Q, F: FnMut(T)>(&mut self, query: Q, mut f: F) -> usize
     where
-        X: GroupedAt<P, Q, T, S>,
+        X: StepsInGroup<P, Q, T, S>,
         Q: Copy,
         requires { MayGive F.FnMut f (live_items self.old.store) }
         ensures left { LeavesOthers self.old.store (X.stands_for query) self.new.store }

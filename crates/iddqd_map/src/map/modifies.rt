@@ -7,10 +7,10 @@ ghost use Rattle.iddqd_map.specs.Map.{room};
 ghost use Rattle.iddqd_map.specs.Modify.{ModifiesAt};
 
 use super::Map;
-use crate::key_index::KeyIndex;
+use crate::key_index::IndexLaws;
 use iddqd::item_index::ItemIndex;
 
-impl<T, X: KeyIndex<T, S>, S> Map<T, X, S> {
+impl<T, X: IndexLaws<T, S>, S> Map<T, X, S> {
     /// Calls the closure with a `&mut` to the item at an index, and returns what the closure returns; if the index has
     /// no item, it returns `None` and doesn't call the closure.
     ///

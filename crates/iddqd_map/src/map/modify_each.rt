@@ -12,11 +12,11 @@ ghost use Rattle.iddqd_map.specs.ModifyMany.{IsStored, KeepsKeys, MayLeave, Modi
 ghost use Rattle.iddqd_map.specs.Retain.{AsksInTurn, MayAskInTurn};
 
 use super::Map;
-use crate::key_index::KeyIndex;
+use crate::key_index::IndexLaws;
 use iddqd::item_index::ItemIndex;
 use iddqd::item_set::ItemSet;
 
-impl<T, X: KeyIndex<T, S>, S> Map<T, X, S> {
+impl<T, X: IndexLaws<T, S>, S> Map<T, X, S> {
     /// Calls the closure with a `&mut` to each item once, by rising index, and returns how many items there are.
     ///
     /// The caller proves that the closure leaves each item its keys, as for `modify_at`. No key is hashed or compared,
@@ -38,7 +38,7 @@ impl<T, X: KeyIndex<T, S>, S> Map<T, X, S> {
 
 // Calls the closure with a `&mut` to each item, by rising index. The closure stays in the state that its last call
 // leaves.
-fn modify_in<T, S, X: KeyIndex<T, S>, F: FnMut(&mut T)>(
+fn modify_in<T, S, X: IndexLaws<T, S>, F: FnMut(&mut T)>(
     items: &mut ItemSet<T>,
     indexes: &X,
     state: &S,

@@ -10,7 +10,7 @@ ghost use Rattle.iddqd_map.specs.Calls.{MayChange, Replaces, ChangesByCall};
 ghost use Rattle.iddqd_map.specs.Modify.{Modifies};
 
 use super::Map;
-use crate::key_index::{First, KeyIndex, Moves, Second, Third, UniqueAt};
+use crate::key_index::{First, IndexLaws, KeyIndex, Moves, Second, TakesAt, Third, UniqueAt};
 use crate::refusal::ReplaceRefusal;
 use iddqd::item_index::ItemIndex;
 
@@ -48,7 +48,7 @@ impl<T, X: KeyIndex<T, S>, S> Map<T, X, S> {
     /// Removes the item that has the first key, and returns it. It takes no memory.
     pub fn remove1<Q>(&mut self, query: Q) -> Option<T>
     where
-        X: UniqueAt<First, Q, T, S>,
+        X: TakesAt<First, Q, T, S>,
         ensures removes { Removes self.old (X.stands_for query) result self.new }
         ensures gone { HasNoHit self.new.store (X.stands_for query) }
         ensures room { room self.old ≤ room self.new }
@@ -99,7 +99,7 @@ impl<T, X: KeyIndex<T, S>, S> Map<T, X, S> {
     /// it returns `None` and doesn't call the closure. It is one look-up.
     pub fn modify1<Q, R, F: FnOnce(&mut T) -> R>(&mut self, query: Q, f: F) -> Option<R>
     where
-        X: UniqueAt<First, Q, T, S>,
+        X: UniqueAt<First, Q, T, S> + IndexLaws<T, S>,
         requires { KeepsKey F.FnOnce f X.keys (λ item. FindsItem self.old.store (X.stands_for query) (Some item)) }
         ensures modifies { Modifies F.FnOnce f self.old (X.stands_for query) result self.new }
         ensures room { room self.old ≤ room self.new }
@@ -137,7 +137,7 @@ impl<T, X: KeyIndex<T, S>, S> Map<T, X, S> {
     /// Removes the item that has the second key, and returns it. It takes no memory.
     pub fn remove2<Q>(&mut self, query: Q) -> Option<T>
     where
-        X: UniqueAt<Second, Q, T, S>,
+        X: TakesAt<Second, Q, T, S>,
         ensures removes { Removes self.old (X.stands_for query) result self.new }
         ensures gone { HasNoHit self.new.store (X.stands_for query) }
         ensures room { room self.old ≤ room self.new }
@@ -181,7 +181,7 @@ impl<T, X: KeyIndex<T, S>, S> Map<T, X, S> {
     /// Calls the closure with a `&mut` to the item that has the second key, as `modify1` does.
     pub fn modify2<Q, R, F: FnOnce(&mut T) -> R>(&mut self, query: Q, f: F) -> Option<R>
     where
-        X: UniqueAt<Second, Q, T, S>,
+        X: UniqueAt<Second, Q, T, S> + IndexLaws<T, S>,
         requires { KeepsKey F.FnOnce f X.keys (λ item. FindsItem self.old.store (X.stands_for query) (Some item)) }
         ensures modifies { Modifies F.FnOnce f self.old (X.stands_for query) result self.new }
         ensures room { room self.old ≤ room self.new }
@@ -219,7 +219,7 @@ impl<T, X: KeyIndex<T, S>, S> Map<T, X, S> {
     /// Removes the item that has the third key, and returns it. It takes no memory.
     pub fn remove3<Q>(&mut self, query: Q) -> Option<T>
     where
-        X: UniqueAt<Third, Q, T, S>,
+        X: TakesAt<Third, Q, T, S>,
         ensures removes { Removes self.old (X.stands_for query) result self.new }
         ensures gone { HasNoHit self.new.store (X.stands_for query) }
         ensures room { room self.old ≤ room self.new }
@@ -263,7 +263,7 @@ impl<T, X: KeyIndex<T, S>, S> Map<T, X, S> {
     /// Calls the closure with a `&mut` to the item that has the third key, as `modify1` does.
     pub fn modify3<Q, R, F: FnOnce(&mut T) -> R>(&mut self, query: Q, f: F) -> Option<R>
     where
-        X: UniqueAt<Third, Q, T, S>,
+        X: UniqueAt<Third, Q, T, S> + IndexLaws<T, S>,
         requires { KeepsKey F.FnOnce f X.keys (λ item. FindsItem self.old.store (X.stands_for query) (Some item)) }
         ensures modifies { Modifies F.FnOnce f self.old (X.stands_for query) result self.new }
         ensures room { room self.old ≤ room self.new }

@@ -14,13 +14,13 @@ ghost use Rattle.iddqd_keys.specs.Removals.{padded};
 use super::Map;
 use super::inserts::insert;
 use super::steps::{put_in_room, put_into, take_out};
-use crate::key_index::Inserts;
+use crate::key_index::{Inserts, Overwrites, Removes};
 use crate::refusal::{InsertRefusal, OverwriteRefusal};
 use iddqd::item_index::ItemIndex;
 use iddqd::item_set::ItemSet;
 use std::alloc::AllocError;
 
-impl<T, X: Inserts<T, S>, S> Map<T, X, S> {
+impl<T, X: Inserts<T, S> + Overwrites<T, S> + Removes<T, S>, S> Map<T, X, S> {
     /// Inserts an item, and returns its index. Stored items that share a key with it are first moved into `places`, by
     /// rising index.
     ///
@@ -57,7 +57,7 @@ impl<T, X: Inserts<T, S>, S> Map<T, X, S> {
 
 // Stores the item, and inserts its index. Those that share a key with it are removed into the places.
 #[inline(always)]
-fn insert_or_overwrite<T, X: Inserts<T, S>, S>(
+fn insert_or_overwrite<T, X: Inserts<T, S> + Overwrites<T, S> + Removes<T, S>, S>(
     items: &mut ItemSet<T>,
     indexes: &mut X,
     state: &S,
@@ -86,7 +86,7 @@ fn insert_or_overwrite<T, X: Inserts<T, S>, S>(
 
 // Removes the items that share a key with this one, stores it and inserts its index. If memory runs out, it returns the
 // item before anything is removed.
-fn overwrite<T, X: Inserts<T, S>, S>(
+fn overwrite<T, X: Inserts<T, S> + Overwrites<T, S> + Removes<T, S>, S>(
     items: &mut ItemSet<T>,
     indexes: &mut X,
     state: &S,
@@ -114,7 +114,7 @@ fn overwrite<T, X: Inserts<T, S>, S>(
 }
 
 // Removes the items that were reported, at least one, into the places, by rising index.
-fn remove_reported<T, X: Inserts<T, S>, S>(
+fn remove_reported<T, X: Inserts<T, S> + Overwrites<T, S> + Removes<T, S>, S>(
     items: &mut ItemSet<T>,
     indexes: &mut X,
     state: &S,
@@ -146,7 +146,7 @@ fn remove_reported<T, X: Inserts<T, S>, S>(
 }
 
 /// Stores an item that shares no key with another, and inserts its index. There is room for it.
-pub(super) fn insert_in_room<T, X: Inserts<T, S>, S>(
+pub(super) fn insert_in_room<T, X: Inserts<T, S> + Overwrites<T, S>, S>(
     items: &mut ItemSet<T>,
     indexes: &mut X,
     state: &S,

@@ -13,7 +13,7 @@ ghost use Rattle.iddqd_map.specs.RangeRetain.{AsksWithin, KeepsMisses, MayAskWit
 
 use super::Map;
 use super::modify_each::modify_slot;
-use crate::key_index::{KeyIndex, OrderedAt};
+use crate::key_index::{IndexLaws, KeyIndex, StepsAt};
 use iddqd::item_set::ItemSet;
 use std::ops::Bound;
 
@@ -30,7 +30,7 @@ impl<T, X: KeyIndex<T, S>, S> Map<T, X, S> {
         mut f: F,
     ) -> usize
     where
-        X: OrderedAt<P, Q, T, S>,
+        X: StepsAt<P, Q, T, S> + IndexLaws<T, S>,
         Q: Copy,
         requires callable { MayAskWithin X.order (is_within X.compare lower upper) (TakesMut F.FnMut)
             (MayLeave F.FnMut) f self.old.store }
@@ -57,7 +57,7 @@ impl<T, X: KeyIndex<T, S>, S> Map<T, X, S> {
     /// how many there are. Otherwise it behaves as `modify_range_by`.
     pub fn modify_group_by<P, Q, F: FnMut(&mut T)>(&mut self, query: Q, mut f: F) -> usize
     where
-        X: OrderedAt<P, Q, T, S>,
+        X: StepsAt<P, Q, T, S> + IndexLaws<T, S>,
         Q: Copy,
         requires callable { MayAskWithin X.order (is_equal (X.compare query)) (TakesMut F.FnMut) (MayLeave F.FnMut) f
             self.old.store }
@@ -93,7 +93,7 @@ fn modify_within<P, Q, T, S, X, F: FnMut(&mut T)>(
     f: &mut F,
 ) -> usize
 where
-    X: OrderedAt<P, Q, T, S>,
+    X: StepsAt<P, Q, T, S> + IndexLaws<T, S>,
     Q: Copy,
     requires indexed { IsIndexed (X.indexes indexes.now) state.now items.old.store }
     requires callable { let within = is_within X.compare lower upper in

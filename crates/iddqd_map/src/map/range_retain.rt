@@ -18,7 +18,7 @@ ghost use Rattle.iddqd_map.specs.RangeRetain.{AsksWithin, KeepsMisses, MayAskWit
 
 use super::Map;
 use super::steps::take_out_between;
-use crate::key_index::{KeyIndex, OrderedAt};
+use crate::key_index::{KeyIndex, StepsAt};
 use iddqd::item_index::ItemIndex;
 use iddqd::item_set::ItemSet;
 use std::ops::Bound;
@@ -38,7 +38,7 @@ impl<T, X: KeyIndex<T, S>, S> Map<T, X, S> {
     ) -> usize
     where
         T: Drop,
-        X: OrderedAt<P, Q, T, S>,
+        X: StepsAt<P, Q, T, S>,
         Q: Copy,
         requires { MayAskWithin X.order (is_within X.compare lower upper) (TakesAt F.FnMut)
             (CalledAt F.FnMut) f self.old.store }
@@ -67,7 +67,7 @@ impl<T, X: KeyIndex<T, S>, S> Map<T, X, S> {
     pub fn retain_group_by<P, Q, F: FnMut(&T) -> bool>(&mut self, query: Q, mut f: F) -> usize
     where
         T: Drop,
-        X: OrderedAt<P, Q, T, S>,
+        X: StepsAt<P, Q, T, S>,
         Q: Copy,
         requires { MayAskWithin X.order (is_equal (X.compare query)) (TakesAt F.FnMut) (CalledAt F.FnMut) f
             self.old.store }
@@ -103,7 +103,7 @@ pub(super) fn retain_counted<P, Q, T, S, X, F: FnMut(&T) -> bool, G: FnMut(T)>(
     gone: &mut G,
 ) -> usize
 where
-    X: OrderedAt<P, Q, T, S>,
+    X: StepsAt<P, Q, T, S>,
     Q: Copy,
     requires indexed { IsIndexed (X.indexes indexes.old) state.now items.old.store }
     requires can_ask { let within = is_within X.compare lower upper in
@@ -138,7 +138,7 @@ fn retain_within<P, Q, T, S, X, F: FnMut(&T) -> bool, G: FnMut(T)>(
     gone: &mut G,
 )
 where
-    X: OrderedAt<P, Q, T, S>,
+    X: StepsAt<P, Q, T, S>,
     Q: Copy,
     requires indexed { IsIndexed (X.indexes indexes.old) state.now items.old.store }
     requires can_ask { let within = is_within X.compare lower upper in
@@ -182,7 +182,7 @@ fn retain_at<P, Q, T, S, X, F: FnMut(&T) -> bool, G: FnMut(T)>(
     gone: &mut G,
 ) -> (bool, Option<ItemIndex>)
 where
-    X: OrderedAt<P, Q, T, S>,
+    X: StepsAt<P, Q, T, S>,
     Q: Copy,
     requires live { IsLive items.old.store ix }
     requires indexed { IsIndexed (X.indexes indexes.old) state.now items.old.store }

@@ -9,7 +9,7 @@ ghost use Rattle.iddqd_map.specs.RangeRetain.{GivesRefusedWithin, KeepsMisses, M
 
 use super::Map;
 use super::range_retain::retain_counted;
-use crate::key_index::{KeyIndex, OrderedAt};
+use crate::key_index::{KeyIndex, StepsAt};
 use std::ops::Bound;
 
 impl<T, X: KeyIndex<T, S>, S> Map<T, X, S> {
@@ -26,7 +26,7 @@ impl<T, X: KeyIndex<T, S>, S> Map<T, X, S> {
         mut gone: G,
     ) -> usize
     where
-        X: OrderedAt<P, Q, T, S>,
+        X: StepsAt<P, Q, T, S>,
         Q: Copy,
         requires asked { MayAskWithin X.order (is_within X.compare lower upper) (TakesAt F.FnMut)
             (CalledAt F.FnMut) keep self.old.store }
@@ -62,7 +62,7 @@ impl<T, X: KeyIndex<T, S>, S> Map<T, X, S> {
         gone: G,
     ) -> usize
     where
-        X: OrderedAt<P, Q, T, S>,
+        X: StepsAt<P, Q, T, S>,
         Q: Copy,
         requires asked { MayAskWithin X.order (is_equal (X.compare query)) (TakesAt F.FnMut) (CalledAt F.FnMut) keep
             self.old.store }

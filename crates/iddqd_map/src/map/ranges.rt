@@ -13,7 +13,7 @@ ghost use Rattle.iddqd_map.specs.Ranges.{LeavesOthers, TakesItem, GivesItem, May
 
 use super::Map;
 use super::steps::take_out_between;
-use crate::key_index::{KeyIndex, OrderedAt};
+use crate::key_index::{KeyIndex, StepsAt};
 use iddqd::item_set::ItemSet;
 use std::ops::Bound;
 
@@ -29,7 +29,7 @@ impl<T, X: KeyIndex<T, S>, S> Map<T, X, S> {
         mut f: F,
     ) -> usize
     where
-        X: OrderedAt<P, Q, T, S>,
+        X: StepsAt<P, Q, T, S>,
         Q: Copy,
         requires { MayGive F.FnMut f (live_items self.old.store) }
         ensures left { LeavesOthers self.old.store (is_within X.compare lower upper)
@@ -57,7 +57,7 @@ impl<T, X: KeyIndex<T, S>, S> Map<T, X, S> {
     /// receives each of them, by index. Otherwise it behaves as `remove_range_by`.
     pub fn remove_group_by<P, Q, F: FnMut(T)>(&mut self, query: Q, f: F) -> usize
     where
-        X: OrderedAt<P, Q, T, S>,
+        X: StepsAt<P, Q, T, S>,
         Q: Copy,
         requires { MayGive F.FnMut f (live_items self.old.store) }
         ensures left { LeavesOthers self.old.store (is_equal (X.compare query)) self.new.store }
@@ -84,7 +84,7 @@ fn remove_within<P, Q, T, S, X, F: FnMut(T)>(
     f: &mut F,
 )
 where
-    X: OrderedAt<P, Q, T, S>,
+    X: StepsAt<P, Q, T, S>,
     Q: Copy,
     requires indexed { IsIndexed (X.indexes indexes.old) state.now items.old.store }
     requires can_give { CanAsk (TakesItem F.FnMut) (λ p x (b : Bool) q. GivesItem F.FnMut p x q) f.old

@@ -9,15 +9,15 @@ ghost use Rattle.iddqd_map.specs.Groups.{listed_from};
 ghost use Rattle.iddqd_map.specs.KeyIndex.{IsIndexed};
 ghost use Rattle.iddqd_map.specs.Ranges.{itself};
 
-use crate::grouped_at::GroupedAt;
-use crate::key_index::{Inserts, KeyIndex, OrderedAt};
+use crate::grouped_at::StepsInGroup;
+use crate::key_index::{Inserts, Removes, StepsAt};
 use iddqd::item_index::ItemIndex;
 use iddqd::item_set::ItemSet;
 use std::mem;
 use std::ops::Bound;
 
 /// Removes the item at a live index from the store, and its index from the key index. It takes no memory.
-pub(super) fn take_out<T, X: KeyIndex<T, S>, S>(
+pub(super) fn take_out<T, X: Removes<T, S>, S>(
     items: &mut ItemSet<T>,
     indexes: &mut X,
     state: &S,
@@ -42,7 +42,7 @@ pub(super) fn take_out<T, X: KeyIndex<T, S>, S>(
 
 /// Removes the item at a live index as `take_out` does, and moves its spot to the next index behind it whose item's key
 /// is within the bound. Returns the item and that index.
-pub(super) fn take_out_between<P, Q, T, X: OrderedAt<P, Q, T, S>, S>(
+pub(super) fn take_out_between<P, Q, T, X: StepsAt<P, Q, T, S>, S>(
     items: &mut ItemSet<T>,
     indexes: &mut X,
     state: &S,
@@ -66,7 +66,7 @@ pub(super) fn take_out_between<P, Q, T, X: OrderedAt<P, Q, T, S>, S>(
 }
 
 /// Removes the item at an index of a group by hash as `take_out` does. Returns it, and the next index of the group.
-pub(super) fn take_out_in_group<P, Q, T, X: GroupedAt<P, Q, T, S>, S>(
+pub(super) fn take_out_in_group<P, Q, T, X: StepsInGroup<P, Q, T, S>, S>(
     items: &mut ItemSet<T>,
     indexes: &mut X,
     state: &S,

@@ -12,7 +12,8 @@ ghost use Rattle.iddqd_map.specs.Several.{both_keys};
 use super::clash::{TriClash, all_moves, clash_of};
 use crate::by_hash::ByHashOf;
 use crate::key_index::{
-    FindsSame, First, Inserts, KeyIndex, Moves, ReportsAt, Second, Third, UniqueAt, Upkeep,
+    ComparesKeys, FindsSame, First, IndexLaws, Inserts, KeyIndex, Moves, Overwrites, Removes,
+    ReportsAt, Second, TakesAt, Third, UniqueAt, Upkeep,
 };
 use crate::reported::{lesser, past};
 use iddqd::index_remap::IndexRemap;
@@ -50,22 +51,16 @@ where
     C: HashKey<T>,
     S: BuildHasher,
 {
-    ghost use Rattle.std.proofs.Common.{ap, refl};
-    ghost use Rattle.std.proofs.lemmas.Cmp.{and_equiv};
     ghost use Rattle.std.specs.Prelude.{◌≡◌, ◌+◌, min, false, ◌≤◌, ◌||◌};
     ghost use Rattle.iddqd_hash.specs.HashTable.{capacity, memory, room};
     ghost use Rattle.iddqd_hash.specs.MapHashTable.{filed};
     ghost use Rattle.iddqd_hash.specs.OpenTableSizes.{least_cells};
     ghost use Rattle.iddqd_hash.specs.Sizes.{most_cells};
-    ghost use Rattle.iddqd_hash.proofs.LeastCellsLemmas.{least_cells-grows};
     ghost use Rattle.iddqd_by_hash.specs.Hashed.{hashing_of};
     ghost use Rattle.iddqd_map.specs.Indexing.{Indexes, Plans};
-    ghost use Rattle.iddqd_map.specs.HashLaws.{shares_laws, Indexes-kept, Indexes-key_kept, Indexes-keys_shared};
-    ghost use Rattle.iddqd_map.specs.KeyLaws.{IsOfThree, reported_three, some_three, few_three};
-    ghost use Rattle.iddqd_map.specs.PairLaws.{AreApart-either, HaveSameKeys-first, HaveSameKeys-second, sum_grows};
+    ghost use Rattle.iddqd_map.specs.KeyLaws.{IsOfThree};
     ghost use Rattle.iddqd_keys.specs.KeyKeeping.{pair_keys};
     ghost use Rattle.iddqd_map.specs.Map.{shares};
-    ghost use Rattle.iddqd_map.specs.Several.{either_key, both_keys};
     ghost use Rattle.iddqd_map.specs.ThreeKeys.{any_key, all_keys, AreReported, AreTaken};
     ghost use Rattle.iddqd_map.specs.Hashed.{moves};
 
@@ -113,9 +108,6 @@ where
 
     ghost needed = { λ slots count. least_cells count + (least_cells count + least_cells count) };
 
-    ghost needed_grows = { λ slots more_slots count more wider up. let one = least_cells-grows count more up in
-        sum_grows one (sum_grows one one) };
-
     ghost may_need_memory = { false };
 
     ghost same = { λ x y. (filed y.first.table ≡ filed x.first.table)
@@ -130,6 +122,58 @@ where
         (shares C.key_of C.eq) };
 
     ghost reports = { λ at. IsOfThree at.key1 at.key2 at.key3 };
+
+    ghost are_hashes = { λ state item hashes.
+        (hashes.0 ≡ (hashing_of A.eq A.hash_input S.BuildHasher S.Hasher.Hasher state).hash_of
+        (A.key_of item))
+        × ((hashes.1.0 ≡ (hashing_of B.eq B.hash_input S.BuildHasher S.Hasher.Hasher state).hash_of
+        (B.key_of item))
+        × (hashes.1.1 ≡ (hashing_of C.eq C.hash_input S.BuildHasher S.Hasher.Hasher state).hash_of
+        (C.key_of item))) };
+
+    ghost is_position = { λ x state s item position. Unit {0} };
+
+    ghost is_planned = { λ x state s item plan. Unit {0} };
+
+    ghost has_room_for = { λ x plan blocks. (1 ≤ room x.first.table)
+        × ((1 ≤ room x.second.table) × (1 ≤ room x.third.table)) };
+
+    ghost are_none = { λ blocks. Unit {0} };
+
+    ghost are_enough_after = { λ x blocks. Unit {0} };
+
+    ghost is_move = { λ state s ix item plan.
+        Plans A.key_of (hashing_of A.eq A.hash_input S.BuildHasher S.Hasher.Hasher state) s ix item plan.0
+        × (Plans B.key_of (hashing_of B.eq B.hash_input S.BuildHasher S.Hasher.Hasher state) s ix item
+        plan.1.0
+        × Plans C.key_of (hashing_of C.eq C.hash_input S.BuildHasher S.Hasher.Hasher state) s ix item
+        plan.1.1) };
+
+    ghost moves = { λ plan. moves plan.0 || (moves plan.1.0 || moves plan.1.1) };
+
+    ghost are_enough_for = { λ x plan blocks. Unit {0} };
+}
+
+impl<T, S, A, B, C> IndexLaws<T, S> for TriIndexOf<A, B, C>
+where
+    A: HashKey<T>,
+    B: HashKey<T>,
+    C: HashKey<T>,
+    S: BuildHasher,
+{
+    ghost use Rattle.std.proofs.Common.{ap, refl};
+    ghost use Rattle.std.proofs.lemmas.Cmp.{and_equiv};
+    ghost use Rattle.iddqd_hash.specs.MapHashTable.{filed};
+    ghost use Rattle.iddqd_hash.proofs.LeastCellsLemmas.{least_cells-grows};
+    ghost use Rattle.iddqd_by_hash.specs.Hashed.{hashing_of};
+    ghost use Rattle.iddqd_map.specs.HashLaws.{shares_laws, Indexes-kept, Indexes-key_kept, Indexes-keys_shared};
+    ghost use Rattle.iddqd_map.specs.KeyLaws.{reported_three, some_three, few_three};
+    ghost use Rattle.iddqd_map.specs.PairLaws.{AreApart-either, HaveSameKeys-first, HaveSameKeys-second, sum_grows};
+    ghost use Rattle.iddqd_map.specs.Map.{shares};
+    ghost use Rattle.iddqd_map.specs.Several.{either_key, both_keys};
+
+    ghost needed_grows = { λ slots more_slots count more wider up. let one = least_cells-grows count more up in
+        sum_grows one (sum_grows one one) };
 
     ghost kept_none = { refl };
 
@@ -192,52 +236,20 @@ where
 
     ghost few_reported = { λ at. few_three at.key1 at.key2 at.key3 };
 
-    ghost are_hashes = { λ state item hashes.
-        (hashes.0 ≡ (hashing_of A.eq A.hash_input S.BuildHasher S.Hasher.Hasher state).hash_of
-        (A.key_of item))
-        × ((hashes.1.0 ≡ (hashing_of B.eq B.hash_input S.BuildHasher S.Hasher.Hasher state).hash_of
-        (B.key_of item))
-        × (hashes.1.1 ≡ (hashing_of C.eq C.hash_input S.BuildHasher S.Hasher.Hasher state).hash_of
-        (C.key_of item))) };
-
-    ghost is_position = { λ x state s item position. Unit {0} };
-
-    ghost is_planned = { λ x state s item plan. Unit {0} };
-
-    ghost has_room_for = { λ x plan blocks. (1 ≤ room x.first.table)
-        × ((1 ≤ room x.second.table) × (1 ≤ room x.third.table)) };
-
-    ghost are_none = { λ blocks. Unit {0} };
-
-    ghost are_enough_after = { λ x blocks. Unit {0} };
-
     ghost same_plans = { λ x y state s item plan same is. is };
+}
 
-    ghost is_move = { λ state s ix item plan.
-        Plans A.key_of (hashing_of A.eq A.hash_input S.BuildHasher S.Hasher.Hasher state) s ix item plan.0
-        × (Plans B.key_of (hashing_of B.eq B.hash_input S.BuildHasher S.Hasher.Hasher state) s ix item
-        plan.1.0
-        × Plans C.key_of (hashing_of C.eq C.hash_input S.BuildHasher S.Hasher.Hasher state) s ix item
-        plan.1.1) };
-
-    ghost moves = { λ plan. moves plan.0 || (moves plan.1.0 || moves plan.1.1) };
-
-    ghost are_enough_for = { λ x plan blocks. Unit {0} };
-
-    fn no_hashes() -> (Option<MapHash>, (Option<MapHash>, Option<MapHash>)) {
-        (None, (None, None))
-    }
-
+impl<T, S, A, B, C> Removes<T, S> for TriIndexOf<A, B, C>
+where
+    A: HashKey<T>,
+    B: HashKey<T>,
+    C: HashKey<T>,
+    S: BuildHasher,
+{
     fn remove(&mut self, items: &ItemSet<T>, state: &S, ix: ItemIndex) {
         self.first.remove(items, state, ix);
         self.second.remove(items, state, ix);
         self.third.remove(items, state, ix);
-    }
-
-    fn is_same(item: &T, other: &T) -> bool {
-        <ByHashOf<A> as KeyIndex<T, S>>::is_same(item, other)
-            && <ByHashOf<B> as KeyIndex<T, S>>::is_same(item, other)
-            && <ByHashOf<C> as KeyIndex<T, S>>::is_same(item, other)
     }
 }
 
@@ -287,7 +299,15 @@ where
         <ByHashOf<B> as Inserts<T, S>>::insert(&mut self.second, hashes.1.0, plan, blocks, ix);
         <ByHashOf<C> as Inserts<T, S>>::insert(&mut self.third, hashes.1.1, plan, blocks, ix);
     }
+}
 
+impl<T, S, A, B, C> Overwrites<T, S> for TriIndexOf<A, B, C>
+where
+    A: HashKey<T>,
+    B: HashKey<T>,
+    C: HashKey<T>,
+    S: BuildHasher,
+{
     fn next_reported(conflict: &TriClash, before: Option<ItemIndex>) -> Option<ItemIndex> {
         let last = lesser(past(&conflict.key2, &before), past(&conflict.key3, &before));
         lesser(past(&conflict.key1, &before), last)
@@ -313,6 +333,10 @@ where
     C: HashKey<T>,
     S: BuildHasher,
 {
+    fn no_hashes() -> (Option<MapHash>, (Option<MapHash>, Option<MapHash>)) {
+        (None, (None, None))
+    }
+
     fn plan_move(
         &self,
         items: &ItemSet<T>,
@@ -440,6 +464,20 @@ where
     }
 }
 
+impl<T, S, A, B, C> ComparesKeys<T, S> for TriIndexOf<A, B, C>
+where
+    A: HashKey<T>,
+    B: HashKey<T>,
+    C: HashKey<T>,
+    S: BuildHasher,
+{
+    fn is_same(item: &T, other: &T) -> bool {
+        <ByHashOf<A> as ComparesKeys<T, S>>::is_same(item, other)
+            && <ByHashOf<B> as ComparesKeys<T, S>>::is_same(item, other)
+            && <ByHashOf<C> as ComparesKeys<T, S>>::is_same(item, other)
+    }
+}
+
 impl<T, S, A, B, C> FindsSame<T, S> for TriIndexOf<A, B, C>
 where
     A: HashKey<T>,
@@ -515,7 +553,16 @@ where
         let (found, known) = self.first.find(items, state, query);
         (found, (known, (None, None)))
     }
+}
 
+impl<T, S, A, B, C, Q> TakesAt<First, Q, T, S> for TriIndexOf<A, B, C>
+where
+    A: HashKey<T>,
+    B: HashKey<T>,
+    C: HashKey<T>,
+    S: BuildHasher,
+    Q: ItemHashQuery<T, A>,
+{
     fn take(&mut self, items: &ItemSet<T>, state: &S, query: Q) -> Option<ItemIndex> {
         let found = self.first.take(items, state, query)?;
         self.second.remove(items, state, found);
@@ -568,7 +615,16 @@ where
         let (found, known) = self.second.find(items, state, query);
         (found, (None, (known, None)))
     }
+}
 
+impl<T, S, A, B, C, Q> TakesAt<Second, Q, T, S> for TriIndexOf<A, B, C>
+where
+    A: HashKey<T>,
+    B: HashKey<T>,
+    C: HashKey<T>,
+    S: BuildHasher,
+    Q: ItemHashQuery<T, B>,
+{
     fn take(&mut self, items: &ItemSet<T>, state: &S, query: Q) -> Option<ItemIndex> {
         let found = self.second.take(items, state, query)?;
         self.first.remove(items, state, found);
@@ -621,7 +677,16 @@ where
         let (found, known) = self.third.find(items, state, query);
         (found, (None, (None, known)))
     }
+}
 
+impl<T, S, A, B, C, Q> TakesAt<Third, Q, T, S> for TriIndexOf<A, B, C>
+where
+    A: HashKey<T>,
+    B: HashKey<T>,
+    C: HashKey<T>,
+    S: BuildHasher,
+    Q: ItemHashQuery<T, C>,
+{
     fn take(&mut self, items: &ItemSet<T>, state: &S, query: Q) -> Option<ItemIndex> {
         let found = self.third.take(items, state, query)?;
         self.first.remove(items, state, found);

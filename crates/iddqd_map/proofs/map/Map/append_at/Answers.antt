@@ -50,7 +50,7 @@ returns-in-Err-Conflict g c =
     (AppendsItem-kept g.X.KeyIndex.alike g.X.KeyIndex.grown c.args.ix item _ _ _ _ (sym c.in-Some.ensures)
     g.X.KeyIndex.conflicts
     (λ at conflicts.
-    let (ix, one) = g.met.X.KeyIndex.reported_some s item at conflicts in
-    (ix, (g.met.X.KeyIndex.reported s item at conflicts ix).0 one))
+    let (ix, one) = g.met.X.IndexLaws.reported_some s item at conflicts in
+    (ix, (g.met.X.IndexLaws.reported s item at conflicts ix).0 one))
     c.in-Err-Conflict.field-0 c.in-Err-Conflict.field-0-0 c.in-Err-Conflict.field-0-is
     c.in-Err-Conflict.ensures.prevented refl)

@@ -10,7 +10,7 @@ invariant_of-result g c =
     let copy = c.in_ok-clone.field-0.store in
     let is = c.in_ok-clone.ensures.cases in
     let kept = HaveSameKeys-cloned is_clone s copy is g.X.KeyIndex.same_keys c.requires in
-    let indexed = g.met.X.KeyIndex.same_items table state s copy kept c.self.invariant.indexed in
+    let indexed = g.met.X.IndexLaws.same_items table state s copy kept c.self.invariant.indexed in
     record {
       valid = IsValid-cloned is_clone s copy is c.self.invariant.valid;
       indexed = c.in_ok-copied.ensures.contents state copy indexed;

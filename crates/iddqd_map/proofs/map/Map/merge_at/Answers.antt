@@ -14,7 +14,7 @@ invariant_of-self g c =
     let live : get s c.args.ix ≡ Some was.now = sym {a = Some was.now} c.in-Some.ensures.value in
     let same = c.requires.keeps was (rw (← c.self.view_is) live) _ c.f.ensures in
     IsIndexed-rebound _ state s _ c.args.ix left refl c.self.invariant.valid (live_at s c.args.ix was.now live)
-    (g.met.X.KeyIndex.modified indexes state s c.args.ix was.now left c.self.invariant.indexed live same)
+    (g.met.X.IndexLaws.modified indexes state s c.args.ix was.now left c.self.invariant.indexed live same)
 
 pub returns : goal.returns
 returns g c =

@@ -31,7 +31,7 @@ returns-clause-counted g c =
     let did = c.modify_within in
     let along = ModifiesWithin-group g.F.FnMut (g.X.OrderedAt.compare c.args.query) s g.X.OrderedAt.order c.args.f did.new.f did.new.items.store did.result did.ensures.modified in
     rw (← c.self.view_is)
-    (ModifiesWithin-counts g.F.FnMut g.X.OrderedAt.order g.met.X.OrderedAt.total (is_equal (g.X.OrderedAt.compare c.args.query)) c.args.f did.new.f s did.new.items.store did.result along)
+    (ModifiesWithin-counts g.F.FnMut g.X.OrderedAt.order g.met.X.StepsAt.total (is_equal (g.X.OrderedAt.compare c.args.query)) c.args.f did.new.f s did.new.items.store did.result along)
 
 pub returns-clause-others : goal.returns-clause-others
 returns-clause-others g c =

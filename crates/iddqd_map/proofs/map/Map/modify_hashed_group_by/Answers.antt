@@ -26,7 +26,7 @@ invariant_of-self g c =
     kept_along g.F.FnMut g.X.KeyIndex.keys (IsStoredHit old test) keeps (IsIndexed (g.X.KeyIndex.indexes indexes) state)
     (λ s ix was left kept live same.
     IsIndexed-rebound _ state s _ ix left refl kept.valid (live_at s ix was live)
-    (g.met.X.KeyIndex.modified indexes state s ix was left kept.indexed live same))
+    (g.met.X.IndexLaws.modified indexes state s ix was left kept.indexed live same))
     old did.indexes old did.calls.calls c.args.f c.modify_group.new.f did.hits.once
     (λ j here. let (x, live, passed) = (did.hits.each j).0 here in (x, live, (j, live, passed)))
     (λ j here. refl) did.calls.each_once did.calls.were_called given in

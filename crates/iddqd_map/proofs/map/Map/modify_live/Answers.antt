@@ -15,7 +15,7 @@ invariant_of-self-2 g c =
     let live : get s c.args.ix ≡ Some item.now = sym {a = Some item.now} c.in_ok-item.ensures.value in
     let same = (c.requires.keeps item (rw (← c.self.view_is) live)).1 _ _ c.f.ensures in
     IsIndexed-rebound _ state s _ c.args.ix is refl c.self.invariant.valid (live_at s c.args.ix item.now live)
-    (g.met.X.KeyIndex.modified indexes state s c.args.ix item.now is c.self.invariant.indexed live same)
+    (g.met.X.IndexLaws.modified indexes state s c.args.ix item.now is c.self.invariant.indexed live same)
 
 pub returns-clause-modifies : goal.returns-clause-modifies
 returns-clause-modifies g c =

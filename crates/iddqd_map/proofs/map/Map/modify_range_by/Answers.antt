@@ -21,7 +21,7 @@ returns-clause-counted g c =
     let s = c.self.inside.items.store in
     let did = c.modify_within in
     rw (← c.self.view_is)
-    (ModifiesWithin-counts g.F.FnMut g.X.OrderedAt.order g.met.X.OrderedAt.total within c.args.f did.new.f s did.new.items.store did.result did.ensures.modified)
+    (ModifiesWithin-counts g.F.FnMut g.X.OrderedAt.order g.met.X.StepsAt.total within c.args.f did.new.f s did.new.items.store did.result did.ensures.modified)
 
 pub returns-clause-memory : goal.returns-clause-memory
 returns-clause-memory g c = rw (← c.self.view_is) (same_memory c.modify_within.ensures.slots refl refl)

@@ -54,7 +54,7 @@ loop-at-preserved g c =
           let same = c.requires.keeps c.loop-at.f item last left (at, was) called in
           record {
             kept = IsIndexed-rebound _ state now then.store at left is i.kept.valid (live_at now at item live)
-                (g.met.X.KeyIndex.modified indexes state now at item left i.kept.indexed live same);
+                (g.met.X.IndexLaws.modified indexes state now at item left i.kept.indexed live same);
             modifying = Modifying-called g.F.FnMut f old now at c.loop-at.f i.modifying within item live left last then.store called is i.kept.valid;
             slots = ap (λ (s : SizedStore _). s.capacity) made ∙ i.slots;
           }

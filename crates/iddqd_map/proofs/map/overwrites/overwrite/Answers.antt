@@ -6,14 +6,14 @@ use Rattle.iddqd_map.proofs.map.overwrites.overwrite.Goals as goal
 pub insert_in_room-requires-clause-apart : goal.insert_in_room-requires-clause-apart
 insert_in_room-requires-clause-apart g c =
     let s = c.args.items.now.store in
-    let hits = g.met.X.KeyIndex.reported s c.args.item c.args.at.now c.requires.reported in
+    let hits = g.met.X.IndexLaws.reported s c.args.item c.args.at.now c.requires.reported in
     HasNoHit-taken g.X.KeyIndex.alike g.X.KeyIndex.grown (g.X.KeyIndex.reports c.args.at.now) s c.args.item hits _ _ _ c.remove_reported.ensures.taken
 
 pub returns-clause-overwrites : goal.returns-clause-overwrites
 returns-clause-overwrites g c =
     let s = c.args.items.now.store in
-    let hits = g.met.X.KeyIndex.reported s c.args.item c.args.at.now c.requires.reported in
-    let some = g.met.X.KeyIndex.reported_some s c.args.item c.args.at.now c.requires.reported in
+    let hits = g.met.X.IndexLaws.reported s c.args.item c.args.at.now c.requires.reported in
+    let some = g.met.X.IndexLaws.reported_some s c.args.item c.args.at.now c.requires.reported in
     let took = c.remove_reported.ensures in
     let put = c.insert_in_room.ensures in
     let slots = ap (λ (s : SizedStore _). s.capacity) put.stored ∙ took.slots in

@@ -28,7 +28,7 @@ next_between-next-requires-clause-indexed g c =
     let ix = c.in-Some-next.ix in
     let now = c.loop-next.items.store in
     let one = ModifyingWithin-one _ _ _ _ _ _ _ _ _ _ ix _ _ _ i.modifying c.in-Some-next.is c.modify_slot.new.items _ _ c.requires.keeps c.modify_slot.ensures.called in
-    rw one.is (g.met.X.KeyIndex.modified c.args.indexes.now c.args.state.now now ix one.item one.left i.kept.indexed one.live one.same)
+    rw one.is (g.met.X.IndexLaws.modified c.args.indexes.now c.args.state.now now ix one.item one.left i.kept.indexed one.live one.same)
 
 pub loop-next-smaller : goal.loop-next-smaller
 loop-next-smaller g c =
@@ -36,7 +36,7 @@ loop-next-smaller g c =
     let ix = c.in-Some-next.ix in
     let then = c.modify_slot.new.items in
     let one = ModifyingWithin-one _ _ _ _ _ _ _ _ _ _ ix _ _ _ i.modifying c.in-Some-next.is then _ _ c.requires.keeps c.modify_slot.ensures.called in
-    let is_next = IsNextHit-between itself _ _ g.met.X.OrderedAt.fits then.store ix c.args.lower c.args.upper _ one.hit c.next_between-next.ensures.next in
+    let is_next = IsNextHit-between itself _ _ g.met.X.StepsAt.fits then.store ix c.args.lower c.args.upper _ one.hit c.next_between-next.ensures.next in
     ModifyingWithin-fewer _ _ _ _ _ _ _ _ _ _ ix _ _ _ i.modifying c.in-Some-next.is then _ _ one _ is_next
 
 pub loop-next-preserved : goal.loop-next-preserved
@@ -46,10 +46,10 @@ loop-next-preserved g c =
     let now = c.loop-next.items.store in
     let then = c.modify_slot.new.items in
     let one = ModifyingWithin-one _ _ _ _ _ _ _ _ _ _ ix _ _ _ i.modifying c.in-Some-next.is then _ _ c.requires.keeps c.modify_slot.ensures.called in
-    let is_next = IsNextHit-between itself _ _ g.met.X.OrderedAt.fits then.store ix c.args.lower c.args.upper _ one.hit c.next_between-next.ensures.next in
+    let is_next = IsNextHit-between itself _ _ g.met.X.StepsAt.fits then.store ix c.args.lower c.args.upper _ one.hit c.next_between-next.ensures.next in
     record {
       kept = IsIndexed-rebound _ c.args.state.now now then.store ix one.left one.is i.kept.valid (live_at now ix one.item one.live)
-          (g.met.X.KeyIndex.modified c.args.indexes.now c.args.state.now now ix one.item one.left i.kept.indexed one.live one.same);
+          (g.met.X.IndexLaws.modified c.args.indexes.now c.args.state.now now ix one.item one.left i.kept.indexed one.live one.same);
       stands = c.next_between-next.ensures.stands;
       modifying = ModifyingWithin-next _ _ _ _ _ _ _ _ _ _ ix _ _ _ i.modifying c.in-Some-next.is then _ _ one _ is_next i.kept.valid;
       slots = one.slots ∙ i.slots;
@@ -62,5 +62,5 @@ returns-clause-modified g c =
 
 pub returns-in_default-clause-modified : goal.returns-in_default-clause-modified
 returns-in_default-clause-modified g c =
-    let level = level_between g.X.OrderedAt.order g.X.OrderedAt.compare g.met.X.OrderedAt.fits c.args.lower c.args.upper in
-    ModifiesWithin-none _ g.X.KeyIndex.keys _ g.met.X.OrderedAt.total g.met.X.OrderedAt.keys_tie _ level _ _ c.in_default.ensures.first
+    let level = level_between g.X.OrderedAt.order g.X.OrderedAt.compare g.met.X.StepsAt.fits c.args.lower c.args.upper in
+    ModifiesWithin-none _ g.X.KeyIndex.keys _ g.met.X.StepsAt.total g.met.X.StepsAt.keys_tie _ level _ _ c.in_default.ensures.first

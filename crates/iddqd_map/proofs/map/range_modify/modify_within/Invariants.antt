@@ -11,13 +11,13 @@ abbrev pub invariant-loop-next : goal.invariant-loop-next
 invariant-loop-next g l =
     let order = g.X.OrderedAt.order in
     let cmp = g.X.OrderedAt.compare in
-    let total = g.met.X.OrderedAt.total in
-    let tie = g.met.X.OrderedAt.keys_tie in
+    let total = g.met.X.StepsAt.total in
+    let tie = g.met.X.StepsAt.keys_tie in
     let within = is_between (bound_map cmp l.fn.lower) (bound_map cmp l.fn.upper) in
-    let level = level_between order cmp g.met.X.OrderedAt.fits l.fn.lower l.fn.upper in
+    let level = level_between order cmp g.met.X.StepsAt.fits l.fn.lower l.fn.upper in
     record {
       kept : IsIndexed (g.X.KeyIndex.indexes l.indexes) l.state l.items.store;
-      stands : IfSome l.next (g.X.OrderedAt.stands l.indexes l.spot);
+      stands : IfSome l.next (g.X.StepsAt.stands l.indexes l.spot);
       modifying : ModifyingWithin g.F.FnMut g.X.KeyIndex.keys order total tie within level l.fn.f l.fn.items.store
           l.items.store l.next l.f l.count;
       slots : l.items.capacity ≡ l.fn.items.capacity;

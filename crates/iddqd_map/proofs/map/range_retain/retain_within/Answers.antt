@@ -28,7 +28,7 @@ loop-next-init g c =
       among = λ j x there. there;
       passing = first_passes itself compare s within (Some ix) first;
       retains = λ new last.
-          RetainsWithin-from compare g.met.X.OrderedAt.total within (AsksAndGives g.G.FnMut (CalledAt g.F.FnMut))
+          RetainsWithin-from compare g.met.X.StepsAt.total within (AsksAndGives g.G.FnMut (CalledAt g.F.FnMut))
           (c.args.keep.now, c.args.gone.now) s new last (Some ix) first;
       others = λ j other. refl;
       fewer = omega arith;
@@ -62,8 +62,8 @@ loop-next-smaller g c =
     let within = is_between (bound_map cmp c.args.lower) (bound_map cmp c.args.upper) in
     let next = c.retain_at.result.1 in
     let hit : IsHit s within ix = i.passing ix c.in-Some-next.is in
-    let is = IsNextHit-between itself compare cmp g.met.X.OrderedAt.fits s ix c.args.lower c.args.upper next hit did.next in
-    let smaller = to_ask-asked compare g.met.X.OrderedAt.total within (CalledAt g.F.FnMut) c.loop-next.keep c.retain_at.new.keep c.retain_at.new.keep s now ix hit.0 next hit.1 hit.2 is now c.retain_at.result.0
+    let is = IsNextHit-between itself compare cmp g.met.X.StepsAt.fits s ix c.args.lower c.args.upper next hit did.next in
+    let smaller = to_ask-asked compare g.met.X.StepsAt.total within (CalledAt g.F.FnMut) c.loop-next.keep c.retain_at.new.keep c.retain_at.new.keep s now ix hit.0 next hit.1 hit.2 is now c.retain_at.result.0
     (λ yes. ap (λ (z : SizedStore _). z.store) (did.kept yes)) (λ other. ap (λ (z : SizedStore _). z.store) (did.removed other)) (did.asked hit.0 hit.1) in
     rw (← c.in-Some-next.is) at smaller
 
@@ -83,14 +83,14 @@ loop-next-preserved g c =
     let did = c.retain_at.ensures in
     let b = c.retain_at.result.0 in
     let compare = g.X.OrderedAt.order in
-    let total = g.met.X.OrderedAt.total in
+    let total = g.met.X.StepsAt.total in
     let cmp = g.X.OrderedAt.compare in
     let ask = AsksAndGives g.G.FnMut (CalledAt g.F.FnMut) in
     let within = is_between (bound_map cmp c.args.lower) (bound_map cmp c.args.upper) in
     let next = c.retain_at.result.1 in
     let hit : IsHit s within ix = i.passing ix c.in-Some-next.is in
     let (item, live, passes) = hit in
-    let is = IsNextHit-between itself compare cmp g.met.X.OrderedAt.fits s ix c.args.lower c.args.upper next hit did.next in
+    let is = IsNextHit-between itself compare cmp g.met.X.StepsAt.fits s ix c.args.lower c.args.upper next hit did.next in
     let kept : b ≡ true → now ≡ s = λ yes. ap (λ (z : SizedStore _). z.store) (did.kept yes) in
     let less : b ≡ false → now ≡ removed s ix = λ other. ap (λ (z : SizedStore _). z.store) (did.removed other) in
     let answered = did.asked item live in
@@ -123,7 +123,7 @@ returns-clause-asked g c =
     let s = c.loop-next.items.store in
     let last : _ × _ = (c.loop-next.keep, c.loop-next.gone) in
     let compare = g.X.OrderedAt.order in
-    let total = g.met.X.OrderedAt.total in
+    let total = g.met.X.StepsAt.total in
     let within = is_between (bound_map g.X.OrderedAt.compare c.args.lower) (bound_map g.X.OrderedAt.compare c.args.upper) in
     let ask = AsksAndGives g.G.FnMut (CalledAt g.F.FnMut) in
     let none = RetainsFrom-none compare total within ask last s in
@@ -134,7 +134,7 @@ returns-in_default-clause-asked g c =
     let s = c.args.items.now.store in
     let f : _ × _ = (c.args.keep.now, c.args.gone.now) in
     let compare = g.X.OrderedAt.order in
-    let total = g.met.X.OrderedAt.total in
+    let total = g.met.X.StepsAt.total in
     let within = is_between (bound_map g.X.OrderedAt.compare c.args.lower) (bound_map g.X.OrderedAt.compare c.args.upper) in
     let ask = AsksAndGives g.G.FnMut (CalledAt g.F.FnMut) in
     RetainsWithin-from compare total within ask f s s f None c.in_default.ensures.first (RetainsFrom-none compare total within ask f s)

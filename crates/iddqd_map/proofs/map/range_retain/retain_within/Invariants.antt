@@ -19,7 +19,7 @@ invariant-loop-next g l =
     let both = AsksAndGives g.G.FnMut (CalledAt g.F.FnMut) in
     record {
       kept : IsIndexed (g.X.KeyIndex.indexes l.indexes) l.fn.state l.items.store;
-      stands : IfSome l.next (g.X.OrderedAt.stands l.indexes l.spot);
+      stands : IfSome l.next (g.X.StepsAt.stands l.indexes l.spot);
       can : (n : ℕ)
           → AsksFrom compare within (TakesAt g.F.FnMut) (CalledAt g.F.FnMut) l.items.store n l.keep l.next;
       can_give : (n : ℕ)
@@ -27,7 +27,7 @@ invariant-loop-next g l =
       among : (j : ℕ) (x : _) → get l.items.store j ≡ Some x → get l.fn.items.store j ≡ Some x;
       passing : (n : ℕ) → l.next ≡ Some n → IsHit l.items.store within n;
       retains : (new : Store _) (last : _)
-          → RetainsFrom compare g.met.X.OrderedAt.total within both (l.keep, l.gone) l.items.store l.next new last
+          → RetainsFrom compare g.met.X.StepsAt.total within both (l.keep, l.gone) l.items.store l.next new last
           → RetainsWithin compare within both (l.fn.keep, l.fn.gone) l.fn.items.store new last;
       others : KeepsMisses l.fn.items.store within l.items.store;
       fewer : live_count l.items.store ≤ live_count l.fn.items.store;

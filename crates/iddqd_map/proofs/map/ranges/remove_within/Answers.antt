@@ -24,7 +24,7 @@ returns-in_default-clause-left g c =
 pub returns-in_default-clause-handed : goal.returns-in_default-clause-handed
 returns-in_default-clause-handed g c =
     let within = is_between (bound_map g.X.OrderedAt.compare c.args.lower) (bound_map g.X.OrderedAt.compare c.args.upper) in
-    RemovesAlong-none g.X.OrderedAt.order g.met.X.OrderedAt.total within (GivesItem g.F.FnMut) c.args.f.now c.args.items.now.store c.in_default.ensures.first
+    RemovesAlong-none g.X.OrderedAt.order g.met.X.StepsAt.total within (GivesItem g.F.FnMut) c.args.f.now c.args.items.now.store c.in_default.ensures.first
 
 pub f-requires : goal.f-requires
 f-requires g c =
@@ -47,13 +47,13 @@ loop-next-preserved g c =
     let live : get now ix ≡ Some item = sym did.value ∙ c.in-Some-taken.is in
     let gone = ap (λ (s : SizedStore _). s.store) did.removed in
     let compare = g.X.OrderedAt.order in
-    let total = g.met.X.OrderedAt.total in
+    let total = g.met.X.StepsAt.total in
     let cmp = g.X.OrderedAt.compare in
     let within = is_between (bound_map cmp c.args.lower) (bound_map cmp c.args.upper) in
     let hits = within in
     let then = c.take_out_between-taken.result.1 in
     let first : IsFirstHit itself compare now hits (Some ix) = subst (IsFirstHit itself compare now hits) c.in-Some-next.is i.first in
-    let next = IsNextHit-between itself compare cmp g.met.X.OrderedAt.fits now ix c.args.lower c.args.upper then first.0 did.next in
+    let next = IsNextHit-between itself compare cmp g.met.X.StepsAt.fits now ix c.args.lower c.args.upper then first.0 did.next in
     record {
       kept = did.map;
       first = rw gone (IsFirstHit-removed itself compare total now hits ix item live first then next);
@@ -87,4 +87,4 @@ returns-clause-handed g c =
     let s = c.loop-next.items.store in
     let none = subst (IsFirstHit itself g.X.OrderedAt.order s within) c.in_default-next.is i.first in
     i.removes s c.loop-next.f
-    (RemovesAlong-none g.X.OrderedAt.order g.met.X.OrderedAt.total within (GivesItem g.F.FnMut) c.loop-next.f s none)
+    (RemovesAlong-none g.X.OrderedAt.order g.met.X.StepsAt.total within (GivesItem g.F.FnMut) c.loop-next.f s none)

@@ -17,7 +17,7 @@ invariant-loop-next g l =
     record {
       kept : IsIndexed (g.X.KeyIndex.indexes l.indexes) l.fn.state l.items.store;
       first : IsFirstHit itself compare l.items.store within l.next;
-      stands : IfSome l.next (g.X.OrderedAt.stands l.indexes l.spot);
+      stands : IfSome l.next (g.X.StepsAt.stands l.indexes l.spot);
       can : CanAsk (TakesItem g.F.FnMut) (λ p x (b : Bool) q. GivesItem g.F.FnMut p x q) l.f
           (live_items l.fn.items.store);
       among : (j : ℕ) (x : _) → get l.items.store j ≡ Some x → get l.fn.items.store j ≡ Some x;

@@ -10,8 +10,8 @@ returns-clause-enough g c =
     let first = min (g.A.KeyIndex.capacity old.first) (max c.args.least (live_count s)) in
     let second = min (g.B.KeyIndex.capacity old.second) (max c.args.least (live_count s)) in
     let kept = min (min (g.A.KeyIndex.capacity old.first) (g.B.KeyIndex.capacity old.second)) (max c.args.least (live_count s)) in
-    let one = needed-within g.A.KeyIndex.needed g.met.A.KeyIndex.needed_grows (slot_count s) kept first _ (omega arith) c.shrink_to-first.ensures.enough in
-    let other = needed-within g.B.KeyIndex.needed g.met.B.KeyIndex.needed_grows (slot_count s) kept second _ (omega arith) c.shrink_to-second.ensures.enough in
+    let one = needed-within g.A.KeyIndex.needed g.met.A.IndexLaws.needed_grows (slot_count s) kept first _ (omega arith) c.shrink_to-first.ensures.enough in
+    let other = needed-within g.B.KeyIndex.needed g.met.B.IndexLaws.needed_grows (slot_count s) kept second _ (omega arith) c.shrink_to-second.ensures.enough in
     omega (arith, one, other)
 
 pub returns-clause-needed : goal.returns-clause-needed
@@ -21,13 +21,13 @@ returns-clause-needed g c =
     let first = min (g.A.KeyIndex.capacity old.first) (max c.args.least (live_count s)) in
     let second = min (g.B.KeyIndex.capacity old.second) (max c.args.least (live_count s)) in
     let kept = min (min (g.A.KeyIndex.capacity old.first) (g.B.KeyIndex.capacity old.second)) (max c.args.least (live_count s)) in
-    let one = needed-within g.A.KeyIndex.needed g.met.A.KeyIndex.needed_grows (slot_count s) kept first _ (omega arith) c.shrink_to-first.ensures.enough in
-    let other = needed-within g.B.KeyIndex.needed g.met.B.KeyIndex.needed_grows (slot_count s) kept second _ (omega arith) c.shrink_to-second.ensures.enough in
+    let one = needed-within g.A.KeyIndex.needed g.met.A.IndexLaws.needed_grows (slot_count s) kept first _ (omega arith) c.shrink_to-first.ensures.enough in
+    let other = needed-within g.B.KeyIndex.needed g.met.B.IndexLaws.needed_grows (slot_count s) kept second _ (omega arith) c.shrink_to-second.ensures.enough in
     rw c.and.ensures
     (either-refused c.shrink_to-first.result c.shrink_to-second.result c.shrink_to-first.ensures.needed c.shrink_to-second.ensures.needed
     (λ fewer.
-    let less = needed-less g.A.KeyIndex.needed g.met.A.KeyIndex.needed_grows (slot_count s) kept first _ (omega arith) fewer in
+    let less = needed-less g.A.KeyIndex.needed g.met.A.IndexLaws.needed_grows (slot_count s) kept first _ (omega arith) fewer in
     omega (arith, less, other))
     (λ fewer.
-    let less = needed-less g.B.KeyIndex.needed g.met.B.KeyIndex.needed_grows (slot_count s) kept second _ (omega arith) fewer in
+    let less = needed-less g.B.KeyIndex.needed g.met.B.IndexLaws.needed_grows (slot_count s) kept second _ (omega arith) fewer in
     omega (arith, less, one)))

@@ -20,7 +20,7 @@ returns-then-len g c =
     all_from_yields_List (λ x. list_any (eq_of_both same equal x) (live_items t)) _ _ c.all.result c.all.ensures.ran
     (YieldsList-from_first (λ x. x.now) (λ rest. rest) (live_items s) c.values.ensures.items)
     (λ x b q k. search (rules, tests))
-    ∙ equal_counts same equal g.met.X.KeyIndex.equivalence g.met.T.PartialEq.laws s t apart_s apart_t
+    ∙ equal_counts same equal g.met.X.IndexLaws.equivalence g.met.T.PartialEq.laws s t apart_s apart_t
     (sym c.len.ensures.value ∙ c.if-len.true ∙ c.len-2.ensures.value)
 
 pub returns-else-len : goal.returns-else-len
@@ -32,5 +32,5 @@ returns-else-len g c =
     let apart_s = AreApart-stronger same g.X.KeyIndex.alike stronger s c.len.ensures.state.apart in
     let apart_t = AreApart-stronger same g.X.KeyIndex.alike stronger t c.len-2.ensures.state.apart in
     differs c.len.result c.len-2.result c.if-len.false
-    ∙ unequal_counts same g.T.PartialEq.eq g.met.X.KeyIndex.equivalence g.met.T.PartialEq.laws s t apart_s apart_t
+    ∙ unequal_counts same g.T.PartialEq.eq g.met.X.IndexLaws.equivalence g.met.T.PartialEq.laws s t apart_s apart_t
     (λ as_many. c.if-len.false (c.len.ensures.value ∙ as_many ∙ sym c.len-2.ensures.value))
