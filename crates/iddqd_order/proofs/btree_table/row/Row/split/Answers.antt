@@ -1,4 +1,4 @@
-use Rattle.iddqd_order.proofs.Names.{◌∙◌, ◌++◌, ◌∷◌, [], sym, ap, append_assoc, insert-append_left, insert-append_right, ◌≡◌, ℕ, ◌+◌, ◌-◌, ◌<◌, ◌≤◌, List, length, take, drop, get_or, refl, arith, length-drop, length-take-le, same_lists, insert, remove, IsSplit, most_in_row, least_in_row}
+use Rattle.iddqd_order.proofs.Names.{◌≡◌, ℕ, ◌+◌, ◌-◌, ◌<◌, ◌≤◌, List, length, take, drop, get_or, refl, arith, length-drop, length-take-le, same_lists, insert, remove, IsSplit, most_in_row, least_in_row}
 use Rattle.std.proofs.lemmas.List.{places}
 use Rattle.iddqd_order.proofs.btree_table.row.Row.split.Goals as goal
 
@@ -24,17 +24,11 @@ split_low :
     → i < least_in_row
     → let low = take least_in_row xs in
     IsSplit xs i x (insert (remove low (least_in_row - 1)) i x) (get_or low (least_in_row - 1) 0) (drop least_in_row xs)
-split_low xs i x n p =
-    let low : List ℕ = take least_in_row xs in
-    let before : List ℕ = remove low (least_in_row - 1) in
-    let m : ℕ = get_or low (least_in_row - 1) 0 in
-    let after : List ℕ = drop least_in_row xs in
-    let whole : before ++ m ∷ after ≡ xs = same_lists _ _ (grind (arith, places)) (λ k d h. grind (arith, places)) in
-    record {
-      is = sym (insert-append_left before (m ∷ after) i x (grind (arith, places))) ∙ ap (λ z. insert z i x) whole;
-      low_length = ((λ _. grind (arith, places)), (λ q. absurd (omega arith)));
-      high_length = grind (arith, places);
-    }
+split_low xs i x n p = record {
+  is = same_lists _ _ (grind (arith, places)) (λ k d h. grind (arith, places));
+  low_length = ((λ _. grind (arith, places)), (λ q. absurd (omega arith)));
+  high_length = grind (arith, places);
+}
 
 -- or to the upper part
 split_high :
@@ -44,21 +38,11 @@ split_high :
     → i ≤ most_in_row
     → let high = drop (least_in_row + 1) xs in
     IsSplit xs i x (take (least_in_row + 1) xs) (get_or high 0 0) (insert (remove high 0) (i - (least_in_row + 2)) x)
-split_high xs i x n p q =
-    let low : List ℕ = take (least_in_row + 1) xs in
-    let high : List ℕ = drop (least_in_row + 1) xs in
-    let m : ℕ = get_or high 0 0 in
-    let after : List ℕ = remove high 0 in
-    let whole : (low ++ m ∷ []) ++ after ≡ xs =
-    same_lists _ _ (grind (arith, places)) (λ k d h. grind (arith, places)) in
-    record {
-      is =
-          sym (append_assoc low (m ∷ []) (insert after (i - (least_in_row + 2)) x))
-          ∙ sym (insert-append_right (low ++ m ∷ []) after (least_in_row + 2) i x (grind (arith, places)) (omega arith))
-          ∙ ap (λ z. insert z i x) whole;
-      low_length = ((λ q. absurd (omega arith)), (λ _. grind (arith, places)));
-      high_length = grind (arith, places);
-    }
+split_high xs i x n p q = record {
+  is = same_lists _ _ (grind (arith, places)) (λ k d h. grind (arith, places));
+  low_length = ((λ q. absurd (omega arith)), (λ _. grind (arith, places)));
+  high_length = grind (arith, places);
+}
 
 pub returns-then-at-eq-LEAST : goal.returns-then-at-eq-LEAST
 returns-then-at-eq-LEAST c =
