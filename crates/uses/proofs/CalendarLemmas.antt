@@ -1,18 +1,17 @@
 -- What a look-up says of appointments if it misses, and of the one that it found, and what a closure leaves that sets
 -- the minutes.
-use Rattle.std.proofs.Common.{◌≡◌, ◌∙◌, inl, inr, ◌↔◌, ◌==◌, ℕ, Bool, true, false, Option, Some, None, sym, ap, subst, arith}
-use Rattle.std.specs.Bool.{OnTrue, OnFalse}
+use Rattle.std.proofs.Common.{◌≡◌, ◌∙◌, inl, inr, ◌↔◌, ◌==◌, ℕ, true, Some, None, sym, ap, subst, arith}
 use Rattle.std.specs.Borrow.{MutBor}
 use Rattle.std.specs.Cmp.{unsigned_tied}
 use Rattle.std.specs.Fn.{Once}
 use Rattle.std.specs.Ordering.{nat_cmp, eq_by_cmp}
 use Rattle.std.proofs.lemmas.Bool.Decides.{nat_tests}
-use Rattle.iddqd_keyed.specs.{HitsFound, ModifiesItem}
+use Rattle.iddqd_keyed.specs.{ModifiesItem}
 use Rattle.iddqd_keyed.specs.Scan.{HasNoHit, IsHit}
 use Rattle.iddqd_keyed.specs.State.{State}
 use Rattle.iddqd_keyed.specs.Store.{Store, get, rebound}
 use Rattle.iddqd_maps.proofs.CallerLemmas.{called_leaves}
-use Rattle.uses.specs.Calendar.{Extends, HasConflict, HasNone, HasOne, IsBooked}
+use Rattle.uses.specs.Calendar.{Extends, HasConflict, HasNone, IsBooked}
 use Rattle.uses.specs.declared.calendar.Appointment.{Appointment}
 
 module _ (s : Store Appointment) where
@@ -71,22 +70,6 @@ module _ (s : Store Appointment) (ix : ℕ) (a : Appointment) (live : get s ix �
       let is : (start == a.start) ≡ true =
       sym (unsigned_tied start a.start) ∙ subst (λ (x : Appointment). eq_by_cmp nat_cmp start x.start ≡ true) one passes in
       grind (arith, nat_tests, is)
-
--- whether a look-up hits tells whether there is one
-module _ (s : Store Appointment) (finds : Option ℕ → Type 0) (IsThis : Appointment → Type 0) where
-  pub one_found :
-      ((ix : ℕ) → finds (Some ix) → (a : Appointment) × (get s ix ≡ Some a) × IsThis a)
-      → (r : Bool)
-      → HitsFound finds r
-      → OnTrue r (HasOne s IsThis)
-  one_found hits true (ix, found) =
-      let (a, live, is) = hits ix found in
-      (a, (ix, live), is)
-  one_found hits false found = tt
-
-  pub none_missed : (finds None → HasNone s IsThis) → (r : Bool) → HitsFound finds r → OnFalse r (HasNone s IsThis)
-  none_missed misses true found = tt
-  none_missed misses false found = misses found
 
 -- an appointment that a closure modified, which sets the minutes, takes so many
 pub extends :
