@@ -18,10 +18,11 @@
 //! capacity no key index holds memory for a call to come.
 //!
 //! The trait `KeyIndex` has types and definitions, and no method; `IndexLaws` above it has the laws. The calls are
-//! traits above these: `Removes`, `Inserts`, `Overwrites`, `Moves`, `Upkeep` and `ComparesKeys`, and for a key at a
-//! place one trait that finds and one that goes on from there and removes. So a look-up needs only the method that it
-//! calls, which keeps callers cheap: the proof of a caller pays for each method of each trait that its bounds lead to,
-//! once for each path to it, and at a pair for both halves.
+//! traits above these: `Removes`, `Inserts`, `Overwrites`, `Moves`, `Upkeep` and `ComparesKeys`. For a key at a place
+//! `UniqueAt` and `GroupedAt` find, and `TakesAt` and `StepsInGroup` over them remove. For a key in order `OrderedAt`
+//! has the order alone, and `StepsAt` over it the calls. So a look-up needs only the method that it calls, which keeps
+//! callers cheap: the proof of a caller pays for each method of each trait that its bounds lead to, once for each path
+//! to it, and at a pair for both halves.
 //!
 //! The laws stand apart since they are proved by laws of the keys. In a trait without methods only a member that names
 //! something of another trait counts as a law, and may be proved so.
