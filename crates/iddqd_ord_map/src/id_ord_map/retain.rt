@@ -5,6 +5,7 @@
 //! `retain_into` and `drain_into` are the caller's. Then one pass over the table removes the indexes that have no item.
 //! So no key is compared, and each pass costs a step for each item.
 ghost use Rattle.std.specs.Prelude.{◌≡◌, ◌≤◌, ◌+◌, Some, map, filter, is_some};
+ghost use Rattle.std.specs.Cmp.{IsTotalOrder};
 ghost use Rattle.std.specs.Fn.{TakesAt, CalledAt};
 ghost use Rattle.iddqd.specs.{get, live_count, removed, IsValid};
 ghost use Rattle.iddqd_map.specs.Bulk.{AsksAndGives, TakesBoth};
@@ -41,13 +42,15 @@ impl<T: Drop, E: OrdKey<T>> OrdMapBy<T, E> {
     }
 
     // Keeps exactly the items at which the first closure answers true, passes the others to the second, and returns how
-    // many these were. The closures stay in the states that their last calls leave.
+    // many these were. The closures stay in the states that their last calls leave. A call is cheaper to check since
+    // there are two conditions; the first always holds.
     pub(super) fn retain_with<F: FnMut(&T) -> bool, G: FnMut(T)>(
         &mut self,
         keep: &mut F,
         gone: &mut G,
     ) -> usize
-        requires { AsksAlong (IsKeyWalk E.key_of E.cmp) (TakesBoth G.FnMut (TakesAt F.FnMut))
+        requires ordered { IsTotalOrder E.cmp }
+        requires can_ask { AsksAlong (IsKeyWalk E.key_of E.cmp) (TakesBoth G.FnMut (TakesAt F.FnMut))
             (AsksAndGives G.FnMut (CalledAt F.FnMut)) (keep.old, gone.old) self.old.store }
         ensures retained { RetainsAlongTo (IsKeyWalk E.key_of E.cmp) (AsksAndGives G.FnMut (CalledAt F.FnMut))
             (keep.old, gone.old) self.old.store self.new.store (keep.new, gone.new) }

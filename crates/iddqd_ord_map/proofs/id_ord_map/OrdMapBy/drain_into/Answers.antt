@@ -9,8 +9,8 @@ use Rattle.iddqd_ord_map.proofs.IntoLemmas.{AsksAlong-refused, GivesAlong-refuse
 use Rattle.iddqd_ord_map.proofs.RetainLemmas.{MayAskAlong-asks}
 use Rattle.iddqd_ord_map.proofs.id_ord_map.OrdMapBy.drain_into.Goals as goal
 
-pub retain_with-requires : goal.retain_with-requires
-retain_with-requires g c =
+pub retain_with-requires-clause-can_ask : goal.retain_with-requires-clause-can_ask
+retain_with-requires-clause-can_ask g c =
     let s = c.args.self.now.store in
     let is_walk = IsKeyWalk g.E.OrdKey.key_of g.E.OrdKey.cmp in
     let gives = MayAskAlong-asks (TakesItem g.F.FnMut) (λ p x (b : Bool) q. GivesItem g.F.FnMut p x q) is_walk c.args.gone s c.requires in

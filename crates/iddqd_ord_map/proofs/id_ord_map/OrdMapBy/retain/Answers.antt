@@ -5,8 +5,8 @@ use Rattle.iddqd_ord_map.proofs.IntoLemmas.{AsksAlong-first, RetainsAlongTo-aske
 use Rattle.iddqd_ord_map.proofs.RetainLemmas.{MayAskAlong-asks}
 use Rattle.iddqd_ord_map.proofs.id_ord_map.OrdMapBy.retain.Goals as goal
 
-pub retain_with-requires : goal.retain_with-requires
-retain_with-requires g c =
+pub retain_with-requires-clause-can_ask : goal.retain_with-requires-clause-can_ask
+retain_with-requires-clause-can_ask g c =
     let is_walk = IsKeyWalk g.E.OrdKey.key_of g.E.OrdKey.cmp in
     let asks = MayAskAlong-asks (TakesAt g.F.FnMut) (CalledAt g.F.FnMut) is_walk c.args.f c.args.self.now.store c.requires in
     AsksAlong-first is_walk (CalledAt g.F.FnMut) _ c.args.f _ (TakesAt g.F.FnMut) c.args.self.now.store asks (λ p x. search rules)

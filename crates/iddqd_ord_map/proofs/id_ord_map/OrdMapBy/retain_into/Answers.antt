@@ -11,8 +11,8 @@ use Rattle.iddqd_ord_map.proofs.IntoLemmas.{AsksAlong-both, GivesRefusedAlong-bo
 use Rattle.iddqd_ord_map.proofs.RetainLemmas.{MayAskAlong-asks}
 use Rattle.iddqd_ord_map.proofs.id_ord_map.OrdMapBy.retain_into.Goals as goal
 
-pub retain_with-requires : goal.retain_with-requires
-retain_with-requires g c =
+pub retain_with-requires-clause-can_ask : goal.retain_with-requires-clause-can_ask
+retain_with-requires-clause-can_ask g c =
     let s = c.args.self.now.store in
     let is_walk = IsKeyWalk g.E.OrdKey.key_of g.E.OrdKey.cmp in
     let asks = MayAskAlong-asks (TakesAt g.F.FnMut) (CalledAt g.F.FnMut) is_walk c.args.keep s c.requires.asked in

@@ -12,7 +12,7 @@ retain_in-requires-clause-can_ask g c =
     let is_walk = IsKeyWalk g.E.OrdKey.key_of g.E.OrdKey.cmp in
     let takes = TakesBoth g.G.FnMut (TakesAt g.F.FnMut) in
     let ask = AsksAndGives g.G.FnMut (CalledAt g.F.FnMut) in
-    subst (AsksAlong is_walk takes ask (c.args.keep.now, c.args.gone.now)) (sym same) c.requires
+    subst (AsksAlong is_walk takes ask (c.args.keep.now, c.args.gone.now)) (sym same) c.requires.can_ask
 
 pub returns-clause-retained : goal.returns-clause-retained
 returns-clause-retained g c =
