@@ -17,6 +17,7 @@ use crate::btree_table::asking::Asking;
 use crate::btree_table::node::Node;
 use crate::btree_table::path::Path;
 use crate::btree_table::reading::{Reads, by_query};
+use crate::btree_table::removal::ToGap;
 use crate::btree_table::table::MapBTreeTable;
 use iddqd::item_index::ItemIndex;
 use iddqd::map_hash::Comparable;
@@ -91,7 +92,7 @@ impl MapBTreeTable {
         ensures memory { capacity self.new ≡ capacity self.old }
     {
         let mut path = spot.path.copied();
-        self.remove_along(&mut path, spot.level);
+        self.remove_along::<ToGap>(&mut path, spot.level);
         let (ix, level) = self.behind(&path)?;
         *spot = Spot { path, level };
         Some(ix)

@@ -2,7 +2,7 @@
 //!
 //! The table's calls are one file: most are a search and a few lines, beside a contract. How the search walks and how
 //! the tree changes stands in other modules.
-ghost use Rattle.std.specs.Prelude.{◌≡◌, ◌≢◌, ◌↔◌, ℕ, ◌+◌, ◌-◌, ◌<◌, ◌≤◌, List, [], length, map, slice_get, slice_index, is_some, IfOk, IsOk, IsSome, Contains, insert, IsTrue, false, Some, None};
+ghost use Rattle.std.specs.Prelude.{◌≡◌, ◌≢◌, ◌↔◌, ℕ, ◌+◌, ◌-◌, ◌<◌, ◌≤◌, List, [], length, map, slice_get, slice_index, is_some, IfOk, IsOk, IsSome, Contains, insert, IsTrue, true, false, Some, None};
 ghost use Rattle.std.specs.List.{remove};
 ghost use Rattle.std.specs.declared.cmp.Ordering.{Ordering};
 ghost use Rattle.iddqd.specs.Compaction.{CanRemap, remapped};
@@ -28,7 +28,7 @@ use crate::btree_table::path::Path;
 use crate::btree_table::prepared_insert::PreparedBTreeInsert;
 use crate::btree_table::prepared_remove::PreparedBTreeRemove;
 use crate::btree_table::reading::{AsOrdering, ByKey, ByQuery, Reads};
-use crate::btree_table::removal::remove_in;
+use crate::btree_table::removal::{GoesOn, Nowhere, remove_in};
 use crate::btree_table::renaming::rename_in;
 use crate::btree_table::reserve::{MOST_INDEXES, Reserve};
 use crate::btree_table::retain::retain_in;
@@ -650,12 +650,11 @@ impl MapBTreeTable {
         ensures reserved { self.new.reserved ≡ self.old.reserved }
     {
         let mut path = spot.path.copied();
-        self.remove_along(&mut path, spot.level)
+        self.remove_along::<Nowhere>(&mut path, spot.level)
     }
 
-    // Removes the index to which the path goes at the level, and returns it. The path then goes to the gap where the
-    // index stood.
-    pub(super) fn remove_along(&mut self, path: &mut Path, level: usize) -> ItemIndex
+    // Removes the index to which the path goes at the level, sends the path on, and returns the index.
+    pub(super) fn remove_along<G: GoesOn>(&mut self, path: &mut Path, level: usize) -> ItemIndex
         requires holds { ReachesIndexIn level self.old.root self.old.height path.old }
         requires path { length path.old ≡ most_levels }
         ensures within { place_at_level_in level self.old.root self.old.height path.old < length (order_of self.old) }
@@ -664,14 +663,20 @@ impl MapBTreeTable {
         ensures removed { order_of self.new ≡ without (order_of self.old) result }
         ensures items { order_of self.new ≡ remove (order_of self.old)
             (place_at_level_in level self.old.root self.old.height path.old) }
-        ensures goes { ReachesGapIn self.new.root self.new.height path.new }
-        ensures place { place_in self.new.root self.new.height path.new
+        ensures goes { G.to_gap ≡ true → ReachesGapIn self.new.root self.new.height path.new }
+        ensures place { G.to_gap ≡ true → place_in self.new.root self.new.height path.new
             ≡ place_at_level_in level self.old.root self.old.height path.old }
         ensures path { length path.new ≡ most_levels }
         ensures no_higher { self.new.height ≤ self.old.height }
         ensures reserved { self.new.reserved ≡ self.old.reserved }
     {
-        let (ix, height) = remove_in(&mut self.root, self.height, path, level, &mut self.reserve);
+        let (ix, height) = remove_in::<G>(
+            &mut self.root,
+            self.height,
+            path,
+            level,
+            &mut self.reserve,
+        );
         self.height = height;
         self.len -= 1;
         ix

@@ -1,4 +1,4 @@
-use Rattle.iddqd_order.proofs.Names.{rules, refl, most_levels, ◌<◌, [], ◌∷◌, ◌++◌, length, ℕ, suc, ◌-◌, remove, slice_index, arith, ap, sym, ◌∙◌, ◌≡◌, subst, child, roll-Node, out-roll-Node, row, children, child_room, flat, place_at_level}
+use Rattle.iddqd_order.proofs.Names.{true, rules, refl, most_levels, ◌<◌, [], ◌∷◌, ◌++◌, length, ℕ, suc, ◌-◌, remove, slice_index, arith, ap, sym, ◌∙◌, ◌≡◌, subst, child, roll-Node, out-roll-Node, row, children, child_room, flat, place_at_level}
 use Rattle.iddqd_order.proofs.NodeLemmas.{row-roll, children-roll, room-roll}
 use Rattle.iddqd_order.proofs.RemovalLemmas.{holds-leaf, holds-level, goes-below, ends-inner, child-below, child-before, remade-leaf, TookNow, took-now, took-below, took-here, remade, room-kept}
 use Rattle.iddqd_order.proofs.DescentLemmas.{child_is}
@@ -11,12 +11,12 @@ use Rattle.iddqd_order.proofs.btree_table.node.Node.+remove.Goals as goal
 use Rattle.iddqd_order.proofs.btree_table.node.Node.+remove.Goals.{then-height-level, else-height-level}
 
 pub remove-requires : goal.remove-requires
-remove-requires t c =
+remove-requires g t c =
     let e = c.get-i.ensures ∙ ap (λ z. slice_index c.args.path.now z) c.if-height-eq0.true in
     rw e (holds-leaf c.args.level c.args.height c.args.self.now c.args.path.now c.if-height-eq0.true c.requires.holds)
 
 pub returns-then-height-eq0 : goal.returns-then-height-eq0
-returns-then-height-eq0 t c =
+returns-then-height-eq0 g t c =
     let k =
     remade-leaf c.args.level c.args.height c.get-i.result c.args.self.now
     (roll-Node _) c.args.path.now c.if-height-eq0.true c.get-i.ensures c.requires.formed c.requires.holds
@@ -32,21 +32,21 @@ returns-then-height-eq0 t c =
       counted =
           unchanged c.args.reserve.now (inners-leaf c.args.height c.args.self.now c.if-height-eq0.true)
           (inners-leaf c.args.height (roll-Node _) c.if-height-eq0.true);
-      goes = left.goes;
-      place = left.place;
+      goes = λ wanted. left.goes;
+      place = λ wanted. left.place;
       path = c.requires.path;
       above = λ m lt. refl;
     }
 
 pub index_mut-requires : goal.index_mut-requires
-index_mut-requires t c =
+index_mut-requires g t c =
     search (rules, (ends-inner c.args.height c.args.level c.get-i.result c.args.self.now c.args.path.now c.if-height-eq0.false c.if-height-level.true c.get-i.ensures c.requires.formed c.requires.holds).here)
 
 pub get-here-requires : goal.get-here-requires
-get-here-requires t c = (ends-here (omega (arith, c.if-height-level.true)) c.get-i.ensures c.requires.formed c.requires.holds).within
+get-here-requires g t c = (ends-here (omega (arith, c.if-height-level.true)) c.get-i.ensures c.requires.formed c.requires.holds).within
 
 pub remove_last-last-requires : goal.remove_last-last-requires
-remove_last-last-requires t c =
+remove_last-last-requires g t c =
     let e = ends-inner c.args.height c.args.level c.get-i.result c.args.self.now c.args.path.now c.if-height-eq0.false c.if-height-level.true c.get-i.ensures c.requires.formed c.requires.holds in
     let at = e.within in
     let b =
@@ -59,38 +59,38 @@ remove_last-last-requires t c =
     record { some = omega arith; formed = b.1.1; counted = omega (arith, k, c.requires.counted) }
 
 pub set-requires : goal.set-requires
-set-requires t c =
+set-requires g t c =
     simp out-roll-Node (ends-inner c.args.height c.args.level c.get-i.result c.args.self.now c.args.path.now c.if-height-eq0.false c.if-height-level.true c.get-i.ensures c.requires.formed c.requires.holds).within
 
 pub overflow_add-i : goal.overflow_add-i
-overflow_add-i t c =
+overflow_add-i g t c =
     omega (arith, (ends-here (omega (arith, c.if-height-level.true)) c.get-i.ensures c.requires.formed c.requires.holds).low)
 
 pub set_and_zero_below-requires-clause-place : goal.set_and_zero_below-requires-clause-place
-set_and_zero_below-requires-clause-place t c =
+set_and_zero_below-requires-clause-place g t c =
     omega (arith, (ends-here (omega (arith, c.if-height-level.true)) c.get-i.ensures c.requires.formed c.requires.holds).low)
 
 pub index_mut-requires-else-height-level : goal.index_mut-requires-else-height-level
-index_mut-requires-else-height-level t c =
+index_mut-requires-else-height-level g t c =
     let le = holds-level c.args.level c.args.height c.args.self.now c.args.path.now c.requires.holds in
     search (rules, (goes-below c.args.height c.args.level c.get-i.result c.args.self.now c.args.path.now (omega arith) c.get-i.ensures c.requires.formed c.requires.holds).here)
 
 pub remove-removed-requires : goal.remove-removed-requires
-remove-removed-requires t c =
+remove-removed-requires g t c = λ κs within.
     let b = child-below c.args.level c.args.height c.get-i.result c.args.self.now c.index_mut-else-height-level.result.now c.args.path.now c.if-height-eq0.false c.if-height-level.false c.get-i.ensures c.requires.formed c.requires.holds (search rules) in
     let five = b.formed.0 in
     let le = holds-level c.args.level c.args.height c.args.self.now c.args.path.now c.requires.holds in
     let here = (goes-below c.args.height c.args.level c.get-i.result c.args.self.now c.args.path.now (omega arith) c.get-i.ensures c.requires.formed c.requires.holds).here in
     let k = child-counted c.args.height c.get-i.result c.args.self.now c.index_mut-else-height-level.result.now c.if-height-eq0.false here (search rules) in
-    (omega arith, (omega arith, (omega arith, (b.formed.1, (b.holds, (c.requires.path, omega (arith, k, c.requires.counted)))))))
+    (omega arith, (within, (omega arith, (omega arith, (b.formed.1, (b.holds, (c.requires.path, omega (arith, k, c.requires.counted))))))))
 
 -- what is mended, on both ways
 took :
-    (t : ℕ) (c : goal.After-mend_along-arg-4-1 t)
+    (g : _) (t : ℕ) (c : goal.After-mend-arg-4-1 g t)
     → TookNow c.args.height c.get-i.result c.args.self.now c.if-height-level.self
     (remove (flat c.args.height c.args.self.now)
     (place_at_level c.args.level c.args.height c.args.self.now c.args.path.now))
-took t c =
+took g t c =
     elim c.if-height-level.branch [
       | then-height-level w ↦
           (let d = w.remove_last-last.ensures in
@@ -109,11 +109,11 @@ took t c =
 
 -- the index is the one to which the path goes, on both ways
 index :
-    (t : ℕ) (c : goal.After-mend_along-arg-4-1 t)
+    (g : _) (t : ℕ) (c : goal.After-mend-arg-4-1 g t)
     → c.if-height-level.removed
     ≡ slice_index (flat c.args.height c.args.self.now)
     (place_at_level c.args.level c.args.height c.args.self.now c.args.path.now)
-index t c =
+index g t c =
     elim c.if-height-level.branch [
       | then-height-level w ↦
           w.removed-is ∙ w.get-here.ensures
@@ -130,10 +130,10 @@ index t c =
     ]
 
 below :
-    (t : ℕ) (c : goal.After-mend_along-arg-4-1 t)
+    (g : _) (t : ℕ) (c : goal.After-mend-arg-4-1 g t)
     → Recounts c.args.reserve.now c.if-height-level.reserve (inners c.args.height c.args.self.now)
     (suc (inners_of (c.args.height - 1) (children c.if-height-level.self)))
-below t c =
+below g t c =
     elim c.if-height-level.branch [
       | then-height-level w ↦
           (let e = ends-inner c.args.height c.args.level c.get-i.result c.args.self.now c.args.path.now c.if-height-eq0.false w.if-height-level.true c.get-i.ensures c.requires.formed c.requires.holds in
@@ -149,10 +149,11 @@ below t c =
 
 -- where the path goes then, on both ways
 left :
-    (t : ℕ) (c : goal.After-mend_along-arg-4-1 t)
+    (g : _) (t : ℕ) (c : goal.After-mend-arg-4-1 g t)
+    → g.G.GoesOn.to_gap ≡ true
     → LeadsTo c.args.height (row c.if-height-level.self) (children c.if-height-level.self) c.if-height-level.path
     (place_at_level c.args.level c.args.height c.args.self.now c.args.path.now)
-left t c =
+left g t c wanted =
     elim c.if-height-level.branch [
       | then-height-level w ↦
           (let set_is = simp out-roll-Node at w.set.ensures in
@@ -167,53 +168,53 @@ left t c =
           let same : slice_index w.remove-removed.new.path c.args.height ≡ c.get-i.result =
           d.above c.args.height (omega arith) ∙ sym c.get-i.ensures in
           rw (ap row w.self-is ∙ row-roll _, ap children w.self-is ∙ children-roll _, w.path-is)
-          (left-below c.args.level c.args.height c.get-i.result c.args.self.now w.index_mut-else-height-level.result.now w.remove-removed.new.self c.args.path.now w.remove-removed.new.path c.if-height-eq0.false w.if-height-level.false c.get-i.ensures c.requires.formed c.requires.holds (search rules) same (record { goes = d.goes; place = d.place })))
+          (left-below c.args.level c.args.height c.get-i.result c.args.self.now w.index_mut-else-height-level.result.now w.remove-removed.new.self c.args.path.now w.remove-removed.new.path c.if-height-eq0.false w.if-height-level.false c.get-i.ensures c.requires.formed c.requires.holds (search rules) same (record { goes = d.goes wanted; place = d.place wanted })))
     ]
 
 -- what stays of it
 kept_above :
-    (t : ℕ) (c : goal.After-mend_along-arg-4-1 t)
+    (g : _) (t : ℕ) (c : goal.After-mend-arg-4-1 g t)
     → (length c.if-height-level.path ≡ most_levels)
     × ((m : ℕ) → c.args.height < m → slice_index c.if-height-level.path m ≡ slice_index c.args.path.now m)
-kept_above t c =
+kept_above g t c =
     elim c.if-height-level.branch [
       | then-height-level w ↦ rw w.path-is (w.set_and_zero_below.ensures.length, w.set_and_zero_below.ensures.above)
       | else-height-level w ↦ rw w.path-is (w.remove-removed.ensures.path, λ m lt. w.remove-removed.ensures.above m (omega arith))
     ]
 
-pub mend_along-requires : goal.mend_along-requires
-mend_along-requires t c =
+pub mend-requires : goal.mend-requires
+mend-requires g t c =
     let inner = c.if-height-eq0.false in
     let levels = c.requires.levels in
     record {
       inner = omega arith;
       levels = c.requires.levels;
-      lacks = (took t c).took.may_lack;
-      some = omega (arith, c.requires.counted, (below t c).inners);
-      leads = (left t c).leads;
-      path = (kept_above t c).0;
+      lacks = (took g t c).took.may_lack;
+      some = omega (arith, c.requires.counted, (below g t c).inners);
+      leads = λ wanted. (left g t c wanted).leads;
+      path = (kept_above g t c).0;
     }
 
 pub returns : goal.returns
-returns t c =
-    let k = took t c.before in
-    let did = c.mend_along.ensures in
+returns g t c =
+    let k = took g t c.before in
+    let did = c.mend.ensures in
     let m =
     remade c.args.height c.get-i.result c.args.self.now (roll-Node _) _ _ _ _ _ k.took did.mended (row-roll _)
     (children-roll _) (room-kept c.args.self.now _ (did.capacity ∙ k.room_is)) in
-    let was = left t c.before in
-    let there = goes-there c.args.height (roll-Node _) _ _ c.mend_along.new.path (place_at_level c.args.level c.args.height c.args.self.now c.args.path.now) c.if-height-eq0.false (row-roll _) (children-roll _) (record { leads = did.leads; place = λ d. did.place d d ∙ was.place d }) in
+    let there = λ (wanted : g.G.GoesOn.to_gap ≡ true).
+    goes-there c.args.height (roll-Node _) _ _ c.mend.new.path (place_at_level c.args.level c.args.height c.args.self.now c.args.path.now) c.if-height-eq0.false (row-roll _) (children-roll _) (record { leads = did.leads wanted; place = λ d. did.place wanted d d ∙ (left g t c.before wanted).place d }) in
     record {
-      index = index t c.before;
+      index = index g t c.before;
       items = m.items;
       formed = m.formed;
       fewer = m.fewer;
-      counted = recounted-mended c.args.height c.args.self.now (roll-Node _) (children c.if-height-level.self) c.mend_along.new.children.items c.args.reserve.now c.if-height-level.reserve c.mend_along.new.reserve c.if-height-eq0.false (below t c.before) did.counted (children-roll _);
-      goes = there.goes;
-      place = there.place;
+      counted = recounted-mended c.args.height c.args.self.now (roll-Node _) (children c.if-height-level.self) c.mend.new.children.items c.args.reserve.now c.if-height-level.reserve c.mend.new.reserve c.if-height-eq0.false (below g t c.before) did.counted (children-roll _);
+      goes = λ wanted. (there wanted).goes;
+      place = λ wanted. (there wanted).place;
       path = did.path;
-      above = λ m lt. did.above m lt ∙ (kept_above t c.before).1 m lt;
+      above = λ m lt. did.above m lt ∙ (kept_above g t c.before).1 m lt;
     }
 
 pub set_and_zero_below-requires-clause-path : goal.set_and_zero_below-requires-clause-path
-set_and_zero_below-requires-clause-path t c = c.requires.path
+set_and_zero_below-requires-clause-path g t c = c.requires.path

@@ -1,4 +1,4 @@
 use Rattle.iddqd_order.proofs.btree_table.node.Node.+remove.Given as goal
 
 abbrev pub decreases-remove : goal.decreases-remove
-decreases-remove l = l.height
+decreases-remove g l = l.height

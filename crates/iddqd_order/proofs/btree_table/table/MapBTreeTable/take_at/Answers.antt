@@ -1,6 +1,6 @@
 use Rattle.std.proofs.lemmas.Bool.{false≢true}
 use Rattle.std.specs.List.{slice_get}
-use Rattle.iddqd_order.proofs.Names.{ℕ, ◌∙◌, ap, sym, slice_index, place_in}
+use Rattle.iddqd_order.proofs.Names.{ℕ, ◌∙◌, ap, refl, sym, slice_index, place_in}
 use Rattle.std.proofs.lemmas.Option.{get_or_from_slice_get}
 use Rattle.iddqd_order.specs.MapBTreeTable.{capacity, capacity_of, order_of, spot_place, without}
 use Rattle.iddqd_order.proofs.SpotLemmas.{remove-next}
@@ -17,9 +17,9 @@ returns c =
     record {
       within = did.within;
       removed = did.removed ∙ ap (without (order_of old)) did.index;
-      next = b.next ∙ (λ j. slice_get (did.items j) (did.place j)) ∙ remove-next (order_of old) at did.within;
+      next = b.next ∙ (λ j. slice_get (did.items j) (did.place refl j)) ∙ remove-next (order_of old) at did.within;
       spot = record { is_spot = b.level; index = ap (slice_index (order_of t)) b.place ∙ get_or_from_slice_get (order_of t) (place_in t.root t.height c.remove_along.new.path) _ 0 (sym b.next) };
-      place = λ some. b.place ∙ did.place;
+      place = λ some. b.place ∙ did.place refl;
       memory = ap (λ (r : ℕ). capacity_of r) did.reserved;
     }
 
@@ -32,8 +32,11 @@ returns-in_err-ix c =
     rw c.from_residual.ensures (record {
       within = did.within;
       removed = did.removed ∙ ap (without (order_of old)) did.index;
-      next = c.in_err-ix.ensures.next ∙ (λ j. slice_get (did.items j) (did.place j)) ∙ remove-next (order_of old) at did.within;
+      next = c.in_err-ix.ensures.next ∙ (λ j. slice_get (did.items j) (did.place refl j)) ∙ remove-next (order_of old) at did.within;
       spot = tt;
       place = λ some. absurd (false≢true some);
       memory = ap (λ (r : ℕ). capacity_of r) did.reserved;
     })
+
+pub behind-requires : goal.behind-requires
+behind-requires c = c.remove_along.ensures.goes refl
