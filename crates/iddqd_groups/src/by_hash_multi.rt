@@ -39,7 +39,8 @@ use iddqd_keys::key_kinds::Field;
 use iddqd_map::grouped_at::{GroupedAt, StepsInGroup};
 use iddqd_map::hashed_plan::move_of;
 use iddqd_map::key_index::{
-    ComparesKeys, Here, IndexLaws, Inserts, KeyIndex, Moves, Overwrites, Removes, Upkeep,
+    ComparesKeys, Here, IndexLaws, Inserts, KeyIndex, Moves, Overwrites, PlanLaws, PlansChanges,
+    Removes, Upkeep,
 };
 use iddqd_map::map::Parts;
 pub use iddqd_map::no_conflict::NoConflict;
@@ -92,28 +93,12 @@ where
     E: HashKey<T>,
     S: BuildHasher,
 {
-    ghost use Rattle.std.specs.FinMap as finite;
     ghost use Rattle.iddqd_groups.specs.LinkedTable.{most_linked, kept_linked, needed_linked};
     ghost use Rattle.iddqd_groups.specs.ByHashMulti.{FilesWithin, HasSameIndexes};
     ghost use Rattle.iddqd_map.specs.Map.{shares};
     ghost use Rattle.iddqd_map.specs.NoConflict.{never_alike};
-    ghost use Rattle.std.specs.Prelude.{◌<◌};
-    ghost use Rattle.iddqd_map.specs.Files.{IsMoveFor};
-    ghost use Rattle.iddqd_map.specs.Hashed.{moves};
-
-    type Conflict = NoConflict;
 
     type KnownHashes = ();
-
-    type Hashes = MapHash;
-
-    type Position = ();
-
-    type InsertPlan = ();
-
-    type MovePlan = Move;
-
-    type Blocks = ();
 
     ghost Keys = { E.Key };
 
@@ -143,6 +128,29 @@ where
     ghost same = { λ x y. HasSameIndexes x.table y.table };
 
     ghost unique_keys = { 0 };
+}
+
+impl<T, S, E> PlansChanges<T, S> for ByHashMultiOf<E>
+where
+    E: HashKey<T>,
+    S: BuildHasher,
+{
+    ghost use Rattle.std.specs.FinMap as finite;
+    ghost use Rattle.std.specs.Prelude.{◌<◌};
+    ghost use Rattle.iddqd_map.specs.Files.{IsMoveFor};
+    ghost use Rattle.iddqd_map.specs.Hashed.{moves};
+
+    type Conflict = NoConflict;
+
+    type Hashes = MapHash;
+
+    type Position = ();
+
+    type InsertPlan = ();
+
+    type MovePlan = Move;
+
+    type Blocks = ();
 
     ghost conflicts = { λ s item at. ⊥ };
 
@@ -181,7 +189,7 @@ where
     ghost use Rattle.iddqd_map.specs.PairLaws.{sum_grows};
     ghost use Rattle.iddqd_groups.specs.ByHashMultiLaws.{FilesWithin-kept, FilesWithin-key_kept, FilesWithin-keys_shared};
     ghost use Rattle.iddqd_map.specs.HashLaws.{shares_laws};
-    ghost use Rattle.iddqd_map.specs.NoConflict.{never_apart, none_named};
+    ghost use Rattle.iddqd_map.specs.NoConflict.{never_apart};
 
     ghost needed_grows = { λ slots more_slots count more wider up.
         sum_grows (least_cells-grows count more up) wider };
@@ -202,6 +210,14 @@ where
         S.BuildHasher S.Hasher.Hasher E.laws E.respects_eq state s x.table is t have };
 
     ghost equivalence = { shares_laws E.key_of E.eq E.laws };
+}
+
+impl<T, S, E> PlanLaws<T, S> for ByHashMultiOf<E>
+where
+    E: HashKey<T>,
+    S: BuildHasher,
+{
+    ghost use Rattle.iddqd_map.specs.NoConflict.{none_named};
 
     ghost reported = { λ s item at conflicts ix. absurd conflicts };
 

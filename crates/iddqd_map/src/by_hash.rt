@@ -18,8 +18,8 @@ use crate::hashed_plan::plan_move;
 use crate::hashed_query::{find_item, find_under, take_by};
 use crate::hashed_steps;
 use crate::key_index::{
-    ComparesKeys, FindsSame, Here, IndexLaws, Inserts, KeyIndex, Moves, Overwrites, Removes,
-    ReportsAt, TakesAt, UniqueAt, Upkeep,
+    ComparesKeys, FindsSame, Here, IndexLaws, Inserts, KeyIndex, Moves, Overwrites, PlanLaws,
+    PlansChanges, Removes, ReportsAt, TakesAt, UniqueAt, Upkeep,
 };
 use iddqd::index_remap::IndexRemap;
 use iddqd::internal::{ValidateCompact, ValidateRefusal, ValidationError};
@@ -57,28 +57,14 @@ where
     E: HashKey<T>,
     S: BuildHasher,
 {
-    ghost use Rattle.std.specs.Prelude.{◌≢◌, Some, false, ◌≤◌};
-    ghost use Rattle.iddqd_hash.specs.HashTable.{capacity, memory, room};
+    ghost use Rattle.std.specs.Prelude.{false};
+    ghost use Rattle.iddqd_hash.specs.HashTable.{capacity, memory};
     ghost use Rattle.iddqd_hash.specs.OpenTableSizes.{least_cells};
     ghost use Rattle.iddqd_hash.specs.Sizes.{most_cells};
     ghost use Rattle.iddqd_hash.specs.MapHashTable.{filed};
     ghost use Rattle.iddqd_map.specs.Map.{shares};
-    ghost use Rattle.iddqd_map.specs.Hashed.{moves};
-    ghost use Rattle.iddqd_map.specs.Indexing.{Plans};
-
-    type Conflict = ItemIndex;
 
     type KnownHashes = Option<MapHash>;
-
-    type Hashes = MapHash;
-
-    type Position = ();
-
-    type InsertPlan = ();
-
-    type MovePlan = Move;
-
-    type Blocks = ();
 
     ghost Keys = { E.Key };
 
@@ -108,6 +94,30 @@ where
     ghost same = { λ x y. filed y.table ≡ filed x.table };
 
     ghost unique_keys = { 1 };
+}
+
+impl<T, S, E> PlansChanges<T, S> for ByHashOf<E>
+where
+    E: HashKey<T>,
+    S: BuildHasher,
+{
+    ghost use Rattle.std.specs.Prelude.{◌≢◌, Some, ◌≤◌};
+    ghost use Rattle.iddqd_hash.specs.HashTable.{room};
+    ghost use Rattle.iddqd_map.specs.Map.{shares};
+    ghost use Rattle.iddqd_map.specs.Hashed.{moves};
+    ghost use Rattle.iddqd_map.specs.Indexing.{Plans};
+
+    type Conflict = ItemIndex;
+
+    type Hashes = MapHash;
+
+    type Position = ();
+
+    type InsertPlan = ();
+
+    type MovePlan = Move;
+
+    type Blocks = ();
 
     ghost conflicts = { λ s item at. AnswersScan s (shares E.key_of E.eq item) (Some at) };
 
@@ -144,9 +154,7 @@ where
     ghost use Rattle.std.proofs.Common.{refl};
     ghost use Rattle.iddqd_hash.proofs.LeastCellsLemmas.{least_cells-grows};
     ghost use Rattle.iddqd_hash.specs.MapHashTable.{filed};
-    ghost use Rattle.iddqd_map.specs.Map.{shares};
     ghost use Rattle.iddqd_map.specs.HashLaws.{shares_laws, Indexes-kept, Indexes-key_kept, Indexes-keys_shared};
-    ghost use Rattle.iddqd_map.specs.OneKeyLaws.{reported_one, few_one};
 
     ghost needed_grows = { λ slots more_slots count more wider up. least_cells-grows count more up };
 
@@ -166,6 +174,16 @@ where
         S.Hasher.Hasher E.laws E.respects_eq state s (filed x.table) is t have };
 
     ghost equivalence = { shares_laws E.key_of E.eq E.laws };
+}
+
+impl<T, S, E> PlanLaws<T, S> for ByHashOf<E>
+where
+    E: HashKey<T>,
+    S: BuildHasher,
+{
+    ghost use Rattle.std.proofs.Common.{refl};
+    ghost use Rattle.iddqd_map.specs.Map.{shares};
+    ghost use Rattle.iddqd_map.specs.OneKeyLaws.{reported_one, few_one};
 
     ghost reported = { λ s item at is ix. reported_one s (shares E.key_of E.eq item) at is ix };
 

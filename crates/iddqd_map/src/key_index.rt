@@ -17,12 +17,13 @@
 //! one index beyond its capacity are a value of their own, which the insert or the move consumes. So beyond its
 //! capacity no key index holds memory for a call to come.
 //!
-//! The trait `KeyIndex` has types and definitions, and no method; `IndexLaws` above it has the laws. The calls are
-//! traits above these: `Removes`, `Inserts`, `Overwrites`, `Moves`, `Upkeep` and `ComparesKeys`. For a key at a place
-//! `UniqueAt` and `GroupedAt` find, and `TakesAt` and `StepsInGroup` over them remove. For a key in order `OrderedAt`
-//! has the order alone, and `StepsAt` over it the calls. So a look-up needs only the method that it calls, which keeps
-//! callers cheap: the proof of a caller pays for each method of each trait that its bounds lead to, once for each path
-//! to it, and at a pair for both halves.
+//! The trait `KeyIndex` says what a key index holds, and `PlansChanges` over it by what a change is planned.
+//! `IndexLaws` and `PlanLaws` have the laws of each. None of these has a method. The calls are traits above them:
+//! `Removes`, `Inserts`, `Overwrites`, `Moves`, `Upkeep` and `ComparesKeys`. For a key at a place `UniqueAt` and
+//! `GroupedAt` find, and `TakesAt` and `StepsInGroup` over them remove. For a key in order `OrderedAt` has the order
+//! alone, and `StepsAt` over it the calls. So a look-up needs only the method that it calls, and no type of a plan.
+//! That keeps callers cheap: the proof of a caller pays for each method, and for each type with a bound, of each trait
+//! to which its bounds lead, once for each path to it, and at a pair for both halves.
 //!
 //! The laws stand apart since they are proved by laws of the keys. In a trait without methods only a member that names
 //! something of another trait counts as a law, and may be proved so.
@@ -56,20 +57,8 @@ pub trait KeyIndex<T, S>: Sized + Drop {
     ghost use Rattle.std.specs.Prelude.{ℕ, Bool, Some};
     ghost use Rattle.iddqd.specs.Store.{Store};
 
-    /// The items that an item is alike to: at least one.
-    type Conflict: Copy;
-    /// The hashes of an item's keys.
-    type Hashes: Copy;
     /// Those hashes of a stored item's keys that a look-up has computed already.
     type KnownHashes: Copy;
-    /// The position for an item that is alike to none, before its index is known.
-    type Position: Drop;
-    /// The position for an item under its index.
-    type InsertPlan: Drop;
-    /// How a live index must move if its item is replaced.
-    type MovePlan: Drop;
-    /// The memory that was taken for one insert or one move, beyond that of the tables.
-    type Blocks: Drop;
 
     // The keys of an item.
     ghost Keys: { Type 0 };
@@ -111,6 +100,25 @@ pub trait KeyIndex<T, S>: Sized + Drop {
 
     // How many items an item can be alike to: no more than there are keys.
     ghost unique_keys: { ℕ };
+}
+
+/// What an insert, an overwrite or a move is planned by, before anything is written.
+pub trait PlansChanges<T, S>: KeyIndex<T, S> {
+    ghost use Rattle.std.specs.Prelude.{ℕ, Bool};
+    ghost use Rattle.iddqd.specs.Store.{Store};
+
+    /// The items that an item is alike to: at least one.
+    type Conflict: Copy;
+    /// The hashes of an item's keys.
+    type Hashes: Copy;
+    /// The position for an item that is alike to none, before its index is known.
+    type Position: Drop;
+    /// The position for an item under its index.
+    type InsertPlan: Drop;
+    /// How a live index must move if its item is replaced.
+    type MovePlan: Drop;
+    /// The memory that was taken for one insert or one move, beyond that of the tables.
+    type Blocks: Drop;
 
     ghost conflicts: { Store T → T → Self.Conflict → Type 0 };
 
@@ -146,11 +154,10 @@ pub trait KeyIndex<T, S>: Sized + Drop {
 
 /// The laws of a key index.
 pub trait IndexLaws<T, S>: KeyIndex<T, S> {
-    ghost use Rattle.std.specs.Prelude.{ℕ, List, Some, ◌↔◌};
-    ghost use Rattle.std.specs.List.{Contains};
+    ghost use Rattle.std.specs.Prelude.{ℕ, Some};
     ghost use Rattle.std.specs.Cmp.{IsEquivalence};
     ghost use Rattle.iddqd.specs.Store.{Store, get};
-    ghost use Rattle.iddqd_keys.specs.Scan.{AreApart, IsHit};
+    ghost use Rattle.iddqd_keys.specs.Scan.{AreApart};
     ghost use Rattle.iddqd_map.specs.KeyIndex.{HaveSameKeys};
 
     // If there are no slots and no indexes, a shrink leaves nothing.
@@ -179,6 +186,14 @@ pub trait IndexLaws<T, S>: KeyIndex<T, S> {
 
     // To share all keys is an equivalence.
     ghost equivalence: { IsEquivalence Self.same_keys };
+}
+
+/// The laws of what is planned.
+pub trait PlanLaws<T, S>: PlansChanges<T, S> {
+    ghost use Rattle.std.specs.Prelude.{ℕ, List, ◌↔◌};
+    ghost use Rattle.std.specs.List.{Contains};
+    ghost use Rattle.iddqd.specs.Store.{Store};
+    ghost use Rattle.iddqd_keys.specs.Scan.{IsHit};
 
     // A conflict reports the stored items that share a key with the item, and no others.
     ghost reported: { (s : Store T) (item : T) (at : Self.Conflict) → Self.conflicts s item at → (ix : ℕ)
@@ -197,7 +212,7 @@ pub trait IndexLaws<T, S>: KeyIndex<T, S> {
 }
 
 /// What a removal asks of a key index.
-pub trait Removes<T, S>: KeyIndex<T, S> {
+pub trait Removes<T, S>: PlansChanges<T, S> {
     /// Removes a live index. It takes no memory. What was taken for an insert after a removal is still enough for it.
     fn remove(&mut self, items: &ItemSet<T>, state: &S, ix: ItemIndex)
         requires live { IsLive items.now.store ix }
@@ -212,7 +227,7 @@ pub trait Removes<T, S>: KeyIndex<T, S> {
 }
 
 /// What an insert asks of a key index: a position for the item, its memory, and then the index.
-pub trait Inserts<T, S>: IndexLaws<T, S> {
+pub trait Inserts<T, S>: IndexLaws<T, S> + PlanLaws<T, S> {
     /// Hashes the keys of an item, each once.
     fn hashes(state: &S, item: &T) -> Self::Hashes
         ensures { Self.are_hashes state.now item.now result };
@@ -280,7 +295,7 @@ pub trait Inserts<T, S>: IndexLaws<T, S> {
 }
 
 /// What a call that overwrites or remakes an item asks of a key index, besides an insert and a removal.
-pub trait Overwrites<T, S>: IndexLaws<T, S> {
+pub trait Overwrites<T, S>: PlanLaws<T, S> {
     /// The least reported index that is greater than `before`; the least of all if `before` is `None`.
     fn next_reported(conflict: &Self::Conflict, before: Option<ItemIndex>) -> Option<ItemIndex>
         ensures { IsNextReported (Self.reports conflict.now) before result };
@@ -308,7 +323,7 @@ pub trait Overwrites<T, S>: IndexLaws<T, S> {
 }
 
 /// What a replacement of an item asks of a key index: how its index moves, the memory for that, and the move.
-pub trait Moves<T, S>: KeyIndex<T, S> {
+pub trait Moves<T, S>: PlansChanges<T, S> {
     /// The value for no hash: no look-up computed one.
     fn no_hashes() -> Self::KnownHashes;
 
@@ -523,7 +538,7 @@ pub trait TakesAt<P, Q, T, S>: UniqueAt<P, Q, T, S> {
 }
 
 /// A key index that tells from a conflict which item shares the unique key at the place `P`.
-pub trait ReportsAt<P, T, S>: KeyIndex<T, S> {
+pub trait ReportsAt<P, T, S>: PlansChanges<T, S> {
     ghost use Rattle.std.specs.Prelude.{Bool, true};
     ghost use Rattle.iddqd.specs.Store.{Store};
 
@@ -532,7 +547,7 @@ pub trait ReportsAt<P, T, S>: KeyIndex<T, S> {
 
     /// The index of the item that shares the key at the place; `None` if none does.
     fn reported_at(conflict: &Self::Conflict) -> Option<ItemIndex>
-        ensures { (s : Store T) (item : T) → Self.KeyIndex.conflicts s item conflict.now
+        ensures { (s : Store T) (item : T) → Self.PlansChanges.conflicts s item conflict.now
             → AnswersScan s (alike_at item) result };
 
     // Items that share that key share a unique key.

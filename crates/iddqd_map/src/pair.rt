@@ -20,7 +20,7 @@ ghost use Rattle.iddqd_map.specs.Ranges.{itself};
 
 use crate::key_index::{
     ComparesKeys, FindsSame, IndexLaws, Inserts, KeyIndex, Left, Moves, OrderedAt, Overwrites,
-    Removes, ReportsAt, Right, StepsAt, TakesAt, UniqueAt, Upkeep,
+    PlanLaws, PlansChanges, Removes, ReportsAt, Right, StepsAt, TakesAt, UniqueAt, Upkeep,
 };
 use crate::pair_conflict::PairConflict;
 use crate::pair_hashes::{PairHashes, first_known, second_known};
@@ -48,21 +48,8 @@ where
 {
     ghost use Rattle.std.specs.Prelude.{◌||◌, ◌+◌, min};
     ghost use Rattle.iddqd_map.specs.Several.{either_key, both_keys};
-    ghost use Rattle.iddqd_map.specs.PairConflict.{ReportBoth, ReportBothOther, IsEither, IsReportedBy, first_of, second_of};
-
-    type Conflict = PairConflict<A::Conflict, B::Conflict>;
 
     type KnownHashes = PairHashes<A::KnownHashes, B::KnownHashes>;
-
-    type Hashes = (A::Hashes, B::Hashes);
-
-    type Position = (A::Position, B::Position);
-
-    type InsertPlan = (A::InsertPlan, B::InsertPlan);
-
-    type MovePlan = (A::MovePlan, B::MovePlan);
-
-    type Blocks = (A::Blocks, B::Blocks);
 
     ghost Keys = { A.Keys × B.Keys };
 
@@ -91,6 +78,27 @@ where
     ghost same = { λ x y. A.same x.first y.first × B.same x.second y.second };
 
     ghost unique_keys = { A.unique_keys + B.unique_keys };
+}
+
+impl<T, S, A, B> PlansChanges<T, S> for Pair<A, B>
+where
+    A: PlansChanges<T, S>,
+    B: PlansChanges<T, S>,
+{
+    ghost use Rattle.std.specs.Prelude.{◌||◌};
+    ghost use Rattle.iddqd_map.specs.PairConflict.{ReportBoth, ReportBothOther, IsEither, IsReportedBy, first_of, second_of};
+
+    type Conflict = PairConflict<A::Conflict, B::Conflict>;
+
+    type Hashes = (A::Hashes, B::Hashes);
+
+    type Position = (A::Position, B::Position);
+
+    type InsertPlan = (A::InsertPlan, B::InsertPlan);
+
+    type MovePlan = (A::MovePlan, B::MovePlan);
+
+    type Blocks = (A::Blocks, B::Blocks);
 
     ghost conflicts = { λ s item at. ReportBoth A.alike B.alike A.conflicts B.conflicts s item (first_of at)
         (second_of at) };
@@ -128,10 +136,9 @@ where
     A: IndexLaws<T, S>,
     B: IndexLaws<T, S>,
 {
-    ghost use Rattle.iddqd_map.specs.PairConflict.{IsReportedBy, first_of, second_of};
     ghost use Rattle.std.proofs.Common.{ap};
     ghost use Rattle.std.proofs.lemmas.Cmp.{and_equiv};
-    ghost use Rattle.iddqd_map.specs.PairLaws.{AreApart-either, HaveSameKeys-first, HaveSameKeys-second, reported_by_one, reported_both, reported_some, few_by_one, few_both, sum_none, sum_grows};
+    ghost use Rattle.iddqd_map.specs.PairLaws.{AreApart-either, HaveSameKeys-first, HaveSameKeys-second, sum_none, sum_grows};
 
     ghost needed_grows = { λ slots more_slots count more wider up.
         sum_grows (A.needed_grows slots more_slots count more wider up)
@@ -160,6 +167,15 @@ where
     ) };
 
     ghost equivalence = { and_equiv A.equivalence B.equivalence };
+}
+
+impl<T, S, A, B> PlanLaws<T, S> for Pair<A, B>
+where
+    A: PlanLaws<T, S>,
+    B: PlanLaws<T, S>,
+{
+    ghost use Rattle.iddqd_map.specs.PairConflict.{IsReportedBy, first_of, second_of};
+    ghost use Rattle.iddqd_map.specs.PairLaws.{reported_by_one, reported_both, reported_some, few_by_one, few_both};
 
     ghost reported = { λ s item at conflicts ix. reported_both A.alike B.alike s item
         (IsReportedBy A.reports (first_of at))
@@ -543,7 +559,7 @@ where
 impl<P, T, S, A, B> ReportsAt<Left<P>, T, S> for Pair<A, B>
 where
     A: ReportsAt<P, T, S>,
-    B: KeyIndex<T, S>,
+    B: PlansChanges<T, S>,
 {
     ghost use Rattle.iddqd_map.specs.PairLaws.{alike_first};
 
@@ -648,7 +664,7 @@ where
 
 impl<P, T, S, A, B> ReportsAt<Right<P>, T, S> for Pair<A, B>
 where
-    A: KeyIndex<T, S>,
+    A: PlansChanges<T, S>,
     B: ReportsAt<P, T, S>,
 {
     ghost use Rattle.iddqd_map.specs.PairLaws.{alike_second};

@@ -40,7 +40,7 @@ use iddqd_keys::key_of::{Itself, key_at};
 use iddqd_keys::order_key::OrdKey;
 use iddqd_map::key_index::{
     ComparesKeys, FindsSame, Here, IndexLaws, Inserts, KeyIndex, Moves, OrderedAt, Overwrites,
-    Removes, ReportsAt, StepsAt, TakesAt, UniqueAt, Upkeep,
+    PlanLaws, PlansChanges, Removes, ReportsAt, StepsAt, TakesAt, UniqueAt, Upkeep,
 };
 use iddqd_order::btree_table::{Asking, Blocks, Gap, MapBTreeTable, Spot};
 use std::alloc::{AllocError, Global};
@@ -79,27 +79,13 @@ impl<T, S, E> KeyIndex<T, S> for ByOrderOf<E>
 where
     E: OrdKey<T>,
 {
-    ghost use Rattle.std.specs.Prelude.{◌≢◌, Some, true, Ok};
+    ghost use Rattle.std.specs.Prelude.{true};
     ghost use Rattle.std.specs.Ordering.{eq_by_cmp};
     ghost use Rattle.iddqd_order.specs.MapBTreeTable.{HasSameTree};
     ghost use Rattle.iddqd_map.specs.Map.{shares};
-    ghost use Rattle.iddqd_ord_map.specs.OrderedSteps.{reserved_for, most_cells, HasBlocksAt, HasBlocksAnywhere, HasBlocksFor, moves};
-    ghost use Rattle.iddqd_ord_map.specs.ByOrder.{IsGapFor};
-    ghost use Rattle.iddqd_ord_map.specs.OrderedIndexing.{PlansOrConflicts};
-
-    type Conflict = ItemIndex;
+    ghost use Rattle.iddqd_ord_map.specs.OrderedSteps.{reserved_for, most_cells};
 
     type KnownHashes = ();
-
-    type Hashes = ();
-
-    type Position = Gap;
-
-    type InsertPlan = Gap;
-
-    type MovePlan = Move;
-
-    type Blocks = Blocks;
 
     ghost Keys = { E.Key };
 
@@ -128,6 +114,30 @@ where
     ghost same = { λ x y. HasSameTree x.table y.table };
 
     ghost unique_keys = { 1 };
+}
+
+impl<T, S, E> PlansChanges<T, S> for ByOrderOf<E>
+where
+    E: OrdKey<T>,
+{
+    ghost use Rattle.std.specs.Prelude.{◌≢◌, Some, Ok};
+    ghost use Rattle.std.specs.Ordering.{eq_by_cmp};
+    ghost use Rattle.iddqd_map.specs.Map.{shares};
+    ghost use Rattle.iddqd_ord_map.specs.OrderedSteps.{HasBlocksAt, HasBlocksAnywhere, HasBlocksFor, moves};
+    ghost use Rattle.iddqd_ord_map.specs.ByOrder.{IsGapFor};
+    ghost use Rattle.iddqd_ord_map.specs.OrderedIndexing.{PlansOrConflicts};
+
+    type Conflict = ItemIndex;
+
+    type Hashes = ();
+
+    type Position = Gap;
+
+    type InsertPlan = Gap;
+
+    type MovePlan = Move;
+
+    type Blocks = Blocks;
 
     ghost conflicts = { λ s item at. AnswersScan s (shares E.key_of (eq_by_cmp E.cmp) item) (Some at) };
 
@@ -159,10 +169,7 @@ where
     E: OrdKey<T>,
 {
     ghost use Rattle.std.proofs.Common.{refl};
-    ghost use Rattle.std.specs.Ordering.{eq_by_cmp};
-    ghost use Rattle.iddqd_map.specs.Map.{shares};
-    ghost use Rattle.iddqd_map.specs.OneKeyLaws.{reported_one, few_one};
-    ghost use Rattle.iddqd_ord_map.specs.ByOrderLaws.{Sorts-same_tree, Sorts-modified, Sorts-alike, IsGapFor-same_tree};
+    ghost use Rattle.iddqd_ord_map.specs.ByOrderLaws.{Sorts-same_tree, Sorts-modified, Sorts-alike};
     ghost use Rattle.iddqd_ord_map.specs.SortedScanLaws.{shares_equivalence};
 
     ghost needed_grows = { λ slots more_slots count more wider up. up };
@@ -182,6 +189,17 @@ where
         Sorts-alike E.key_of E.cmp E.total s t same (order_of x.table) is };
 
     ghost equivalence = { shares_equivalence E.key_of E.cmp E.total };
+}
+
+impl<T, S, E> PlanLaws<T, S> for ByOrderOf<E>
+where
+    E: OrdKey<T>,
+{
+    ghost use Rattle.std.proofs.Common.{refl};
+    ghost use Rattle.std.specs.Ordering.{eq_by_cmp};
+    ghost use Rattle.iddqd_map.specs.Map.{shares};
+    ghost use Rattle.iddqd_map.specs.OneKeyLaws.{reported_one, few_one};
+    ghost use Rattle.iddqd_ord_map.specs.ByOrderLaws.{IsGapFor-same_tree};
 
     ghost reported = { λ s item at scan ix. reported_one s (shares E.key_of (eq_by_cmp E.cmp) item) at scan ix };
 

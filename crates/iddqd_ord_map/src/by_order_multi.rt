@@ -7,6 +7,8 @@
 //! Invariants, given the store's items:
 //! 1. The list has exactly the live indexes, each once.
 //! 2. It is sorted by the keys of their items, and by index if these are equal.
+//!
+//! It is one file, since it is an impl of each trait of key indexes, and no impl can be split.
 ghost use Rattle.std.specs.Prelude.{◌≡◌, ℕ, IfSome};
 ghost use Rattle.iddqd.specs.{next_index, removed, IsValid};
 ghost use Rattle.iddqd_order.specs.Spot.{StandsAt};
@@ -35,8 +37,8 @@ use iddqd_keys::key_kinds::Field;
 use iddqd_keys::key_of::{Itself, key_at};
 use iddqd_keys::order_key::OrdKey;
 use iddqd_map::key_index::{
-    ComparesKeys, Here, IndexLaws, Inserts, KeyIndex, Moves, OrderedAt, Overwrites, Removes,
-    StepsAt, Upkeep,
+    ComparesKeys, Here, IndexLaws, Inserts, KeyIndex, Moves, OrderedAt, Overwrites, PlanLaws,
+    PlansChanges, Removes, StepsAt, Upkeep,
 };
 pub use iddqd_map::no_conflict::NoConflict;
 use iddqd_order::btree_table::{Asking, Blocks, Gap, MapBTreeTable, Spot};
@@ -83,22 +85,9 @@ where
     ghost use Rattle.iddqd_order.specs.MapBTreeTable.{HasSameTree};
     ghost use Rattle.iddqd_map.specs.Map.{shares};
     ghost use Rattle.iddqd_map.specs.NoConflict.{never_alike};
-    ghost use Rattle.iddqd_ord_map.specs.OrderedSteps.{reserved_for, most_cells, HasBlocksAt, HasBlocksAnywhere, HasBlocksFor, moves};
-    ghost use Rattle.iddqd_ord_map.specs.ByOrderMulti.{IsOwnGapFor, IsMoveFor};
-
-    type Conflict = NoConflict;
+    ghost use Rattle.iddqd_ord_map.specs.OrderedSteps.{reserved_for, most_cells};
 
     type KnownHashes = ();
-
-    type Hashes = ();
-
-    type Position = ();
-
-    type InsertPlan = Gap;
-
-    type MovePlan = Move;
-
-    type Blocks = Blocks;
 
     ghost Keys = { E.Key };
 
@@ -127,6 +116,26 @@ where
     ghost same = { λ x y. HasSameTree x.table y.table };
 
     ghost unique_keys = { 0 };
+}
+
+impl<T, S, E> PlansChanges<T, S> for ByOrderMultiOf<E>
+where
+    E: OrdKey<T>,
+{
+    ghost use Rattle.iddqd_ord_map.specs.OrderedSteps.{HasBlocksAt, HasBlocksAnywhere, HasBlocksFor, moves};
+    ghost use Rattle.iddqd_ord_map.specs.ByOrderMulti.{IsOwnGapFor, IsMoveFor};
+
+    type Conflict = NoConflict;
+
+    type Hashes = ();
+
+    type Position = ();
+
+    type InsertPlan = Gap;
+
+    type MovePlan = Move;
+
+    type Blocks = Blocks;
 
     ghost conflicts = { λ s item at. ⊥ };
 
@@ -158,9 +167,8 @@ where
     E: OrdKey<T>,
 {
     ghost use Rattle.std.proofs.Common.{refl};
-    ghost use Rattle.iddqd_map.specs.NoConflict.{never_apart, none_named};
+    ghost use Rattle.iddqd_map.specs.NoConflict.{never_apart};
     ghost use Rattle.iddqd_ord_map.specs.SortedScanLaws.{IsSortedScan-same_tree, IsSortedScan-modified, IsSortedScan-alike, shares_equivalence};
-    ghost use Rattle.iddqd_ord_map.specs.ByOrderMultiLaws.{IsOwnGapFor-same_tree};
 
     ghost needed_grows = { λ slots more_slots count more wider up. up };
 
@@ -180,6 +188,14 @@ where
         IsSortedScan-alike E.key_of E.cmp E.total s t same (order_of x.table) is };
 
     ghost equivalence = { shares_equivalence E.key_of E.cmp E.total };
+}
+
+impl<T, S, E> PlanLaws<T, S> for ByOrderMultiOf<E>
+where
+    E: OrdKey<T>,
+{
+    ghost use Rattle.iddqd_map.specs.NoConflict.{none_named};
+    ghost use Rattle.iddqd_ord_map.specs.ByOrderMultiLaws.{IsOwnGapFor-same_tree};
 
     ghost reported = { λ s item at conflicts ix. absurd conflicts };
 

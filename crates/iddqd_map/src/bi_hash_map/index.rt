@@ -8,8 +8,8 @@ use super::clash::{BiClash, both_moves, clash_of};
 use super::item::{BiHashItem, Key1, Key2};
 use crate::by_hash::ByHashOf;
 use crate::key_index::{
-    ComparesKeys, FindsSame, First, IndexLaws, Inserts, KeyIndex, Moves, Overwrites, Removes,
-    ReportsAt, Second, TakesAt, UniqueAt, Upkeep,
+    ComparesKeys, FindsSame, First, IndexLaws, Inserts, KeyIndex, Moves, Overwrites, PlanLaws,
+    PlansChanges, Removes, ReportsAt, Second, TakesAt, UniqueAt, Upkeep,
 };
 use crate::reported::{lesser, past};
 use iddqd::index_remap::IndexRemap;
@@ -43,33 +43,18 @@ where
     B: HashKey<T>,
     S: BuildHasher,
 {
-    ghost use Rattle.std.specs.Prelude.{◌≡◌, ◌+◌, min, false, ◌≤◌, ◌||◌};
-    ghost use Rattle.iddqd_hash.specs.HashTable.{capacity, memory, room};
+    ghost use Rattle.std.specs.Prelude.{◌≡◌, ◌+◌, min, false};
+    ghost use Rattle.iddqd_hash.specs.HashTable.{capacity, memory};
     ghost use Rattle.iddqd_hash.specs.MapHashTable.{filed};
     ghost use Rattle.iddqd_hash.specs.OpenTableSizes.{least_cells};
     ghost use Rattle.iddqd_hash.specs.Sizes.{most_cells};
     ghost use Rattle.iddqd_by_hash.specs.Hashed.{hashing_of};
-    ghost use Rattle.iddqd_map.specs.Indexing.{Indexes, Plans};
-    ghost use Rattle.iddqd_map.specs.KeyLaws.{IsOfTwo};
+    ghost use Rattle.iddqd_map.specs.Indexing.{Indexes};
     ghost use Rattle.iddqd_keys.specs.KeyKeeping.{pair_keys};
     ghost use Rattle.iddqd_map.specs.Map.{shares};
     ghost use Rattle.iddqd_map.specs.Several.{either_key, both_keys};
-    ghost use Rattle.iddqd_map.specs.TwoKeys.{AreReported, AreTaken};
-    ghost use Rattle.iddqd_map.specs.Hashed.{moves};
-
-    type Conflict = BiClash;
 
     type KnownHashes = (Option<MapHash>, Option<MapHash>);
-
-    type Hashes = (MapHash, MapHash);
-
-    type Position = ();
-
-    type InsertPlan = ();
-
-    type MovePlan = (Move, Move);
-
-    type Blocks = ();
 
     ghost Keys = { A.Key × B.Key };
 
@@ -102,6 +87,34 @@ where
     ghost same = { λ x y. (filed y.first.table ≡ filed x.first.table) × (filed y.second.table ≡ filed x.second.table) };
 
     ghost unique_keys = { 2 };
+}
+
+impl<T, S, A, B> PlansChanges<T, S> for BiIndexOf<A, B>
+where
+    A: HashKey<T>,
+    B: HashKey<T>,
+    S: BuildHasher,
+{
+    ghost use Rattle.std.specs.Prelude.{◌≡◌, ◌≤◌, ◌||◌};
+    ghost use Rattle.iddqd_hash.specs.HashTable.{room};
+    ghost use Rattle.iddqd_by_hash.specs.Hashed.{hashing_of};
+    ghost use Rattle.iddqd_map.specs.Indexing.{Plans};
+    ghost use Rattle.iddqd_map.specs.KeyLaws.{IsOfTwo};
+    ghost use Rattle.iddqd_map.specs.Map.{shares};
+    ghost use Rattle.iddqd_map.specs.TwoKeys.{AreReported, AreTaken};
+    ghost use Rattle.iddqd_map.specs.Hashed.{moves};
+
+    type Conflict = BiClash;
+
+    type Hashes = (MapHash, MapHash);
+
+    type Position = ();
+
+    type InsertPlan = ();
+
+    type MovePlan = (Move, Move);
+
+    type Blocks = ();
 
     ghost conflicts = { AreReported (shares A.key_of A.eq) (shares B.key_of B.eq) };
 
@@ -147,7 +160,6 @@ where
     ghost use Rattle.iddqd_hash.proofs.LeastCellsLemmas.{least_cells-grows};
     ghost use Rattle.iddqd_by_hash.specs.Hashed.{hashing_of};
     ghost use Rattle.iddqd_map.specs.HashLaws.{shares_laws, Indexes-kept, Indexes-key_kept, Indexes-keys_shared};
-    ghost use Rattle.iddqd_map.specs.KeyLaws.{reported_two, some_two, few_two};
     ghost use Rattle.iddqd_map.specs.PairLaws.{AreApart-either, HaveSameKeys-first, HaveSameKeys-second, sum_grows};
     ghost use Rattle.iddqd_map.specs.Map.{shares};
 
@@ -186,6 +198,16 @@ where
 
     ghost equivalence = { and_equiv (shares_laws A.key_of A.eq A.laws)
         (shares_laws B.key_of B.eq B.laws) };
+}
+
+impl<T, S, A, B> PlanLaws<T, S> for BiIndexOf<A, B>
+where
+    A: HashKey<T>,
+    B: HashKey<T>,
+    S: BuildHasher,
+{
+    ghost use Rattle.iddqd_map.specs.KeyLaws.{reported_two, some_two, few_two};
+    ghost use Rattle.iddqd_map.specs.Map.{shares};
 
     ghost reported = { λ s item at. reported_two s item (shares A.key_of A.eq) (shares B.key_of B.eq)
         at.key1 at.key2 };

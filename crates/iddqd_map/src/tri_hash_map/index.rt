@@ -12,8 +12,8 @@ ghost use Rattle.iddqd_map.specs.Several.{both_keys};
 use super::clash::{TriClash, all_moves, clash_of};
 use crate::by_hash::ByHashOf;
 use crate::key_index::{
-    ComparesKeys, FindsSame, First, IndexLaws, Inserts, KeyIndex, Moves, Overwrites, Removes,
-    ReportsAt, Second, TakesAt, Third, UniqueAt, Upkeep,
+    ComparesKeys, FindsSame, First, IndexLaws, Inserts, KeyIndex, Moves, Overwrites, PlanLaws,
+    PlansChanges, Removes, ReportsAt, Second, TakesAt, Third, UniqueAt, Upkeep,
 };
 use crate::reported::{lesser, past};
 use iddqd::index_remap::IndexRemap;
@@ -51,32 +51,18 @@ where
     C: HashKey<T>,
     S: BuildHasher,
 {
-    ghost use Rattle.std.specs.Prelude.{◌≡◌, ◌+◌, min, false, ◌≤◌, ◌||◌};
-    ghost use Rattle.iddqd_hash.specs.HashTable.{capacity, memory, room};
+    ghost use Rattle.std.specs.Prelude.{◌≡◌, ◌+◌, min, false};
+    ghost use Rattle.iddqd_hash.specs.HashTable.{capacity, memory};
     ghost use Rattle.iddqd_hash.specs.MapHashTable.{filed};
     ghost use Rattle.iddqd_hash.specs.OpenTableSizes.{least_cells};
     ghost use Rattle.iddqd_hash.specs.Sizes.{most_cells};
     ghost use Rattle.iddqd_by_hash.specs.Hashed.{hashing_of};
-    ghost use Rattle.iddqd_map.specs.Indexing.{Indexes, Plans};
-    ghost use Rattle.iddqd_map.specs.KeyLaws.{IsOfThree};
+    ghost use Rattle.iddqd_map.specs.Indexing.{Indexes};
     ghost use Rattle.iddqd_keys.specs.KeyKeeping.{pair_keys};
     ghost use Rattle.iddqd_map.specs.Map.{shares};
-    ghost use Rattle.iddqd_map.specs.ThreeKeys.{any_key, all_keys, AreReported, AreTaken};
-    ghost use Rattle.iddqd_map.specs.Hashed.{moves};
-
-    type Conflict = TriClash;
+    ghost use Rattle.iddqd_map.specs.ThreeKeys.{any_key, all_keys};
 
     type KnownHashes = (Option<MapHash>, (Option<MapHash>, Option<MapHash>));
-
-    type Hashes = (MapHash, (MapHash, MapHash));
-
-    type Position = ();
-
-    type InsertPlan = ();
-
-    type MovePlan = (Move, (Move, Move));
-
-    type Blocks = ();
 
     ghost Keys = { A.Key × (B.Key × C.Key) };
 
@@ -114,6 +100,35 @@ where
         × ((filed y.second.table ≡ filed x.second.table) × (filed y.third.table ≡ filed x.third.table)) };
 
     ghost unique_keys = { 3 };
+}
+
+impl<T, S, A, B, C> PlansChanges<T, S> for TriIndexOf<A, B, C>
+where
+    A: HashKey<T>,
+    B: HashKey<T>,
+    C: HashKey<T>,
+    S: BuildHasher,
+{
+    ghost use Rattle.std.specs.Prelude.{◌≡◌, ◌≤◌, ◌||◌};
+    ghost use Rattle.iddqd_hash.specs.HashTable.{room};
+    ghost use Rattle.iddqd_by_hash.specs.Hashed.{hashing_of};
+    ghost use Rattle.iddqd_map.specs.Indexing.{Plans};
+    ghost use Rattle.iddqd_map.specs.KeyLaws.{IsOfThree};
+    ghost use Rattle.iddqd_map.specs.Map.{shares};
+    ghost use Rattle.iddqd_map.specs.ThreeKeys.{AreReported, AreTaken};
+    ghost use Rattle.iddqd_map.specs.Hashed.{moves};
+
+    type Conflict = TriClash;
+
+    type Hashes = (MapHash, (MapHash, MapHash));
+
+    type Position = ();
+
+    type InsertPlan = ();
+
+    type MovePlan = (Move, (Move, Move));
+
+    type Blocks = ();
 
     ghost conflicts = { AreReported (shares A.key_of A.eq) (shares B.key_of B.eq)
         (shares C.key_of C.eq) };
@@ -167,7 +182,6 @@ where
     ghost use Rattle.iddqd_hash.proofs.LeastCellsLemmas.{least_cells-grows};
     ghost use Rattle.iddqd_by_hash.specs.Hashed.{hashing_of};
     ghost use Rattle.iddqd_map.specs.HashLaws.{shares_laws, Indexes-kept, Indexes-key_kept, Indexes-keys_shared};
-    ghost use Rattle.iddqd_map.specs.KeyLaws.{reported_three, some_three, few_three};
     ghost use Rattle.iddqd_map.specs.PairLaws.{AreApart-either, HaveSameKeys-first, HaveSameKeys-second, sum_grows};
     ghost use Rattle.iddqd_map.specs.Map.{shares};
     ghost use Rattle.iddqd_map.specs.Several.{either_key, both_keys};
@@ -227,6 +241,17 @@ where
     ghost equivalence = { and_equiv (shares_laws A.key_of A.eq A.laws)
         (and_equiv (shares_laws B.key_of B.eq B.laws)
         (shares_laws C.key_of C.eq C.laws)) };
+}
+
+impl<T, S, A, B, C> PlanLaws<T, S> for TriIndexOf<A, B, C>
+where
+    A: HashKey<T>,
+    B: HashKey<T>,
+    C: HashKey<T>,
+    S: BuildHasher,
+{
+    ghost use Rattle.iddqd_map.specs.KeyLaws.{reported_three, some_three, few_three};
+    ghost use Rattle.iddqd_map.specs.Map.{shares};
 
     ghost reported = { λ s item. reported_three s item (shares A.key_of A.eq) (shares B.key_of B.eq)
         (shares C.key_of C.eq) };

@@ -48,9 +48,9 @@ returns-in-Err-Conflict g c =
     let s = c.self.inside.items.store in
     rw (← c.self.view_is, ← c.other.view_is)
     (AppendsItem-kept g.X.KeyIndex.alike g.X.KeyIndex.grown c.args.ix item _ _ _ _ (sym c.in-Some.ensures)
-    g.X.KeyIndex.conflicts
+    g.X.PlansChanges.conflicts
     (λ at conflicts.
-    let (ix, one) = g.met.X.IndexLaws.reported_some s item at conflicts in
-    (ix, (g.met.X.IndexLaws.reported s item at conflicts ix).0 one))
+    let (ix, one) = g.met.X.PlanLaws.reported_some s item at conflicts in
+    (ix, (g.met.X.PlanLaws.reported s item at conflicts ix).0 one))
     c.in-Err-Conflict.field-0 c.in-Err-Conflict.field-0-0 c.in-Err-Conflict.field-0-is
     c.in-Err-Conflict.ensures.prevented refl)
