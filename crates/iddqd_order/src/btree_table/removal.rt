@@ -25,9 +25,9 @@ use crate::btree_table::reserve::Reserve;
 use crate::btree_table::row::{LEAST, Row};
 use iddqd::item_index::ItemIndex;
 
-// Where the path of a removal goes on to.
+// Where the path of a removal goes on to. If it is nowhere, the path goes to no place that means anything.
 pub(super) trait GoesOn {
-    // To the gap where the index stood; else nowhere.
+    // It goes on to the gap where the index stood; else nowhere.
     ghost to_gap: { Bool };
 
     // Mends the i-th child of a node at level `height` if it has one index too few. If the path goes to a gap, it goes
@@ -93,8 +93,8 @@ impl GoesOn for Nowhere {
     }
 }
 
-// Removes the index to which the path goes at the level, and sends the path on. Returns the index and the new height.
-// It takes no memory.
+// Removes the index to which the path goes at the level, and sends the path on as `G` says. Returns the index and the
+// new height. It takes no memory.
 pub(super) fn remove_in<G: GoesOn>(
     root: &mut Option<Node>,
     height: usize,
@@ -157,8 +157,8 @@ pub(super) fn drop_empty_root(
 }
 
 impl Node {
-    // Removes the index to which the path goes at the level, sends the path on, and returns the index. This node may
-    // then hold one index fewer.
+    // Removes the index to which the path goes at the level, sends the path on as `G` says, and returns the index. This
+    // node may then hold one index fewer.
     pub(super) fn remove<G: GoesOn>(
         &mut self,
         height: usize,

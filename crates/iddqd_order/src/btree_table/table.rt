@@ -653,7 +653,7 @@ impl MapBTreeTable {
         self.remove_along::<Nowhere>(&mut path, spot.level)
     }
 
-    // Removes the index to which the path goes at the level, sends the path on, and returns the index.
+    // Removes the index to which the path goes at the level, sends the path on as `G` says, and returns the index.
     pub(super) fn remove_along<G: GoesOn>(&mut self, path: &mut Path, level: usize) -> ItemIndex
         requires holds { ReachesIndexIn level self.old.root self.old.height path.old }
         requires path { length path.old ≡ most_levels }
