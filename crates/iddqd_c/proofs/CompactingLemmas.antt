@@ -10,7 +10,7 @@ use Rattle.iddqd.specs.declared.index_remap.IndexRemap.TheVariants.{Identity, Pe
 use Rattle.iddqd.proofs.StoreLemmas.{contains_none}
 use Rattle.iddqd.proofs.CompactionLemmas.{length-numbers, get_or-numbers, get_or-names, new_name-live, rank_same}
 use Rattle.iddqd_c.specs.Compacting.{name_in, FillsNewIndexes}
-use Rattle.iddqd_c.proofs.FillLemmas.{IsFilled, IsFilled-step, filled_at}
+use Rattle.iddqd_codes.proofs.FillLemmas.{IsFilled, IsFilled-step, filled_at}
 
 module _ (f : ℕ → ℕ) where
   -- one more number was put to its place

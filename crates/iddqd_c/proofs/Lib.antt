@@ -1,7 +1,7 @@
 mod Words
 pub mod StepLemmas
 pub mod EntryLemmas
-pub mod FillLemmas
+pub mod CopyLemmas
 pub mod CallLemmas
 pub mod ManyLemmas
 pub mod ReplacingLemmas

@@ -1,5 +1,4 @@
 mod Words
 pub mod AnswerLemmas
 pub mod CallLemmas
-pub mod FillLemmas
 pub mod InsertLemmas

@@ -1,7 +1,7 @@
 use Rattle.std.proofs.Common.{◌≡◌, ◌∙◌, ◌≤◌, [], length, refl, sym, arith}
 use Rattle.std.proofs.lemmas.List.Sorted.{length_permutation}
 use Rattle.iddqd_hash.specs.HashTable.{entries}
-use Rattle.iddqd_c.proofs.FillLemmas.{IsCopied-start, IsCopied-step, IsCopied-end, nothing_left, under_few}
+use Rattle.iddqd_c.proofs.CopyLemmas.{IsCopied-start, IsCopied-step, IsCopied-end, nothing_left, under_few}
 use Rattle.iddqd_c.proofs.index.list.Goals as goal
 
 pub loop-at-init : goal.loop-at-init

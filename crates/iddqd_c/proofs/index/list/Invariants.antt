@@ -1,4 +1,4 @@
-use Rattle.iddqd_c.proofs.FillLemmas.{IsCopied}
+use Rattle.iddqd_c.proofs.CopyLemmas.{IsCopied}
 use Rattle.iddqd_c.proofs.index.list.Given as goal
 
 abbrev pub invariant-loop-at : goal.invariant-loop-at

@@ -2,7 +2,7 @@ use Rattle.std.proofs.Common.{◌≡◌, ◌∙◌, ◌+◌, length, sym, ap, ar
 use Rattle.std.specs.Prelude.{filter}
 use Rattle.std.proofs.lemmas.List.{length-append}
 use Rattle.iddqd_multi_c.specs.Entries.{lies_from}
-use Rattle.iddqd_multi_c.proofs.FillLemmas.{IsFilled-start, IsFilled-step, filled_at}
+use Rattle.iddqd_codes.proofs.FillLemmas.{IsFilled-start, IsFilled-step, filled_at}
 use Rattle.iddqd_multi_c.proofs.ranges.fill.Goals as goal
 
 pub loop-at-init : goal.loop-at-init

@@ -3,7 +3,7 @@ use Rattle.std.specs.Prelude.{filter}
 use Rattle.iddqd_multi_c.specs.Entries.{lies_from}
 use Rattle.iddqd_multi_c.specs.Rows.{row_of}
 use Rattle.iddqd_multi_c.specs.declared.entry.Entry.{Entry}
-use Rattle.iddqd_multi_c.proofs.FillLemmas.{IsFilled}
+use Rattle.iddqd_codes.proofs.FillLemmas.{IsFilled}
 use Rattle.iddqd_multi_c.proofs.ranges.fill.Given as goal
 
 -- `range` has the entries that are left, of which those that lie at the place or behind it are to be written

@@ -1,7 +1,7 @@
 use Rattle.std.proofs.Common.{◌≡◌, arith}
 use Rattle.iddqd.specs.Compaction.{numbers}
 use Rattle.iddqd_c.specs.Compacting.{name_in}
-use Rattle.iddqd_c.proofs.FillLemmas.{IsFilled-start}
+use Rattle.iddqd_codes.proofs.FillLemmas.{IsFilled-start}
 use Rattle.iddqd_c.proofs.CompactingLemmas.{IsFilled-number, filled_numbers}
 use Rattle.iddqd_c.proofs.keyed.compaction.write_all.Goals as goal
 

@@ -1,7 +1,7 @@
 use Rattle.std.specs.Prelude.{drop}
 use Rattle.iddqd.specs.Compaction.{numbers}
 use Rattle.iddqd_c.specs.Compacting.{name_in}
-use Rattle.iddqd_c.proofs.FillLemmas.{IsFilled}
+use Rattle.iddqd_codes.proofs.FillLemmas.{IsFilled}
 use Rattle.iddqd_c.proofs.keyed.compaction.write_all.Given as goal
 
 abbrev pub invariant-loop-at : goal.invariant-loop-at

@@ -1,6 +1,6 @@
 use Rattle.std.proofs.Common.{◌≡◌, ◌∙◌, ◌+◌, length, sym, ap, arith}
 use Rattle.std.proofs.lemmas.List.{length-append}
-use Rattle.iddqd_c.proofs.FillLemmas.{IsFilled-start, IsFilled-step, filled_at}
+use Rattle.iddqd_codes.proofs.FillLemmas.{IsFilled-start, IsFilled-step, filled_at}
 use Rattle.iddqd_c.proofs.keyed.ranges.fill.Goals as goal
 
 pub loop-at-init : goal.loop-at-init

@@ -1,4 +1,4 @@
--- A buffer that a loop fills from its start.
+-- For callers. A buffer that a loop fills from its start.
 use Rattle.std.proofs.Common.{◌≡◌, ◌∙◌, ◌+◌, ◌<◌, ℕ, List, [], ◌∷◌, ◌++◌, length, get_or, slice_set, refl, sym, ap, subst}
 use Rattle.std.specs.Prelude.{map, take, drop}
 use Rattle.std.proofs.Math.Seq.{set-append_seam}
