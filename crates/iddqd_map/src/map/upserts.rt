@@ -7,7 +7,7 @@ ghost use Rattle.iddqd_map.specs.Map.{FindsItem, room};
 ghost use Rattle.iddqd_map.specs.Upsert.{InsertsMade, IsCallableWith, LeavesKey, MergesAt};
 
 use super::Map;
-use crate::key_index::{Inserts, ReportsAt, UniqueAt};
+use crate::key_index::{IndexLaws, Inserts, ReportsAt, UniqueAt};
 use crate::refusal::InsertRefusal;
 use iddqd::item_index::ItemIndex;
 
@@ -25,7 +25,7 @@ impl<T, X: Inserts<T, S>, S> Map<T, X, S> {
         f: F,
     ) -> Result<ItemIndex, InsertRefusal<T, X::Conflict>>
     where
-        X: ReportsAt<P, T, S>,
+        X: IndexLaws<T, S> + ReportsAt<P, T, S>,
         requires callable { IsCallableWith F.FnOnce f item
             (λ was. FindsItem self.old.store (X.alike_at item) (Some was)) }
         requires keeps { LeavesKey F.FnOnce f item X.keys
@@ -79,7 +79,9 @@ impl<T, X: Inserts<T, S>, S> Map<T, X, S> {
         }
         self.insert_unique(make())
     }
+}
 
+impl<T, X: IndexLaws<T, S>, S> Map<T, X, S> {
     // Calls the closure with a `&mut` to the item at a live index and with another item.
     fn merge_at<F: FnOnce(&mut T, T)>(&mut self, ix: ItemIndex, item: T, f: F)
         requires live { IsLive self.old.store ix }
