@@ -1,4 +1,5 @@
 use Rattle.std.proofs.Common.{◌≡◌, ◌∙◌, rules, refl, ap, subst, Some, None}
+use Rattle.std.proofs.lemmas.Bool.{false≢true}
 use Rattle.std.specs.Prelude.{Ok, Err, IfOk, IfSome, IfNone, OnErr}
 use Rattle.iddqd_maps.specs.Map.{RemovesHit}
 use Rattle.iddqd_maps.specs.Scan.{HasNoHit}
@@ -71,5 +72,5 @@ returns-clause-refused c =
           let (ix, scan, (was, made, live, met, never)) = rw is at c.remake_by.ensures.remakes in absurd never
       | Err (Memory back) ↦ λ is.
           let (ix, scan, (was, made, live, met, (given, lacks, gone))) = rw is at c.remake_by.ensures.remakes in
-          absurd (let never = lacks.lacks in cc)
+          absurd (false≢true lacks.lacks)
     ] refl
