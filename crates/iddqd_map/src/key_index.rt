@@ -21,9 +21,9 @@
 //! `IndexLaws` and `PlanLaws` have the laws of each. None of these has a method. The calls are traits above them:
 //! `Removes`, `Inserts`, `Overwrites`, `Moves`, `Upkeep` and `ComparesKeys`. For a key at a place `UniqueAt` and
 //! `GroupedAt` find, and `TakesAt` and `StepsInGroup` over them remove. For a key in order `OrderedAt` has the order
-//! alone, and `StepsAt` over it the calls. So a look-up needs only the method that it calls, and no type of a plan.
-//! That keeps callers cheap: the proof of a caller pays for each method, and for each type with a bound, of each trait
-//! to which its bounds lead, once for each path to it, and at a pair for both halves.
+//! alone, and `StepsAt` over it the calls. So a look-up needs only the method that it calls and no type of a plan, and
+//! an insert no law. That keeps callers cheap: the proof of a caller pays for each method, and for each type with a
+//! bound, of each trait to which its bounds lead, once for each path to it, and at a pair for both halves.
 //!
 //! The laws stand apart since they are proved by laws of the keys. In a trait without methods only a member that names
 //! something of another trait counts as a law, and may be proved so.
@@ -247,8 +247,8 @@ pub trait Inserts<T, S>: PlansChanges<T, S> {
         requires next { ix ≡ next_index items.now.store }
         ensures { Self.is_planned self.now state.now items.now.store item.now result };
 
-    /// Takes the memory of a planned insert, and returns what of it isn't in the tables yet. If there is room, it takes
-    /// none.
+    /// Takes the memory of a planned insert, and returns what of it isn't in the tables yet. The plan still holds after
+    /// it. If there is room, it takes none.
     fn make_room(
         &mut self,
         items: &ItemSet<T>,
