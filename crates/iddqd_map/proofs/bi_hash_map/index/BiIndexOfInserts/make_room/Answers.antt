@@ -4,4 +4,7 @@ pub returns-in_err-make_room-clause-contents : goal.returns-in_err-make_room-cla
 returns-in_err-make_room-clause-contents g c = λ state s is. (c.in_err-make_room.ensures.contents state s is.0, is.1)
 
 pub returns-clause-contents : goal.returns-clause-contents
-returns-clause-contents g c = λ state s is. (c.in_ok-make_room.ensures.contents state s is.0, c.make_room-2.ensures.contents state s is.1)
+returns-clause-contents g c = λ state s is. (
+  c.in_ok-make_room.ensures.contents state s is.0,
+  c.make_room-2.ensures.contents state s is.1,
+)

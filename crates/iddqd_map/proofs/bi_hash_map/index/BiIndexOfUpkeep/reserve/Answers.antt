@@ -4,4 +4,7 @@ pub returns-in_err-reserve-clause-contents : goal.returns-in_err-reserve-clause-
 returns-in_err-reserve-clause-contents g c = λ state s is. (c.in_err-reserve.ensures.contents state s is.0, is.1)
 
 pub returns-clause-contents : goal.returns-clause-contents
-returns-clause-contents g c = λ state s is. (c.in_ok-reserve.ensures.contents state s is.0, c.reserve-2.ensures.contents state s is.1)
+returns-clause-contents g c = λ state s is. (
+  c.in_ok-reserve.ensures.contents state s is.0,
+  c.reserve-2.ensures.contents state s is.1,
+)
