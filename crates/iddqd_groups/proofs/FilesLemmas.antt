@@ -69,17 +69,6 @@ module _ {T : Type 0} where
   room_beside (Err error) s x y held same roomy = tt
 
 module _ {T K : Type 0} (key_of : T → K) (hashing : Hashing K) where
-  -- a table of the same indexes
-  pub FilesWithin-kept :
-      (s : Store T) (x y : LinkedState)
-      → HasSameIndexes x y
-      → FilesWithin key_of hashing s x
-      → FilesWithin key_of hashing s y
-  FilesWithin-kept s x y same is = record {
-    files = subst (Files key_of hashing s) (sym same.filed) is.files;
-    linked = same.slots ∙ is.linked;
-  }
-
   pub Files-empty : (limit : ℕ) → Files key_of hashing (empty_within limit) finite.empty
   Files-empty limit = record { held = Holds-empty T limit; placed = (IsInSync-empty key_of hashing limit).placed }
 

@@ -1,6 +1,6 @@
 -- The laws of an index by the hash of a key that several items may have: what keeps it so that it indexes a store.
 use Rattle.std.specs.Prelude.{◌≡◌, ℕ, Bool, true, List, Some, IsTrue}
-use Rattle.std.proofs.Common.{◌∙◌, ap, sym}
+use Rattle.std.proofs.Common.{◌∙◌, ap, sym, subst}
 use Rattle.std.proofs.lemmas.List.{length-set}
 use Rattle.std.specs.Cmp.{IsEquivalence, partial_equiv_from_equiv}
 use Rattle.std.specs.declared.hash.Hasher as hasher
@@ -14,16 +14,25 @@ use Rattle.iddqd_by_hash.proofs.FindLemmas.{IsLawful-from_bounds}
 use Rattle.iddqd_by_hash.proofs.HoldsLemmas.{Holds-rebound}
 use Rattle.iddqd_by_hash.proofs.PlaceLemmas.{Keeps-rebound}
 use Rattle.iddqd_groups.specs.LinkedTable.{LinkedState}
-use Rattle.iddqd_groups.specs.ByHashMulti.{FilesWithin}
+use Rattle.iddqd_groups.specs.ByHashMulti.{FilesWithin, HasSameIndexes}
 use Rattle.iddqd_map.specs.Files.{Files}
 use Rattle.iddqd_map.specs.HashLaws.{Files-same}
 use Rattle.iddqd_map.specs.KeyIndex.{HaveSameKeys}
 use Rattle.iddqd_map.specs.Map.{shares}
 
-module _ {T K : Type 0}
-    (key_of : T → K) (hashing : Hashing K) (s : Store T) (m : FinMap nat_cmp ℕ) (lawful : IsLawful hashing)
-    (o : Files key_of hashing s m)
-  where
+module _ {T K : Type 0} (key_of : T → K) (hashing : Hashing K) (s : Store T) where
+  -- a table of the same indexes
+  pub FilesWithin-kept :
+      (x y : LinkedState)
+      → HasSameIndexes x y
+      → FilesWithin key_of hashing s x
+      → FilesWithin key_of hashing s y
+  FilesWithin-kept x y same is = record {
+    files = subst (Files key_of hashing s) (sym same.filed) is.files;
+    linked = same.slots ∙ is.linked;
+  }
+
+  module _ (m : FinMap nat_cmp ℕ) (lawful : IsLawful hashing) (o : Files key_of hashing s m) where
     -- a live index that is given an item with an equal key
     pub Files-rebound_same :
         (ix : ℕ) (item was : T)

@@ -94,7 +94,7 @@ where
     S: BuildHasher,
 {
     ghost use Rattle.iddqd_groups.specs.LinkedTable.{most_linked, kept_linked, needed_linked};
-    ghost use Rattle.iddqd_groups.specs.ByHashMulti.{FilesWithin};
+    ghost use Rattle.iddqd_groups.specs.ByHashMulti.{FilesWithin, HasSameIndexes};
     ghost use Rattle.iddqd_map.specs.Map.{shares};
     ghost use Rattle.iddqd_map.specs.NoConflict.{never_alike};
 
@@ -124,6 +124,8 @@ where
     ghost needed = { needed_linked };
 
     ghost may_need_memory = { false };
+
+    ghost same = { λ x y. HasSameIndexes x.table y.table };
 
     ghost unique_keys = { 0 };
 }
@@ -185,7 +187,7 @@ where
     ghost use Rattle.std.proofs.Common.{refl};
     ghost use Rattle.iddqd_hash.proofs.LeastCellsLemmas.{least_cells-grows};
     ghost use Rattle.iddqd_map.specs.PairLaws.{sum_grows};
-    ghost use Rattle.iddqd_groups.specs.ByHashMultiLaws.{FilesWithin-key_kept, FilesWithin-keys_shared};
+    ghost use Rattle.iddqd_groups.specs.ByHashMultiLaws.{FilesWithin-kept, FilesWithin-key_kept, FilesWithin-keys_shared};
     ghost use Rattle.iddqd_map.specs.HashLaws.{shares_laws};
     ghost use Rattle.iddqd_map.specs.NoConflict.{never_apart};
 
@@ -193,6 +195,11 @@ where
         sum_grows (least_cells-grows count more up) wider };
 
     ghost kept_none = { refl };
+
+    ghost same_as_itself = { λ x. record { filed = refl; slots = refl } };
+
+    ghost same_indexes = { λ x y state s same is. FilesWithin-kept E.key_of (hashing_of E.eq E.hash_input S.BuildHasher
+        S.Hasher.Hasher state) s x.table y.table same is };
 
     ghost apart = { λ x state s is. never_apart s };
 
@@ -217,6 +224,8 @@ where
     ghost reported_some = { λ s item at conflicts. absurd conflicts };
 
     ghost few_reported = { λ at. none_named };
+
+    ghost same_plans = { λ x y state s item plan same is. is };
 }
 
 impl<T, S, E> Removes<T, S> for ByHashMultiOf<E>

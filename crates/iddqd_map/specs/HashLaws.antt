@@ -1,6 +1,6 @@
 -- What a table of indexes under the hashes of a key keeps, as the laws of a key index say it.
 use Rattle.std.specs.Prelude.{◌≡◌, ℕ, Bool, true, not, List, Some, IsTrue}
-use Rattle.std.proofs.Common.{◌∙◌, ap, sym}
+use Rattle.std.proofs.Common.{◌∙◌, ap, sym, subst}
 use Rattle.std.specs.Cmp.{IsEquivalence, partial_equiv_from_equiv}
 use Rattle.std.specs.declared.hash.Hasher as hasher
 use Rattle.std.specs.declared.hash.BuildHasher as builder
@@ -91,6 +91,15 @@ module _ {T K : Type 0} (key_of : T → K) (hashing : Hashing K) (s : Store T) (
               o.in_sync.apart i j a b at_i at_j (e.trans (key_of a) (key_of y) (key_of b) one other);
         };
       }
+
+module _ {T K : Type 0} (key_of : T → K) (hashing : Hashing K) (s : Store T) where
+  -- a table of the same indexes
+  pub Indexes-kept :
+      (m n : FinMap nat_cmp ℕ)
+      → n ≡ m
+      → Indexes key_of hashing s m
+      → Indexes key_of hashing s n
+  Indexes-kept m n same is = subst (Indexes key_of hashing s) (sym same) is
 
 -- these laws for a key whose type has the bounds of a map's key
 module _ {T K S H : Type 0}

@@ -91,6 +91,8 @@ where
 
     ghost may_need_memory = { false };
 
+    ghost same = { λ x y. filed y.table ≡ filed x.table };
+
     ghost unique_keys = { 1 };
 }
 
@@ -152,11 +154,16 @@ where
     ghost use Rattle.std.proofs.Common.{refl};
     ghost use Rattle.iddqd_hash.proofs.LeastCellsLemmas.{least_cells-grows};
     ghost use Rattle.iddqd_hash.specs.MapHashTable.{filed};
-    ghost use Rattle.iddqd_map.specs.HashLaws.{shares_laws, Indexes-key_kept, Indexes-keys_shared};
+    ghost use Rattle.iddqd_map.specs.HashLaws.{shares_laws, Indexes-kept, Indexes-key_kept, Indexes-keys_shared};
 
     ghost needed_grows = { λ slots more_slots count more wider up. least_cells-grows count more up };
 
     ghost kept_none = { refl };
+
+    ghost same_as_itself = { λ x. refl };
+
+    ghost same_indexes = { λ x y state s same is. Indexes-kept E.key_of (hashing_of E.eq E.hash_input S.BuildHasher
+        S.Hasher.Hasher state) s (filed x.table) (filed y.table) same is };
 
     ghost apart = { λ x state s is. is.in_sync.apart };
 
@@ -183,6 +190,8 @@ where
     ghost reported_some = { λ s item at is. (at, refl) };
 
     ghost few_reported = { few_one };
+
+    ghost same_plans = { λ x y state s item plan same is. is };
 }
 
 impl<T, S, E> Removes<T, S> for ByHashOf<E>

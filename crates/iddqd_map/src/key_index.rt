@@ -95,6 +95,9 @@ pub trait KeyIndex<T, S>: Sized + Drop {
     // An insert after a removal may need memory, if there are more indexes than the capacity.
     ghost may_need_memory: { Bool };
 
+    // The two have the same indexes at the same keys; their memory may differ.
+    ghost same: { Self → Self → Type 0 };
+
     // How many items an item can be alike to: no more than there are keys.
     ghost unique_keys: { ℕ };
 }
@@ -164,6 +167,12 @@ pub trait IndexLaws<T, S>: KeyIndex<T, S> {
     ghost needed_grows: { (slots more_slots count more : ℕ) → slots ≤ more_slots → count ≤ more
         → Self.needed slots count ≤ Self.needed more_slots more };
 
+    // `same` is reflexive. Of two key indexes that are the same, the second indexes each store that the first does.
+    ghost same_as_itself: { (x : Self) → Self.same x x };
+
+    ghost same_indexes: { (x y : Self) (state : S) (s : Store T) → Self.same x y → Self.indexes x state s
+        → Self.indexes y state s };
+
     // No two items are alike.
     ghost apart: { (x : Self) (state : S) (s : Store T) → Self.indexes x state s → AreApart Self.alike s };
 
@@ -196,6 +205,10 @@ pub trait PlanLaws<T, S>: PlansChanges<T, S> {
 
     ghost few_reported: { (at : Self.Conflict) → (l : List ℕ) × (length l ≤ Self.unique_keys)
         × ((ix : ℕ) → Self.reports at ix → Contains l ix) };
+
+    // What was planned by a key index is planned by one that is the same.
+    ghost same_plans: { (x y : Self) (state : S) (s : Store T) (item : T) (plan : Self.InsertPlan) → Self.same x y
+        → Self.is_planned x state s item plan → Self.is_planned y state s item plan };
 }
 
 /// What a removal asks of a key index.
@@ -249,6 +262,8 @@ pub trait Inserts<T, S>: PlansChanges<T, S> {
 
     /// Takes the memory of a planned insert, and returns what of it isn't in the tables yet. The plan still holds after
     /// it. If there is room, it takes none.
+    ///
+    /// `indexed` and `planned` follow from `contents` by laws. They stand here so that an insert leads to no law.
     fn make_room(
         &mut self,
         items: &ItemSet<T>,
@@ -256,7 +271,8 @@ pub trait Inserts<T, S>: PlansChanges<T, S> {
         plan: &Self::InsertPlan,
     ) -> Result<Self::Blocks, AllocError>
         requires indexed { Self.indexes self.old state.now items.now.store }
-        ensures contents { IndexesAllOf (Self.indexes self.old) (Self.indexes self.new) }
+        ensures contents { Self.same self.old self.new }
+        ensures indexed { IndexesAllOf (Self.indexes self.old) (Self.indexes self.new) }
         ensures planned { StaysPlanned (Self.is_planned self.old) (Self.is_planned self.new) plan.now }
         ensures ready { IfOk result (Self.has_room_for self.new plan.now) }
         ensures had_room { live_count items.now.store < Self.capacity self.old → IsOk result × (self.new ≡ self.old) }
@@ -393,7 +409,7 @@ pub trait Upkeep<T, S>: IndexLaws<T, S> {
         additional: usize,
     ) -> Result<(), AllocError>
         requires indexed { Self.indexes self.old state.now items.now.store }
-        ensures contents { IndexesAllOf (Self.indexes self.old) (Self.indexes self.new) }
+        ensures contents { Self.same self.old self.new }
         ensures reserved { OnOk result (live_count items.now.store + additional ≤ Self.capacity self.new) }
         ensures had_room { live_count items.now.store + additional ≤ Self.capacity self.old
             → IsOk result × (self.new ≡ self.old) }
@@ -406,7 +422,7 @@ pub trait Upkeep<T, S>: IndexLaws<T, S> {
     /// The contents may have to move to a smaller block, for which memory may run out.
     fn shrink_to(&mut self, items: &ItemSet<T>, state: &S, least: usize) -> Result<(), AllocError>
         requires indexed { Self.indexes self.old state.now items.now.store }
-        ensures contents { IndexesAllOf (Self.indexes self.old) (Self.indexes self.new) }
+        ensures contents { Self.same self.old self.new }
         ensures never_more { Self.cells self.new ≤ Self.cells self.old }
         ensures capacity_at_least { min (Self.capacity self.old) (max least (live_count items.now.store))
             ≤ Self.capacity self.new }

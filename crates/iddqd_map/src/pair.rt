@@ -75,6 +75,8 @@ where
 
     ghost may_need_memory = { A.may_need_memory || B.may_need_memory };
 
+    ghost same = { λ x y. A.same x.first y.first × B.same x.second y.second };
+
     ghost unique_keys = { A.unique_keys + B.unique_keys };
 }
 
@@ -144,6 +146,13 @@ where
 
     ghost kept_none = { sum_none A.kept_none B.kept_none };
 
+    ghost same_as_itself = { λ x. (A.same_as_itself x.first, B.same_as_itself x.second) };
+
+    ghost same_indexes = { λ x y state s same is. (
+      A.same_indexes x.first y.first state s same.0 is.0,
+      B.same_indexes x.second y.second state s same.1 is.1,
+    ) };
+
     ghost apart = { λ x state s is. AreApart-either A.alike B.alike s (A.apart x.first state s is.0)
         (B.apart x.second state s is.1) };
 
@@ -182,6 +191,11 @@ where
         A.unique_keys
         B.unique_keys (few_by_one A.reports A.unique_keys A.few_reported (first_of at))
         (few_by_one B.reports B.unique_keys B.few_reported (second_of at)) };
+
+    ghost same_plans = { λ x y state s item plan same is. (
+      A.same_plans x.first y.first state s item plan.0 same.0 is.0,
+      B.same_plans x.second y.second state s item plan.1 same.1 is.1,
+    ) };
 }
 
 impl<T, S, A, B> Removes<T, S> for Pair<A, B>

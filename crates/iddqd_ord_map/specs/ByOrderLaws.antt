@@ -1,18 +1,39 @@
 -- The laws of an index by the order of a key: what keeps it so that it indexes a store.
-use Rattle.std.proofs.Common.{◌≡◌, ◌∙◌, ℕ, List, true, Some, Ordering}
+use Rattle.std.proofs.Common.{◌≡◌, ◌∙◌, ℕ, List, true, Some, sym, subst, Ordering}
 use Rattle.std.specs.Cmp.{IsTotalOrder}
 use Rattle.std.specs.Ordering.{eq_by_cmp}
 use Rattle.iddqd.specs.Store.{Store, get, rebound}
+use Rattle.iddqd_order.specs.MapBTreeTable.{Order, HasSameTree, order_of}
+use Rattle.iddqd_order.specs.declared.btree_table.gap.Gap.{Gap}
+use Rattle.iddqd_order.proofs.GapLemmas.{order-same, place-same, Fits-same}
 use Rattle.iddqd_by_order.specs.Ordered.{IsSortedScan}
 use Rattle.iddqd_keys.specs.Scan.{AreApart, IsHit}
 use Rattle.iddqd_keys.specs.AnyTable.{HasDistinctKeys}
 use Rattle.iddqd_by_order.proofs.OrderedHoldsLemmas.{Holds-rebound}
 use Rattle.iddqd_by_order.proofs.OrderedPlaceLemmas.{Keeps-rebound}
 use Rattle.iddqd_map.specs.KeyIndex.{HaveSameKeys}
+use Rattle.iddqd_ord_map.specs.ByOrder.{IsGapFor}
 use Rattle.iddqd_ord_map.specs.OrderedIndexing.{Sorts, has_key, alike_in_order}
 use Rattle.iddqd_ord_map.specs.SortedScanLaws.{shares_equivalence, unchanged, has_its_key, IsSortedScan-alike}
 
 module _ {T K : Type 0} (key_of : T → K) (compare : K → K → Ordering) where
+  pub Sorts-same_tree :
+      (s : Store T) (t u : Order)
+      → HasSameTree t u
+      → Sorts key_of compare s (order_of t)
+      → Sorts key_of compare s (order_of u)
+  Sorts-same_tree s t u same is = subst (Sorts key_of compare s) (sym (order-same t u same)) is
+
+  pub IsGapFor-same_tree :
+      (s : Store T) (t u : Order) (item : T) (gap : Gap)
+      → HasSameTree t u
+      → IsGapFor key_of compare s t item gap
+      → IsGapFor key_of compare s u item gap
+  IsGapFor-same_tree s t u item gap same is = record {
+    fits = Fits-same t u gap same is.fits;
+    vacant = rw (order-same t u same, place-same t u gap same) is.vacant;
+  }
+
   -- a table sorts the items if and only if its list is sorted and no two items share a key
   pub Sorts-scan : (s : Store T) (order : List ℕ) → Sorts key_of compare s order → IsSortedScan key_of compare s order
   Sorts-scan s order is = record { holds = is.held; placed = is.in_sync.placed }

@@ -1,6 +1,7 @@
 pub mod ByOrder
 pub mod ByOrderLaws
 pub mod ByOrderMulti
+pub mod ByOrderMultiLaws
 pub mod Equality
 pub mod InOrder
 pub mod ItemOrder

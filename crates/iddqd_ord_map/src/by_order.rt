@@ -81,6 +81,7 @@ where
 {
     ghost use Rattle.std.specs.Prelude.{true};
     ghost use Rattle.std.specs.Ordering.{eq_by_cmp};
+    ghost use Rattle.iddqd_order.specs.MapBTreeTable.{HasSameTree};
     ghost use Rattle.iddqd_map.specs.Map.{shares};
     ghost use Rattle.iddqd_ord_map.specs.OrderedSteps.{reserved_for, most_cells};
 
@@ -109,6 +110,8 @@ where
     ghost needed = { λ slots count. count };
 
     ghost may_need_memory = { true };
+
+    ghost same = { λ x y. HasSameTree x.table y.table };
 
     ghost unique_keys = { 1 };
 }
@@ -166,12 +169,16 @@ where
     E: OrdKey<T>,
 {
     ghost use Rattle.std.proofs.Common.{refl};
-    ghost use Rattle.iddqd_ord_map.specs.ByOrderLaws.{Sorts-modified, Sorts-alike};
+    ghost use Rattle.iddqd_ord_map.specs.ByOrderLaws.{Sorts-same_tree, Sorts-modified, Sorts-alike};
     ghost use Rattle.iddqd_ord_map.specs.SortedScanLaws.{shares_equivalence};
 
     ghost needed_grows = { λ slots more_slots count more wider up. up };
 
     ghost kept_none = { refl };
+
+    ghost same_as_itself = { λ x. record { root = refl; height = refl } };
+
+    ghost same_indexes = { λ x y state s same is. Sorts-same_tree E.key_of E.cmp s x.table y.table same is };
 
     ghost apart = { λ x state s is. is.in_sync.apart };
 
@@ -192,12 +199,16 @@ where
     ghost use Rattle.std.specs.Ordering.{eq_by_cmp};
     ghost use Rattle.iddqd_map.specs.Map.{shares};
     ghost use Rattle.iddqd_map.specs.OneKeyLaws.{reported_one, few_one};
+    ghost use Rattle.iddqd_ord_map.specs.ByOrderLaws.{IsGapFor-same_tree};
 
     ghost reported = { λ s item at scan ix. reported_one s (shares E.key_of (eq_by_cmp E.cmp) item) at scan ix };
 
     ghost reported_some = { λ s item at scan. (at, refl) };
 
     ghost few_reported = { few_one };
+
+    ghost same_plans = { λ x y state s item gap same is.
+        IsGapFor-same_tree E.key_of E.cmp s x.table y.table item gap same is };
 }
 
 impl<T, S, E> Removes<T, S> for ByOrderOf<E>

@@ -82,6 +82,7 @@ where
 {
     ghost use Rattle.std.specs.Prelude.{true};
     ghost use Rattle.std.specs.Ordering.{eq_by_cmp};
+    ghost use Rattle.iddqd_order.specs.MapBTreeTable.{HasSameTree};
     ghost use Rattle.iddqd_map.specs.Map.{shares};
     ghost use Rattle.iddqd_map.specs.NoConflict.{never_alike};
     ghost use Rattle.iddqd_ord_map.specs.OrderedSteps.{reserved_for, most_cells};
@@ -111,6 +112,8 @@ where
     ghost needed = { λ slots count. count };
 
     ghost may_need_memory = { true };
+
+    ghost same = { λ x y. HasSameTree x.table y.table };
 
     ghost unique_keys = { 0 };
 }
@@ -165,11 +168,16 @@ where
 {
     ghost use Rattle.std.proofs.Common.{refl};
     ghost use Rattle.iddqd_map.specs.NoConflict.{never_apart};
-    ghost use Rattle.iddqd_ord_map.specs.SortedScanLaws.{IsSortedScan-modified, IsSortedScan-alike, shares_equivalence};
+    ghost use Rattle.iddqd_ord_map.specs.SortedScanLaws.{IsSortedScan-same_tree, IsSortedScan-modified, IsSortedScan-alike, shares_equivalence};
 
     ghost needed_grows = { λ slots more_slots count more wider up. up };
 
     ghost kept_none = { refl };
+
+    ghost same_as_itself = { λ x. record { root = refl; height = refl } };
+
+    ghost same_indexes = { λ x y state s same is.
+        IsSortedScan-same_tree E.key_of E.cmp s x.table y.table same is };
 
     ghost apart = { λ x state s is. never_apart s };
 
@@ -187,12 +195,16 @@ where
     E: OrdKey<T>,
 {
     ghost use Rattle.iddqd_map.specs.NoConflict.{none_named};
+    ghost use Rattle.iddqd_ord_map.specs.ByOrderMultiLaws.{IsOwnGapFor-same_tree};
 
     ghost reported = { λ s item at conflicts ix. absurd conflicts };
 
     ghost reported_some = { λ s item at conflicts. absurd conflicts };
 
     ghost few_reported = { λ at. none_named };
+
+    ghost same_plans = { λ x y state s item gap same is.
+        IsOwnGapFor-same_tree E.key_of E.cmp s x.table y.table item gap same is };
 }
 
 impl<T, S, E> Removes<T, S> for ByOrderMultiOf<E>

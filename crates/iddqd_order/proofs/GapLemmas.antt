@@ -3,15 +3,26 @@ use Rattle.std.proofs.Common.{◌≡◌, ◌<◌, ◌≤◌, ◌==◌, ℕ, List
 use Rattle.std.proofs.lemmas.Bool.{cases_lt}
 use Rattle.std.proofs.lemmas.List.Sums.{length-filter, count_by-le-length}
 use Rattle.iddqd_order.specs.MapBTreeTable.{Order, HasSameTree, order_of, capacity, capacity_of, move_blocks, without}
-use Rattle.iddqd_order.specs.Gap.{Fits, NeedsNoMoreBlocks, gap_blocks}
+use Rattle.iddqd_order.specs.Gap.{Fits, NeedsNoMoreBlocks, gap_place, gap_blocks}
 use Rattle.iddqd_order.specs.declared.btree_table.gap.Gap.{Gap}
-use Rattle.iddqd_order.specs.Tree.{in_order}
+use Rattle.iddqd_order.specs.Tree.{in_order, place_in}
 use Rattle.iddqd_order.proofs.RoomLemmas.{none-fresh, enough-blocks, move-none, move-most}
 
--- a table with the same tree has the same list
+-- a table with the same tree has the same list, and the same places
 pub order-same : (t u : Order) → HasSameTree t u → order_of u ≡ order_of t
 unfolding order_of
 order-same t u same = λ i. in_order (same.root i) (same.height i)
+
+pub place-same : (t u : Order) (gap : Gap) → HasSameTree t u → gap_place u gap ≡ gap_place t gap
+place-same t u gap same = λ i. place_in (same.root i) (same.height i) gap.path
+
+pub Fits-same : (t u : Order) (gap : Gap) → HasSameTree t u → Fits t gap → Fits u gap
+Fits-same t u gap same fits = record {
+  tree = rw (same.root, same.height) fits.tree;
+  goes = rw (same.root, same.height) fits.goes;
+  full = rw (same.root, same.height) fits.full;
+  levels = rw same.height fits.levels;
+}
 
 -- how much a table can hold at least
 pub capacity-least : (t : Order) → capacity t ≡ capacity_of t.reserved

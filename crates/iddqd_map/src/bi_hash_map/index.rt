@@ -84,6 +84,8 @@ where
 
     ghost may_need_memory = { false };
 
+    ghost same = { λ x y. (filed y.first.table ≡ filed x.first.table) × (filed y.second.table ≡ filed x.second.table) };
+
     ghost unique_keys = { 2 };
 }
 
@@ -157,7 +159,7 @@ where
     ghost use Rattle.iddqd_hash.specs.MapHashTable.{filed};
     ghost use Rattle.iddqd_hash.proofs.LeastCellsLemmas.{least_cells-grows};
     ghost use Rattle.iddqd_by_hash.specs.Hashed.{hashing_of};
-    ghost use Rattle.iddqd_map.specs.HashLaws.{shares_laws, Indexes-key_kept, Indexes-keys_shared};
+    ghost use Rattle.iddqd_map.specs.HashLaws.{shares_laws, Indexes-kept, Indexes-key_kept, Indexes-keys_shared};
     ghost use Rattle.iddqd_map.specs.PairLaws.{AreApart-either, HaveSameKeys-first, HaveSameKeys-second, sum_grows};
     ghost use Rattle.iddqd_map.specs.Map.{shares};
 
@@ -165,6 +167,15 @@ where
         sum_grows (least_cells-grows count more up) (least_cells-grows count more up) };
 
     ghost kept_none = { refl };
+
+    ghost same_as_itself = { λ x. (refl, refl) };
+
+    ghost same_indexes = { λ x y state s same is. (
+      Indexes-kept A.key_of (hashing_of A.eq A.hash_input S.BuildHasher S.Hasher.Hasher state) s
+          (filed x.first.table) (filed y.first.table) same.0 is.0,
+      Indexes-kept B.key_of (hashing_of B.eq B.hash_input S.BuildHasher S.Hasher.Hasher state) s
+          (filed x.second.table) (filed y.second.table) same.1 is.1,
+    ) };
 
     ghost apart = { λ x state s is. AreApart-either (shares A.key_of A.eq) (shares B.key_of B.eq) s
         is.0.in_sync.apart is.1.in_sync.apart };
@@ -205,6 +216,8 @@ where
         at.key1 at.key2 };
 
     ghost few_reported = { λ at. few_two at.key1 at.key2 };
+
+    ghost same_plans = { λ x y state s item plan same is. is };
 }
 
 impl<T, S, A, B> Removes<T, S> for BiIndexOf<A, B>

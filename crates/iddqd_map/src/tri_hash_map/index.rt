@@ -96,6 +96,9 @@ where
 
     ghost may_need_memory = { false };
 
+    ghost same = { λ x y. (filed y.first.table ≡ filed x.first.table)
+        × ((filed y.second.table ≡ filed x.second.table) × (filed y.third.table ≡ filed x.third.table)) };
+
     ghost unique_keys = { 3 };
 }
 
@@ -178,7 +181,7 @@ where
     ghost use Rattle.iddqd_hash.specs.MapHashTable.{filed};
     ghost use Rattle.iddqd_hash.proofs.LeastCellsLemmas.{least_cells-grows};
     ghost use Rattle.iddqd_by_hash.specs.Hashed.{hashing_of};
-    ghost use Rattle.iddqd_map.specs.HashLaws.{shares_laws, Indexes-key_kept, Indexes-keys_shared};
+    ghost use Rattle.iddqd_map.specs.HashLaws.{shares_laws, Indexes-kept, Indexes-key_kept, Indexes-keys_shared};
     ghost use Rattle.iddqd_map.specs.PairLaws.{AreApart-either, HaveSameKeys-first, HaveSameKeys-second, sum_grows};
     ghost use Rattle.iddqd_map.specs.Map.{shares};
     ghost use Rattle.iddqd_map.specs.Several.{either_key, both_keys};
@@ -187,6 +190,19 @@ where
         sum_grows one (sum_grows one one) };
 
     ghost kept_none = { refl };
+
+    ghost same_as_itself = { λ x. (refl, (refl, refl)) };
+
+    ghost same_indexes = { λ x y state s same is. (
+      Indexes-kept A.key_of (hashing_of A.eq A.hash_input S.BuildHasher S.Hasher.Hasher state) s
+          (filed x.first.table) (filed y.first.table) same.0 is.0,
+      (
+        Indexes-kept B.key_of (hashing_of B.eq B.hash_input S.BuildHasher S.Hasher.Hasher state) s
+            (filed x.second.table) (filed y.second.table) same.1.0 is.1.0,
+        Indexes-kept C.key_of (hashing_of C.eq C.hash_input S.BuildHasher S.Hasher.Hasher state) s
+            (filed x.third.table) (filed y.third.table) same.1.1 is.1.1,
+      ),
+    ) };
 
     ghost apart = { λ x state s is. let second = shares B.key_of B.eq in
         let third = shares C.key_of C.eq in
@@ -244,6 +260,8 @@ where
         (shares C.key_of C.eq) };
 
     ghost few_reported = { λ at. few_three at.key1 at.key2 at.key3 };
+
+    ghost same_plans = { λ x y state s item plan same is. is };
 }
 
 impl<T, S, A, B, C> Removes<T, S> for TriIndexOf<A, B, C>

@@ -5,15 +5,6 @@ use Rattle.iddqd_hash.proofs.LeastCellsLemmas.{least_cells-grows}
 use Rattle.iddqd_map.proofs.SizeLemmas.{one-refused}
 use Rattle.iddqd_map.proofs.tri_hash_map.index.TriIndexOfUpkeep.shrink_to.Goals as goal
 
-pub returns-clause-contents : goal.returns-clause-contents
-returns-clause-contents g c = λ state s is. (
-  c.shrink_to-first.ensures.contents state s is.0,
-  (
-    c.shrink_to-second.ensures.contents state s is.1.0,
-    c.shrink_to-third.ensures.contents state s is.1.1,
-  ),
-)
-
 pub returns-clause-enough : goal.returns-clause-enough
 returns-clause-enough g c =
     let wanted = max c.args.least (live_count c.args.items.now.store) in
