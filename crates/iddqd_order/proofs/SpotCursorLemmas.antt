@@ -1,5 +1,5 @@
 -- What a step of a spot cursor leaves, and where paths go after an index is replaced.
-use Rattle.iddqd_order.proofs.Names.{◌≡◌, ◌≢◌, ◌∙◌, ℕ, zero, suc, ◌+◌, ◌-◌, ◌<◌, ◌≤◌, List, [], ◌++◌, length, get_or, set, slice_index, slice_set, refl, sym, ap, subst, arith, Option, Some, None, is_some, true, false, sub-one, length-append, length-set, get_or-set_same, get_or-set_other, inl, inr, cases_eq, length-map, map-set, All-set, Node, SpotCursor, row, children, child, child_room, weave, before, after, flat, IsFormed, ReachesIndex, place_at_level, StepsToNext, SamePlaces, IsSpotCursor, get_or_default, add-one, set-get_or, most_in_row, least_in_row, most_levels}
+use Rattle.iddqd_order.proofs.Names.{◌≡◌, ◌≢◌, ◌∙◌, ℕ, zero, suc, ◌+◌, ◌-◌, ◌<◌, ◌≤◌, List, [], ◌++◌, length, get_or, set, slice_index, slice_set, refl, sym, ap, subst, arith, Option, Some, None, is_some, true, false, sub-one, length-append, length-set, get_or-set_same, get_or-set_other, inl, inr, cases_eq, cases_lt, length-map, map-set, All-set, Node, SpotCursor, row, children, child, child_room, weave, before, after, flat, IsFormed, ReachesIndex, place_at_level, StepsToNext, SamePlaces, IsSpotCursor, get_or_default, add-one, set-get_or, most_in_row, least_in_row, most_levels}
 use Rattle.iddqd_order.proofs.NodeLemmas.{lists, AreChildren, formed-within, formed-leaf, leaf-formed, flat-leaf, formed-inner, inner-formed, flat-inner}
 use Rattle.iddqd_order.proofs.RemovalLemmas.{GoesBelow, goes-below, ends-inner, holds-leaf, holds-at, holds-level, holds-below, place_at_level-leaf, place_at_level-at, place_at_level-below}
 use Rattle.iddqd_order.proofs.DescentLemmas.{after-last, before-next, lists-one_more, lists-at, child-formed, child-read, child_is, holds-here, below-holds, place_at_level-row}
@@ -109,18 +109,16 @@ steps-below h l i m n p q b here s =
     (below-holds m h n q b.inner (rw here b.here) (rw here s.0), omega arith)
 
 -- from the last one below the i-th child to the i-th index
-pub steps-out :
-    (h l i : ℕ) (r : Option ℕ) (n : Node) (p q : List ℕ)
+steps-out :
+    (h l i : ℕ) (n : Node) (p q : List ℕ)
     → GoesBelow h l i n p
     → i ≡ slice_index p h
     → IsFormed h n
     → q ≡ p
     → i < length (row n)
-    → is_some r ≡ false
-    → StepsToNext (h - 1) (child n i) l p r q
+    → StepsToNext (h - 1) (child n i) l p None q
     → StepsToNext h n l p (Some h) q
-steps-out h l i (Some m) n p q b ei f same lt none s = absurd (cc)
-steps-out h l i None n p q b ei f same lt none s =
+steps-out h l i n p q b ei f same lt s =
     let here : i ≡ slice_index q h = ei ∙ ap (λ z. slice_index z h) (sym same) in
     let holds = holds-here h n q (rw (sym here) lt) in
     let is = (ends-inner h h i n q b.inner refl here f holds).place in
@@ -129,16 +127,14 @@ steps-out h l i None n p q b ei f same lt none s =
     (holds, omega arith)
 
 -- or to the end of the node
-pub ends-below :
-    (h l i : ℕ) (r : Option ℕ) (n : Node) (p q : List ℕ)
+ends-below :
+    (h l i : ℕ) (n : Node) (p q : List ℕ)
     → GoesBelow h l i n p
     → IsFormed h n
     → length (row n) ≤ i
-    → is_some r ≡ false
-    → StepsToNext (h - 1) (child n i) l p r q
+    → StepsToNext (h - 1) (child n i) l p None q
     → StepsToNext h n l p None q
-ends-below h l i (Some m) n p q b f le none s = absurd (cc)
-ends-below h l i None n p q b f le none s =
+ends-below h l i n p q b f le s =
     let xs : List ℕ = row n in let ks : List (List ℕ) = lists (h - 1) (children n) in
     let one = lists-one_more h n b.inner f in
     let whole = ap length (flat-inner h n b.inner ∙ apart i xs ks [] (omega (arith, b.here, length-map (children n) (λ k. flat (h - 1) k))) one) in
@@ -190,45 +186,54 @@ ends-here {h = h} {l = l} {i = i} {n = n} {p = p} le ei f w =
           ∙ place_at_level-row h n p f (rw (sym ei) lt) ∙ ap (slice_index (row n)) (sym ei);
     }
 
--- a step to an index below the i-th child is a step in the whole
-pub steps-below_any :
-    (h l i : ℕ) (r : Option ℕ) (n : Node) (p q : List ℕ)
-    → GoesBelow h l i n p
-    → slice_index q h ≡ i
-    → is_some r ≡ true
-    → StepsToNext (h - 1) (child n i) l p r q
-    → StepsToNext h n l p r q
-steps-below_any h l i None n p q b same some s = absurd (cc)
-steps-below_any h l i (Some m) n p q b same some s = steps-below h l i m n p q b same s
+-- A walk from the node n down has come to the node k at level j. A step below k is a step below n. After the last index
+-- below k comes the one at the level `above`.
+pub record StepsOn (h j l : ℕ) (n k : Node) (p : List ℕ) (above : Option ℕ) : Type 0 where
+  pub high : l ≤ j
+  pub low : j ≤ h
+  pub formed : IsFormed j k
+  pub holds : ReachesIndex l j k p
+  pub index : (ix : ℕ) → ix ≡ slice_index (flat j k) (place_at_level l j k p)
+      → ix ≡ slice_index (flat h n) (place_at_level l h n p)
+  pub on : (m : ℕ) (q : List ℕ) → ((i : ℕ) → j < i → slice_index q i ≡ slice_index p i)
+      → StepsToNext j k l p (Some m) q → StepsToNext h n l p (Some m) q
+  pub last : StepsToNext j k l p None p → StepsToNext h n l p above p
 
--- what a step below the i-th child leaves
-pub record SteppedBelow (h l i ix : ℕ) (r : Option ℕ) (n : Node) (p q : List ℕ) : Type 0 where
-  pub below : GoesBelow h l i n p
-  pub index : ix ≡ slice_index (flat h n) (place_at_level l h n p)
-  pub next : StepsToNext (h - 1) (child n i) l p r q
+-- the level of the index behind the i-th child of a node at level j, or else `above`
+pub record IsLevelBehind (k : Node) (i j : ℕ) (above next : Option ℕ) : Type 0 where
+  pub here : i < length (row k) → next ≡ Some j
+  pub past : length (row k) ≤ i → next ≡ above
 
-pub stepped-below :
-    {h l i ix : ℕ} {r : Option ℕ} {n k : Node} {p q : List ℕ}
-    → l < h
-    → i ≡ slice_index p h
-    → IsFormed h n
-    → ReachesIndex l h n p
-    → k ≡ get_or (children n) i k
-    → ix ≡ slice_index (flat (h - 1) k) (place_at_level l (h - 1) k p)
-    → StepsToNext (h - 1) k l p r q
-    → SteppedBelow h l i ix r n p q
-stepped-below {h = h} {l = l} {i = i} {ix = ix} {r = r} {n = n} {k = k} {p = p} {q = q} lt ei f w is index next =
-    let b = goes-below h l i n p lt ei f w in
-    let same : k ≡ child n i = child_is n i k b.here is in
+pub steps-on_below :
+    (h j l i : ℕ) (n k c : Node) (p : List ℕ) (above next : Option ℕ)
+    → l < j
+    → i ≡ slice_index p j
+    → c ≡ get_or (children k) i c
+    → StepsOn h j l n k p above
+    → IsLevelBehind k i j above next
+    → StepsOn h (j - 1) l n c p next
+steps-on_below h j l i n k c p above next lt ei is steps level =
+    let b = goes-below j l i k p lt ei steps.formed steps.holds in
+    let same : c ≡ child k i = child_is k i c b.here is in
     record {
-      below = b;
-      index = read-below h l i ix n p b f (subst (λ z. ix ≡ slice_index (flat (h - 1) z) (place_at_level l (h - 1) z p)) same index);
-      next = subst (λ z. StepsToNext (h - 1) z l p r q) same next;
+      high = omega arith;
+      low = omega (arith, steps.low);
+      formed = rw same b.formed;
+      holds = rw same b.holds;
+      index = λ ix at. steps.index ix (read-below j l i ix k p b steps.formed
+          (subst (λ z. ix ≡ slice_index (flat (j - 1) z) (place_at_level l (j - 1) z p)) same at));
+      on = λ m q kept s. steps.on m q (λ u up. kept u (omega arith))
+          (steps-below j l i m k p q b (kept j (omega arith) ∙ sym ei)
+          (subst (λ z. StepsToNext (j - 1) z l p (Some m) q) same s));
+      last = λ s. elim (cases_lt i (length (row k))) [
+        | inl within ↦ subst (λ r. StepsToNext h n l p r p) (sym (level.here within))
+            (steps.on j p (λ u up. refl) (steps-out j l i k p p b ei steps.formed refl within
+            (subst (λ z. StepsToNext (j - 1) z l p None p) same s)))
+        | inr over ↦ subst (λ r. StepsToNext h n l p r p) (sym (level.past over))
+            (steps.last (ends-below j l i k p p b steps.formed over
+            (subst (λ z. StepsToNext (j - 1) z l p None p) same s)))
+      ];
     }
-
-pub none-is : (r : Option ℕ) → is_some r ≡ false → r ≡ None
-none-is None e = refl
-none-is (Some m) e = absurd (cc)
 
 -- what stands before the i-th list is as long, if the lists are as long
 before-as_long :

@@ -1,13 +1,13 @@
 -- The index behind a gap, one level at a time.
-use Rattle.iddqd_order.proofs.Names.{AtIndex, IsTree, in_order, place_at_level_in, ReachesIndexIn, IfSome, IsNone, Option, None, Some, slice_get-get_or, get_or-remove_above, length-remove, remove, cases_lt, inl, inr, ◌≡◌, ◌≢◌, ◌∙◌, ℕ, zero, suc, ◌+◌, ◌-◌, ◌<◌, List, length, slice_index, refl, sym, ap, arith, Node, row, children, child, before, flat, IsFormed, place, place_at_level}
+use Rattle.iddqd_order.proofs.Names.{AtIndex, IsTree, in_order, place_at_level_in, ReachesIndexIn, IfSome, IsNone, Option, None, Some, slice_get-get_or, get_or-remove_above, length-remove, remove, cases_lt, inl, inr, subst, get_or, Back, ◌≡◌, ◌≢◌, ◌∙◌, ℕ, zero, suc, ◌+◌, ◌-◌, ◌<◌, ◌≤◌, List, length, slice_index, refl, sym, ap, arith, Node, row, children, child, before, flat, IsFormed, ReachesGap, place, place_at_level}
 use Rattle.std.specs.List.{slice_get}
 use Rattle.std.specs.Option.{option_map}
 use Rattle.std.proofs.lemmas.Option.{slice_get_past}
 use Rattle.iddqd_order.specs.Spot.{StandsBehind}
 use Rattle.iddqd_order.proofs.TreeLemmas.{place_at_level_in-within}
-use Rattle.iddqd_order.proofs.CursorLemmas.{Below, place-at}
+use Rattle.iddqd_order.proofs.CursorLemmas.{Below, ended-here, ended-leaf, goes-in, place-at}
 use Rattle.iddqd_order.proofs.DescentLemmas.{child-read}
-use Rattle.iddqd_order.proofs.NodeLemmas.{lists, place_at_level-within, below-holds, goes-below, holds-here, holds-level, place-leaf, place_at_level-at}
+use Rattle.iddqd_order.proofs.NodeLemmas.{formed-inner, goes-leaf, lists, place_at_level-within, below-holds, goes-below, holds-here, holds-level, place-leaf, place_at_level-at}
 use Rattle.iddqd_order.proofs.SpotCursorLemmas.{ends-here}
 
 pub behind-in_leaf :
@@ -76,6 +76,73 @@ behind-here h i n k p ix ne f b ei last lt is =
       place_is = same;
       index =
           is ∙ sym (ends-here (omega arith) ei f holds).spot_is ∙ ap (λ z. slice_index (flat h n) z) same;
+    }
+
+-- what was found behind the gap to which p goes: an index with its level, or none if the gap is behind all
+pub record IsFound (h : ℕ) (n : Node) (p : List ℕ) (found : Option (ℕ × ℕ)) : Type 0 where
+  pub some : IfSome found (λ r. StandsBehind h n p r.0 r.1)
+  pub none : IsNone found → place h n p ≡ length (flat h n)
+
+found-some :
+    (h : ℕ) (n : Node) (p : List ℕ) (ix l : ℕ) (found : Option (ℕ × ℕ))
+    → found ≡ Some (ix, l)
+    → StandsBehind h n p ix l
+    → IsFound h n p found
+found-some h n p ix l found is s = subst (IsFound h n p) (sym is) (record { some = s; none = λ none. absurd (cc) })
+
+-- A walk from the node n down has come to the node k at level l. What is behind the gap below k is so below n, too. If
+-- the gap is behind all below k, then `above` was found.
+pub record LooksBehind (h l : ℕ) (n k : Node) (p : List ℕ) (above : Option (ℕ × ℕ)) : Type 0 where
+  pub low : l ≤ h
+  pub formed : IsFormed l k
+  pub goes : ReachesGap l k p
+  pub below : (ix m : ℕ) → StandsBehind l k p ix m → StandsBehind h n p ix m
+  pub last : place l k p ≡ length (flat l k) → IsFound h n p above
+
+-- at gap i of its row, a node at level l offers the index behind it, or else `above`
+pub record Offers (k : Node) (i l : ℕ) (above found : Option (ℕ × ℕ)) : Type 0 where
+  pub here : i < length (row k) → found ≡ Some (slice_index (row k) i, l)
+  pub past : length (row k) ≤ i → found ≡ above
+
+pub found-in_leaf :
+    (h l i : ℕ) (n k : Node) (p : List ℕ) (above found : Option (ℕ × ℕ))
+    → l ≡ 0
+    → i ≡ slice_index p l
+    → LooksBehind h l n k p above
+    → Offers k i l above found
+    → IsFound h n p found
+found-in_leaf h l i n k p above found e ei looks offers =
+    elim (cases_lt i (length (row k))) [
+      | inl lt ↦ found-some h n p (slice_index (row k) i) l found (offers.here lt)
+          (looks.below (slice_index (row k) i) l (behind-in_leaf l i k p (slice_index (row k) i) e ei lt refl))
+      | inr over ↦ subst (IsFound h n p) (sym (offers.past over))
+          (looks.last (ended-leaf Back l i k p e
+          (omega (arith, goes-leaf l k p e looks.goes, ap (slice_index p) e, over, ei)) ei))
+    ]
+
+pub looks-below :
+    (h l i : ℕ) (n k c : Node) (p : List ℕ) (above found : Option (ℕ × ℕ))
+    → l ≢ 0
+    → i ≡ slice_index p l
+    → c ≡ get_or (children k) i c
+    → LooksBehind h l n k p above
+    → Offers k i l above found
+    → LooksBehind h (l - 1) n c p found
+looks-below h l i n k c p above found ne ei is looks offers =
+    let b = goes-in l i k c p ne ei looks.formed looks.goes is in
+    record {
+      low = omega (arith, looks.low);
+      formed = b.formed;
+      goes = b.goes;
+      below = λ ix m s. looks.below ix m (behind-below l i k c p ix m ne looks.formed b ei s);
+      last = λ end. elim (cases_lt i (length (row k))) [
+        | inl lt ↦ found-some h n p (slice_index (row k) i) l found (offers.here lt)
+            (looks.below (slice_index (row k) i) l
+            (behind-here l i k c p (slice_index (row k) i) ne looks.formed b ei end lt refl))
+        | inr over ↦ subst (IsFound h n p) (sym (offers.past over))
+            (looks.last (ended-here Back l i k c p ne looks.formed b ei
+            (omega (arith, b.here, (formed-inner l k ne looks.formed).inner.one_more, over)) end))
+      ];
     }
 
 -- what stands at a spot, and behind a gap, in a table

@@ -3,7 +3,7 @@
 //! A spot borrows no table. It is valid for the table that it was found in until that table's tree changes; `take_at`
 //! changes the tree, and moves the spot to the index that stood behind the removed one. So a run of indexes is removed
 //! by one search.
-ghost use Rattle.std.specs.Prelude.{◌≡◌, ℕ, ◌+◌, ◌<◌, ◌≤◌, None, length, slice_get, slice_index, IfSome, IsNone, IsSome};
+ghost use Rattle.std.specs.Prelude.{◌≡◌, ℕ, ◌+◌, ◌<◌, ◌≤◌, None, Some, length, slice_get, slice_index, IfSome, IsNone, IsSome};
 ghost use Rattle.std.specs.Option.{option_map};
 ghost use Rattle.iddqd_order.specs.MapBTreeTable.{IsSpot, capacity, order_of, spot_place, without};
 ghost use Rattle.iddqd_order.specs.Node.{IsFormed, ReachesGap, flat, place};
@@ -18,6 +18,7 @@ use crate::btree_table::node::Node;
 use crate::btree_table::path::Path;
 use crate::btree_table::reading::{Reads, by_query};
 use crate::btree_table::removal::ToGap;
+use crate::btree_table::row::Row;
 use crate::btree_table::table::MapBTreeTable;
 use iddqd::item_index::ItemIndex;
 use iddqd::map_hash::Comparable;
@@ -124,19 +125,35 @@ impl Node {
         ensures found { IfSome result (λ r. StandsBehind height self.now path.now r.0 r.1) }
         ensures ended { IsNone result → place height self.now path.now ≡ length (flat height self.now) }
     {
-        let place = path.get(height);
-        if height == 0 {
-            if place < self.row.len() {
-                return Some((self.row.get(place), 0));
+        let mut found = None;
+        let mut node = self;
+        let mut level = height;
+        loop {
+            let place = path.get(level);
+            found = behind_gap(&node.row, place, level, found);
+            if level == 0 {
+                return found;
             }
-            return None;
+            level -= 1;
+            node = &node.children[place];
         }
-        if let Some(found) = self.children[place].behind(height - 1, path) {
-            return Some(found);
-        }
-        if place < self.row.len() {
-            return Some((self.row.get(place), height));
-        }
-        None
+    }
+}
+
+// The index behind a gap of this row, and its node's level; if the gap is at the row's end, what was found above.
+#[inline(always)]
+fn behind_gap(
+    row: &Row,
+    gap: usize,
+    level: usize,
+    above: Option<(ItemIndex, usize)>,
+) -> Option<(ItemIndex, usize)>
+    ensures here { gap < length row.now → result ≡ Some (slice_index row.now gap, level) }
+    ensures above { length row.now ≤ gap → result ≡ above }
+{
+    if gap < row.len() {
+        Some((row.get(gap), level))
+    } else {
+        above
     }
 }

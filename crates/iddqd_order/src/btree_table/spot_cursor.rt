@@ -1,13 +1,14 @@
 //! A cursor that stands at an index, and steps from one index to the next.
 //!
 //! It holds no reference, so the tree may change its indexes between two steps.
-ghost use Rattle.std.specs.Prelude.{◌≡◌, ℕ, ◌+◌, ◌<◌, ◌≤◌, length, [], slice_index, slice_set, None};
+ghost use Rattle.std.specs.Prelude.{◌≡◌, ℕ, ◌+◌, ◌<◌, ◌≤◌, length, [], slice_index, slice_set, Some, None};
 ghost use Rattle.iddqd_order.specs.Node.{row, flat, inners, IsFormed, ReachesIndex, place_at_level};
 ghost use Rattle.iddqd_order.specs.Shape.{most_levels};
 ghost use Rattle.iddqd_order.specs.SpotCursor.{IsSpotCursor, StepsToNext, SamePlaces};
 
 use crate::btree_table::node::Node;
 use crate::btree_table::path::Path;
+use crate::btree_table::row::Row;
 use crate::btree_table::spot::Spot;
 use iddqd::item_index::ItemIndex;
 
@@ -92,27 +93,26 @@ impl Node {
         ensures above { (l : ℕ) → height < l → slice_index path.new l ≡ slice_index path.old l }
         ensures ended { result.1 ≡ None → path.new ≡ path.old }
     {
-        let i = path.get(height);
-        if height > level {
-            let (ix, next) = self.children[i].step(height - 1, path, level);
-            if next.is_some() {
-                return (ix, next);
-            }
-            if i < self.row.len() {
-                return (ix, Some(height));
-            }
-            return (ix, None);
+        let mut next = None;
+        let mut node = self;
+        let mut at = height;
+        while at > level {
+            let i = path.get(at);
+            next = level_behind(&node.row, i, at, next);
+            at -= 1;
+            node = &node.children[i];
         }
-        let ix = self.row.get(i);
-        if height > 0 {
-            path.set_and_zero_below(height, i + 1);
+        let i = path.get(at);
+        let ix = node.row.get(i);
+        if at > 0 {
+            path.set_and_zero_below(at, i + 1);
             return (ix, Some(0));
         }
-        if i + 1 < self.row.len() {
+        if i + 1 < node.row.len() {
             path.set(0, i + 1);
             return (ix, Some(0));
         }
-        (ix, None)
+        (ix, next)
     }
 
     // The index to which a path goes at a level.
@@ -148,4 +148,14 @@ impl Node {
         }
         self.row.set(i, ix);
     }
+}
+
+// The level of the index behind the i-th child of a node that has this row and level; if there is none, what was found
+// above.
+#[inline(always)]
+fn level_behind(row: &Row, i: usize, level: usize, above: Option<usize>) -> Option<usize>
+    ensures here { i < length row.now → result ≡ Some level }
+    ensures above { length row.now ≤ i → result ≡ above }
+{
+    if i < row.len() { Some(level) } else { above }
 }
