@@ -1,4 +1,4 @@
-use Rattle.std.proofs.Common.{◌≡◌, ◌∙◌, ◌+◌, arith, sym, refl, rules}
+use Rattle.std.proofs.Common.{◌≡◌, ◌∙◌, ◌+◌, arith, sym, rules}
 use Rattle.iddqd_order.proofs.RemovalLemmas.{goes-below, holds-level}
 use Rattle.iddqd_order.proofs.DescentLemmas.{path-here, path-above}
 use Rattle.iddqd_order.proofs.SpotCursorLemmas.{steps-on_below, ends-here, steps-leaf, ends-leaf, steps-here}
