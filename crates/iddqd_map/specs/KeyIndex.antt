@@ -21,10 +21,11 @@ module _ {S T : Type 0} where
   abbrev pub IsPlannedForOne : (S → Store T → T → Type 0) → Type 0
   IsPlannedForOne planned = (state : S) × ((s : Store T) × ((item : T) × planned state s item))
 
-  -- what this was planned for before the call, it is planned for after it
+  -- what was planned before the call, for any item of any store, still is
   abbrev pub StaysPlanned :
-      {P : Type 0} → (S → Store T → T → P → Type 0) → (S → Store T → T → P → Type 0) → P → Type 0
-  StaysPlanned old new plan = (state : S) (s : Store T) (item : T) → old state s item plan → new state s item plan
+      {P : Type 0} → (S → Store T → T → P → Type 0) → (S → Store T → T → P → Type 0) → Type 0
+  StaysPlanned {P} old new = (state : S) (s : Store T) (item : T) (plan : P) → old state s item plan
+      → new state s item plan
 
   -- If the plan was made for an item that shares no key with those stored, and these are the hashes of its keys, the
   -- store with that item inserted is indexed.

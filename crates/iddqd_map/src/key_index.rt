@@ -261,9 +261,9 @@ pub trait Inserts<T, S>: PlansChanges<T, S> {
         ensures { Self.is_planned self.now state.now items.now.store item.now result };
 
     /// Takes the memory of a planned insert, and returns what of it isn't in the tables yet. The plan still holds after
-    /// it. If there is room, it takes none.
+    /// it, as does any other. If there is room, it takes none.
     ///
-    /// `indexed` and `planned` follow from `contents` by laws. They stand here so that an insert leads to no law.
+    /// `contents` and `planned` are what `same` would say by its laws. So an insert leads to no law.
     fn make_room(
         &mut self,
         items: &ItemSet<T>,
@@ -271,9 +271,8 @@ pub trait Inserts<T, S>: PlansChanges<T, S> {
         plan: &Self::InsertPlan,
     ) -> Result<Self::Blocks, AllocError>
         requires indexed { Self.indexes self.old state.now items.now.store }
-        ensures contents { Self.same self.old self.new }
-        ensures indexed { IndexesAllOf (Self.indexes self.old) (Self.indexes self.new) }
-        ensures planned { StaysPlanned (Self.is_planned self.old) (Self.is_planned self.new) plan.now }
+        ensures contents { IndexesAllOf (Self.indexes self.old) (Self.indexes self.new) }
+        ensures planned { StaysPlanned (Self.is_planned self.old) (Self.is_planned self.new) }
         ensures ready { IfOk result (Self.has_room_for self.new plan.now) }
         ensures had_room { live_count items.now.store < Self.capacity self.old → IsOk result × (self.new ≡ self.old) }
         ensures none { live_count items.now.store < Self.capacity self.old → IfOk result Self.are_none }

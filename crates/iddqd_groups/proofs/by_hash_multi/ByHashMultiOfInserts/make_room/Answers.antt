@@ -2,8 +2,8 @@ use Rattle.iddqd_groups.specs.ByHashMultiLaws.{FilesWithin-kept}
 use Rattle.iddqd_groups.proofs.FilesLemmas.{room_beside}
 use Rattle.iddqd_groups.proofs.by_hash_multi.ByHashMultiOfInserts.make_room.Goals as goal
 
-pub returns-clause-indexed : goal.returns-clause-indexed
-returns-clause-indexed g c = λ state s.
+pub returns-clause-contents : goal.returns-clause-contents
+returns-clause-contents g c = λ state s.
     FilesWithin-kept _ _ s c.args.self.now.table c.reserve.new.table c.reserve.ensures.contents
 
 pub returns-clause-ready : goal.returns-clause-ready
