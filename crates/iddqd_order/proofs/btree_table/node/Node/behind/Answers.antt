@@ -14,19 +14,23 @@ loop-level-init c = record {
 
 pub returns-then-level-eq0-clause-found : goal.returns-then-level-eq0-clause-found
 returns-then-level-eq0-clause-found c =
+    let says = c.behind_gap-found.ensures in
     (found-in_leaf c.args.height c.loop-level.level c.get-place.result c.args.self.now c.loop-level.node.now
     c.args.path.now c.loop-level.found c.behind_gap-found.result c.if-level-eq0.true c.get-place.ensures
-    c.loop-level.invariant (record { here = c.behind_gap-found.ensures.here; past = c.behind_gap-found.ensures.above })).some
+    c.loop-level.invariant (record { here = says.here; past = says.above })).some
 
 pub returns-then-level-eq0-clause-ended : goal.returns-then-level-eq0-clause-ended
 returns-then-level-eq0-clause-ended c =
+    let says = c.behind_gap-found.ensures in
     (found-in_leaf c.args.height c.loop-level.level c.get-place.result c.args.self.now c.loop-level.node.now
     c.args.path.now c.loop-level.found c.behind_gap-found.result c.if-level-eq0.true c.get-place.ensures
-    c.loop-level.invariant (record { here = c.behind_gap-found.ensures.here; past = c.behind_gap-found.ensures.above })).none
+    c.loop-level.invariant (record { here = says.here; past = says.above })).none
 
 pub index-node-requires : goal.index-node-requires
 index-node-requires c =
-    let lt = goes-here c.loop-level.level c.get-place.result c.loop-level.node.now c.args.path.now c.if-level-eq0.false c.get-place.ensures c.loop-level.invariant.goes in
+    let lt =
+    goes-here c.loop-level.level c.get-place.result c.loop-level.node.now c.args.path.now c.if-level-eq0.false
+    c.get-place.ensures c.loop-level.invariant.goes in
     search (rules, lt)
 
 pub loop-level-preserved : goal.loop-level-preserved

@@ -19,7 +19,9 @@ loop-at-init c = record {
 pub index-node-requires : goal.index-node-requires
 index-node-requires c =
     let now = c.loop-at.invariant in
-    let b = goes-below c.loop-at.at c.args.level c.get-i.result c.loop-at.node.now c.args.path.now c.loop-at-test.true c.get-i.ensures now.formed now.holds in
+    let b =
+    goes-below c.loop-at.at c.args.level c.get-i.result c.loop-at.node.now c.args.path.now c.loop-at-test.true
+    c.get-i.ensures now.formed now.holds in
     search (rules, b.here)
 
 pub loop-at-preserved : goal.loop-at-preserved
@@ -36,20 +38,24 @@ get-ix-requires c =
 
 pub overflow_add-i : goal.overflow_add-i
 overflow_add-i c =
-    omega (arith, (ends-here c.loop-at-test.false c.get-i-2.ensures c.loop-at.invariant.formed c.loop-at.invariant.holds).low)
+    let now = c.loop-at.invariant in
+    omega (arith, (ends-here c.loop-at-test.false c.get-i-2.ensures now.formed now.holds).low)
 
 pub set_and_zero_below-requires-clause-place : goal.set_and_zero_below-requires-clause-place
 set_and_zero_below-requires-clause-place c =
-    omega (arith, (ends-here c.loop-at-test.false c.get-i-2.ensures c.loop-at.invariant.formed c.loop-at.invariant.holds).low)
+    let now = c.loop-at.invariant in
+    omega (arith, (ends-here c.loop-at-test.false c.get-i-2.ensures now.formed now.holds).low)
 
 pub overflow_add-i-2 : goal.overflow_add-i-2
 overflow_add-i-2 c =
-    omega (arith, (ends-here c.loop-at-test.false c.get-i-2.ensures c.loop-at.invariant.formed c.loop-at.invariant.holds).low)
+    let now = c.loop-at.invariant in
+    omega (arith, (ends-here c.loop-at-test.false c.get-i-2.ensures now.formed now.holds).low)
 
 pub returns-then-at-gt0-clause-index : goal.returns-then-at-gt0-clause-index
 returns-then-at-gt0-clause-index c =
-    c.loop-at.invariant.index c.get-ix.result (c.get-ix.ensures
-    ∙ sym (ends-here c.loop-at-test.false c.get-i-2.ensures c.loop-at.invariant.formed c.loop-at.invariant.holds).spot_is)
+    let now = c.loop-at.invariant in
+    now.index c.get-ix.result
+    (c.get-ix.ensures ∙ sym (ends-here c.loop-at-test.false c.get-i-2.ensures now.formed now.holds).spot_is)
 
 pub returns-then-at-gt0-clause-next : goal.returns-then-at-gt0-clause-next
 returns-then-at-gt0-clause-next c =
@@ -62,8 +68,9 @@ returns-then-at-gt0-clause-next c =
 
 pub returns-then-i-len-clause-index : goal.returns-then-i-len-clause-index
 returns-then-i-len-clause-index c =
-    c.loop-at.invariant.index c.get-ix.result (c.get-ix.ensures
-    ∙ sym (ends-here c.loop-at-test.false c.get-i-2.ensures c.loop-at.invariant.formed c.loop-at.invariant.holds).spot_is)
+    let now = c.loop-at.invariant in
+    now.index c.get-ix.result
+    (c.get-ix.ensures ∙ sym (ends-here c.loop-at-test.false c.get-i-2.ensures now.formed now.holds).spot_is)
 
 pub returns-then-i-len-clause-next : goal.returns-then-i-len-clause-next
 returns-then-i-len-clause-next c =
@@ -72,15 +79,17 @@ returns-then-i-len-clause-next c =
     let lt = c.if-i-len.true in
     let leaf : c.loop-at.at ≡ 0 = omega arith in
     let after = c.get-i-2.result + 1 in
-    now.on 0 c.set.new.self (λ i up. path-above c.args.path.now c.set.new.self 0 after i c.set.ensures.place (omega arith))
+    now.on 0 c.set.new.self
+    (λ i up. path-above c.args.path.now c.set.new.self 0 after i c.set.ensures.place (omega arith))
     (steps-leaf c.loop-at.at c.args.level c.get-i-2.result c.loop-at.node.now c.args.path.now c.set.new.self leaf
     c.get-i-2.ensures now.holds (search (rules, lt))
     (path-here c.args.path.now c.set.new.self 0 after c.requires.path (omega arith) c.set.ensures.place))
 
 pub returns-clause-index : goal.returns-clause-index
 returns-clause-index c =
-    c.loop-at.invariant.index c.get-ix.result (c.get-ix.ensures
-    ∙ sym (ends-here c.loop-at-test.false c.get-i-2.ensures c.loop-at.invariant.formed c.loop-at.invariant.holds).spot_is)
+    let now = c.loop-at.invariant in
+    now.index c.get-ix.result
+    (c.get-ix.ensures ∙ sym (ends-here c.loop-at-test.false c.get-i-2.ensures now.formed now.holds).spot_is)
 
 -- the path ends at the last index of its leaf
 pub returns-clause-next : goal.returns-clause-next
