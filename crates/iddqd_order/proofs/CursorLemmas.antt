@@ -1,5 +1,5 @@
 -- A gap of a tree and the gaps beside it, one level at a time, and what a walk has left between two gaps.
-use Rattle.iddqd_order.proofs.Names.{◌≡◌, ◌≢◌, ◌∙◌, ℕ, zero, suc, ◌+◌, ◌-◌, ◌<◌, ◌≤◌, List, [], ◌∷◌, ◌++◌, End, Front, Back, opposite, Option, Some, None, IfSome, length, take, drop, get_or, length-set, set-get_or, slice_index, slice_set, refl, sym, ap, subst, arith, sub-one, append-nil, drop_all, length-append, length-drop, length-map, length-take-le, slice_get-get_or, cases_lt, inl, inr, Compares, Ordering, Less, Equal, Greater, Node, row, children, child, before, flat, IsFormed, ReachesGap, place, in_order, IsTree, place_in, AreBeside, AtEdge, StepsOver, IsAt, IsBehind, IsGap, IsLeafParent, Steps, next_behind, edge_of, leaf, leaf_parent, to_gap, most_in_row, most_levels, InGap}
+use Rattle.iddqd_order.proofs.Names.{◌≡◌, ◌≢◌, ◌↔◌, ◌∙◌, ℕ, zero, suc, ◌+◌, ◌-◌, ◌<◌, ◌≤◌, List, [], ◌∷◌, ◌++◌, End, Front, Back, opposite, Option, Some, None, IfSome, length, take, drop, get_or, length-set, set-get_or, slice_index, slice_set, refl, sym, ap, subst, arith, sub-one, append-nil, drop_all, length-append, length-drop, length-map, length-take-le, slice_get-get_or, cases_lt, inl, inr, Compares, Ordering, Less, Equal, Greater, Node, row, children, child, before, flat, IsFormed, ReachesGap, place, in_order, IsTree, place_in, Agree, AreBeside, AtEdge, StepsOver, IsAt, IsBehind, IsGap, IsLeafParent, Steps, next_behind, edge_of, leaf, leaf_parent, to_gap, most_in_row, most_levels, InGap}
 use Rattle.std.proofs.Common.{get_or-drop}
 use Rattle.std.proofs.Math.Seq.{drop-cons, take-suc}
 use Rattle.std.proofs.lemmas.Option.{slice_get_past}
@@ -744,15 +744,46 @@ gaps-below Less h i n p q ne ep eq told = omega (arith, place-at h i n p ne ep, 
 gaps-below Equal h i n p q ne ep eq told = omega (arith, place-at h i n p ne ep, place-at h i n q ne eq)
 gaps-below Greater h i n p q ne ep eq told = omega (arith, place-at h i n p ne ep, place-at h i n q ne eq)
 
--- paths to the same gap have the same place in the leaf
+-- paths that agree, one level at a time
+pub agree-none : (h : ℕ) (p q : List ℕ) → h ≡ 0 → Agree h p q
+agree-none h p q e k low high = absurd (omega arith)
+
+pub agree-below : (h l : ℕ) (p q : List ℕ) → h ≡ l + 1 → Agree h p q → Agree l p q
+agree-below h l p q e agree k low high = agree k low (omega arith)
+
+pub agree-above : (h l : ℕ) (p q : List ℕ) → h ≡ l + 1 → slice_index p h ≡ slice_index q h → Agree l p q → Agree h p q
+agree-above h l p q e here agree k low high =
+    elim (cases_lt k h) [
+      | inl lt ↦ agree k low (omega arith)
+      | inr ge ↦ (let same : k ≡ h = omega arith in rw same here)
+    ]
+
+-- paths that agree, with the same place in the leaf, go to the same gap
+pub agree-same :
+    (h : ℕ) (n : Node) (p q : List ℕ)
+    → slice_index p 0 ≡ slice_index q 0
+    → Agree h p q
+    → place h n p ≡ place h n q
+agree-same zero n p q e agree = place-leaf 0 n p refl ∙ e ∙ sym (place-leaf 0 n q refl)
+agree-same (suc h) n p q e agree =
+    let ne : suc h ≢ 0 = λ z. absurd (omega arith) in
+    let i : ℕ = slice_index p (suc h) in
+    let there : slice_index q (suc h) ≡ i = sym (agree (suc h) (omega arith) (omega arith)) in
+    let below = agree-same h (child n i) p q e (agree-below (suc h) h p q (omega arith) agree) in
+    let a = rw sub-one at (place-at (suc h) i n p ne refl) in
+    let b = rw sub-one at (place-at (suc h) i n q ne there) in
+    omega arith
+
+-- paths to the same gap have the same place in the leaf, and agree
 pub gaps-same :
     (h : ℕ) (n : Node) (p q : List ℕ)
     → IsFormed h n
     → ReachesGap h n p
     → ReachesGap h n q
     → place h n p ≡ place h n q
-    → slice_index p 0 ≡ slice_index q 0
-gaps-same zero n p q f gp gq same = sym (place-leaf 0 n p refl) ∙ same ∙ place-leaf 0 n q refl
+    → (slice_index p 0 ≡ slice_index q 0) × Agree h p q
+gaps-same zero n p q f gp gq same =
+    (sym (place-leaf 0 n p refl) ∙ same ∙ place-leaf 0 n q refl, agree-none 0 p q refl)
 gaps-same (suc h) n p q f gp gq same =
     let ne : suc h ≢ 0 = λ e. absurd (omega arith) in
     let e : slice_index p (suc h) ≡ slice_index q (suc h) =
@@ -767,8 +798,9 @@ gaps-same (suc h) n p q f gp gq same =
     let i : ℕ = slice_index p (suc h) in
     let a = rw sub-one at (place-at (suc h) i n p ne refl) in
     let b = rw sub-one at (place-at (suc h) i n q ne (sym e)) in
-    gaps-same h (child n i) p q (rw sub-one at (child-formed (suc h) n i ne f from.here)) (rw sub-one at from.on)
-    (rw (sub-one, ← e) at to.on) (omega arith)
+    let below = gaps-same h (child n i) p q (rw sub-one at (child-formed (suc h) n i ne f from.here))
+    (rw sub-one at from.on) (rw (sub-one, ← e) at to.on) (omega arith) in
+    (below.0, agree-above (suc h) h p q (omega arith) e below.1)
 
 pub at-same :
     (t : Option Node) (h : ℕ) (p row : List ℕ) (i : ℕ) (q other : List ℕ) (j : ℕ)
@@ -785,8 +817,30 @@ at-same None h p row i q other j t a b same =
     omega arith
 at-same (Some n) h p row i q other j t a b same =
     sym (path-here p (to_gap p i) 0 i a.gap.whole (omega arith) refl)
-    ∙ gaps-same h n (to_gap p i) (to_gap q j) t.0 a.gap.goes b.gap.goes same
+    ∙ (gaps-same h n (to_gap p i) (to_gap q j) t.0 a.gap.goes b.gap.goes same).0
     ∙ path-here q (to_gap q j) 0 j b.gap.whole (omega arith) refl
+
+-- gaps with the same place in their leaves are the same if their paths agree
+pub at-agree :
+    (t : Option Node) (h : ℕ) (p row : List ℕ) (i : ℕ) (q other : List ℕ) (j : ℕ)
+    → IsTree t h
+    → IsAt t h p row i
+    → IsAt t h q other j
+    → i ≡ j
+    → Agree h p q ↔ (place_in t h (to_gap p i) ≡ place_in t h (to_gap q j))
+at-agree None h p row i q other j t a b e = (λ agree. refl, λ same. agree-none h p q t)
+at-agree (Some n) h p row i q other j t a b e =
+    let r : List ℕ = to_gap p i in
+    let s : List ℕ = to_gap q j in
+    let here : slice_index r 0 ≡ i = path-here p r 0 i a.gap.whole (omega arith) refl in
+    let there : slice_index s 0 ≡ j = path-here q s 0 j b.gap.whole (omega arith) refl in
+    let from : (k : ℕ) → 0 < k → slice_index r k ≡ slice_index p k = λ k lt. path-above p r 0 i k refl lt in
+    let to : (k : ℕ) → 0 < k → slice_index s k ≡ slice_index q k = λ k lt. path-above q s 0 j k refl lt in (
+      λ agree. agree-same h n r s (here ∙ e ∙ sym there) (λ k low high. from k low ∙ agree k low high ∙ sym (to k low)),
+      λ same k low high. sym (from k low)
+          ∙ (gaps-same h n r s t.0 a.gap.goes b.gap.goes same).1 k low high
+          ∙ to k low,
+    )
 
 -- a place of a leaf
 pub IsAt-low : (t : Option Node) (h : ℕ) (p row : List ℕ) (at : ℕ) → IsTree t h → IsAt t h p row at → at ≤ most_in_row

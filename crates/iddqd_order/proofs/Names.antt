@@ -50,7 +50,7 @@ pub use Rattle.std.specs.Vec.{with_item}
 pub use Rattle.std.specs.declared.cmp.Ordering.TheVariants.{Equal, Greater, Less}
 pub use Rattle.iddqd_order.specs.declared.btree_table.cursor.End.{End}
 pub use Rattle.iddqd_order.specs.declared.btree_table.cursor.End.TheVariants.{Back, Front}
-pub use Rattle.iddqd_order.specs.Cursor.{AreBeside, AtEdge, Compares, IsAt, IsBehind, IsGap, IsLeafParent, StepsOver, Stands, Steps, next_behind, part, edge_of, gap_of, leaf_in, opposite, to_gap}
+pub use Rattle.iddqd_order.specs.Cursor.{Agree, AreBeside, AtEdge, Compares, IsAt, IsBehind, IsGap, IsLeafParent, StepsOver, Stands, Steps, next_behind, part, edge_of, gap_of, leaf_in, opposite, to_gap}
 unfoldable pub use Rattle.iddqd_order.specs.Cursor.{leaf, leaf_parent}
 unfoldable pub use Rattle.iddqd_order.specs.MapBTreeTable.{order_of}
 pub use Rattle.std.proofs.Math.Seq.{drop-append_seam, take-append_seam}

@@ -1,7 +1,6 @@
 -- Walks between places, which are found by answers of which none is Equal.
-use Rattle.iddqd_order.proofs.Names.{◌≡◌, ◌≢◌, ◌↔◌, ℕ, ◌-◌, ◌≤◌, List, [], length, drop, slice_index, refl, ap, Option, Bool, arith, None, Err, length-drop, take_all, Ordering, Less, Equal, Greater, ordering_then, Mut, Asking, AsksWithin, Askable, IsTrue, Compares, IsRising, IsSteadyRising, Searches, SearchesWithin, Node, IsTree, in_order, Steps, Stands, gap_of, next_behind, part, false, Back, Front}
+use Rattle.iddqd_order.proofs.Names.{◌≡◌, ◌≢◌, ◌↔◌, ℕ, ◌-◌, ◌≤◌, List, [], length, drop, slice_index, refl, ap, Option, Bool, arith, None, Err, length-drop, take_all, Ordering, Less, Equal, Greater, ordering_then, Mut, Asking, AsksWithin, Askable, IsTrue, IsRising, IsSteadyRising, Searches, SearchesWithin, Node, IsTree, in_order, Steps, Stands, gap_of, next_behind, part, false, Back, Front}
 use Rattle.std.specs.Iterator.{YieldsFirst, YieldsLast}
-use Rattle.std.specs.Ordering.{is_eq}
 use Rattle.std.specs.declared.ops.Bound.{Bound}
 use Rattle.std.specs.declared.ops.Bound.TheVariants.{Included, Excluded, Unbounded}
 use Rattle.iddqd_order.specs.Descent.{walk_asks}
@@ -169,18 +168,6 @@ part-empty i j xs le within = (
 
 pub part-rest : (i : ℕ) (xs : List ℕ) → part i (length xs) xs ≡ drop i xs
 part-rest i xs = take_all (length xs - i) (drop i xs) (omega (arith, length-drop i xs))
-
--- and whether any index is left, by a comparison of the gaps
-pub ended-told :
-    (r : Ordering) (i j : ℕ) (xs : List ℕ)
-    → Compares r i j
-    → i ≤ j
-    → j ≤ length xs
-    → IsTrue (is_eq r) ↔ (part i j xs ≡ [])
-ended-told Less i j xs lt le within =
-    (λ t. absurd (cc), λ e. absurd (let same = (part-empty i j xs le within).1 e in omega arith))
-ended-told Equal i j xs e le within = (λ t. (part-empty i j xs le within).0 e, λ z. refl)
-ended-told Greater i j xs gt le within = absurd (omega arith)
 
 -- what hasn't ended has an index left
 pub some-left :

@@ -93,7 +93,7 @@ steps-here h l i n p q ne e ei f w next zeros =
     (below-holds 0 h n q ne (rw next lt) (rw next first.holds), omega arith)
 
 -- a step below the i-th child
-pub steps-below :
+steps-below :
     (h l i m : ℕ) (n : Node) (p q : List ℕ)
     → GoesBelow h l i n p
     → slice_index q h ≡ i

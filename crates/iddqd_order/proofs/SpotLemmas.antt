@@ -10,7 +10,7 @@ use Rattle.iddqd_order.proofs.DescentLemmas.{child-read}
 use Rattle.iddqd_order.proofs.NodeLemmas.{formed-inner, goes-leaf, lists, place_at_level-within, below-holds, goes-below, holds-here, holds-level, place-leaf, place_at_level-at}
 use Rattle.iddqd_order.proofs.SpotCursorLemmas.{ends-here}
 
-pub behind-in_leaf :
+behind-in_leaf :
     (h i : ℕ) (n : Node) (p : List ℕ) (ix : ℕ)
     → h ≡ 0
     → i ≡ slice_index p h
@@ -25,7 +25,7 @@ behind-in_leaf zero i n p ix e ei lt is = record {
 }
 behind-in_leaf (suc h) i n p ix e ei lt is = absurd (omega arith)
 
-pub behind-below :
+behind-below :
     (h i : ℕ) (n k : Node) (p : List ℕ) (ix l : ℕ)
     → h ≢ 0
     → IsFormed h n
@@ -51,7 +51,7 @@ behind-below h i n k p ix l ne f b ei s =
           ∙ sym (child-read h n i q ne f b.here d.within) ∙ ap (slice_index (flat h n)) (sym d.place ∙ same);
     }
 
-pub behind-here :
+behind-here :
     (h i : ℕ) (n k : Node) (p : List ℕ) (ix : ℕ)
     → h ≢ 0
     → IsFormed h n

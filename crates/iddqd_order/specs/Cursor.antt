@@ -77,6 +77,10 @@ IsLeafParent t h p None = ⊤
 IsLeafParent None h p (Some k) = ⊥
 IsLeafParent (Some n) h p (Some k) = (0 < h) × (k.now ≡ leaf_parent h n p)
 
+-- two paths take the same child at each level above the leaves, from level h down
+abbrev pub Agree : ℕ → List ℕ → List ℕ → Type 0
+Agree h p q = (k : ℕ) → 0 < k → k ≤ h → slice_index p k ≡ slice_index q k
+
 -- the path with `at` as its place in the leaf
 abbrev pub to_gap : List ℕ → ℕ → List ℕ
 to_gap path at = slice_set path 0 at

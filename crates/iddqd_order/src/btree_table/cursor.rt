@@ -3,8 +3,8 @@
 //! A cursor keeps the path from the root, and also the leaf, so it descends from the root only for a new leaf. A walk
 //! towards the back also keeps the node above the leaf, and descends about once in nine leaves. Descending at each
 //! leaf took twice as long for 1,000 indexes, and 1.4 times as long for a million.
-ghost use Rattle.std.specs.Prelude.{◌≡◌, ℕ, ◌<◌, ◌≤◌, length, slice_index, IfSome, IsNone};
-ghost use Rattle.iddqd_order.specs.Cursor.{AreBeside, AtEdge, Compares, StepsOver, Steps, IsGap, Stands, edge_of, gap_of, leaf_parent, opposite, to_gap};
+ghost use Rattle.std.specs.Prelude.{◌≡◌, ◌↔◌, ℕ, ◌<◌, ◌≤◌, length, slice_index, IfSome, IsNone, IsTrue};
+ghost use Rattle.iddqd_order.specs.Cursor.{Agree, AreBeside, AtEdge, Compares, StepsOver, Steps, IsGap, Stands, edge_of, gap_of, leaf_parent, opposite, to_gap};
 ghost use Rattle.iddqd_order.specs.Shape.{most_in_row, most_levels};
 ghost use Rattle.iddqd_order.specs.declared.btree_table.node.Node.{Node as NodeOf};
 ghost use Rattle.iddqd_order.specs.Node.{flat, ReachesGap, IsFormed, place};
@@ -97,7 +97,8 @@ impl<'a> Cursor<'a> {
                 self.at += 1;
                 Some(*ix)
             }
-            None => self.next_leaf(root, height),
+            // Taken apart and put together, else each step within a leaf tests once more whether there is an index.
+            None => Some(self.next_leaf(root, height)?),
         }
     }
 
@@ -199,6 +200,14 @@ impl<'a> Cursor<'a> {
 }
 
 impl Path {
+    // Whether two paths take the same child at each level above the leaves, from `level` down.
+    pub(super) fn agrees(&self, other: &Path, level: usize) -> bool
+        requires { level < most_levels }
+        ensures { IsTrue result ↔ Agree level self.now other.now }
+    {
+        level == 0 || self.get(level) == other.get(level) && self.agrees(other, level - 1)
+    }
+
     // Compares the gaps to which two paths go, by their places from `level` down.
     pub(super) fn compare(&self, other: &Path, level: usize) -> Ordering
         requires { level < most_levels }

@@ -91,11 +91,7 @@ impl<'a> Range<'a> {
     fn has_ended(&self) -> bool
         ensures { IsTrue result ↔ (indexes_ahead self.now ≡ []) }
     {
-        self.front.at == self.back.at
-            && self
-                .front
-                .compare(&self.back, self.root, self.height)
-                .is_eq()
+        self.front.at == self.back.at && self.front.path.agrees(&self.back.path, self.height)
     }
 }
 
