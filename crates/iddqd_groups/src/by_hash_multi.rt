@@ -39,8 +39,7 @@ use iddqd_keys::key_kinds::Field;
 use iddqd_map::grouped_at::{GroupedAt, StepsInGroup};
 use iddqd_map::hashed_plan::move_of;
 use iddqd_map::key_index::{
-    ComparesKeys, Here, IndexLaws, Inserts, KeyIndex, Moves, Overwrites, PlanLaws, PlansChanges,
-    Removes, Upkeep,
+    Changes, ComparesKeys, Here, IndexLaws, KeyIndex, Moves, PlanLaws, Upkeep,
 };
 use iddqd_map::map::Parts;
 pub use iddqd_map::no_conflict::NoConflict;
@@ -130,15 +129,13 @@ where
     ghost unique_keys = { 0 };
 }
 
-impl<T, S, E> PlansChanges<T, S> for ByHashMultiOf<E>
+impl<T, S, E> Changes<T, S> for ByHashMultiOf<E>
 where
     E: HashKey<T>,
     S: BuildHasher,
 {
     ghost use Rattle.std.specs.FinMap as finite;
     ghost use Rattle.std.specs.Prelude.{◌<◌};
-    ghost use Rattle.iddqd_map.specs.Files.{IsMoveFor};
-    ghost use Rattle.iddqd_map.specs.Hashed.{moves};
 
     type Conflict = NoConflict;
 
@@ -147,8 +144,6 @@ where
     type Position = ();
 
     type InsertPlan = ();
-
-    type MovePlan = Move;
 
     type Blocks = ();
 
@@ -171,12 +166,43 @@ where
 
     ghost are_enough_after = { λ x blocks. Unit {0} };
 
-    ghost is_move = { λ state s ix item plan. IsMoveFor E.key_of (hashing_of E.eq E.hash_input S.BuildHasher
-        S.Hasher.Hasher state) s ix item plan };
+    fn hashes(state: &S, item: &T) -> MapHash {
+        hash_of::<T, E, S>(state, item)
+    }
 
-    ghost moves = { moves };
+    fn look_up(
+        &self,
+        items: &ItemSet<T>,
+        state: &S,
+        hashes: MapHash,
+        item: &T,
+    ) -> Result<(), NoConflict> {
+        Ok(())
+    }
 
-    ghost are_enough_for = { λ x plan blocks. Unit {0} };
+    fn plan(&self, items: &ItemSet<T>, state: &S, position: (), ix: ItemIndex, item: &T) {}
+
+    fn make_room(&mut self, items: &ItemSet<T>, state: &S, plan: &()) -> Result<(), AllocError> {
+        linked_steps::reserve(&mut self.table, items, 1)
+    }
+
+    fn insert(&mut self, hashes: MapHash, plan: &(), blocks: (), ix: ItemIndex) {
+        self.table.insert(hashes, ix);
+    }
+
+    fn next_reported(conflict: &NoConflict, before: Option<ItemIndex>) -> Option<ItemIndex> {
+        None
+    }
+
+    fn position(&self, items: &ItemSet<T>, state: &S, hashes: MapHash, item: &T) {}
+
+    fn blocks_after(&self, items: &ItemSet<T>, state: &S) -> Result<(), AllocError> {
+        Ok(())
+    }
+
+    fn remove(&mut self, items: &ItemSet<T>, state: &S, ix: ItemIndex) {
+        self.table.remove(ix);
+    }
 }
 
 impl<T, S, E> IndexLaws<T, S> for ByHashMultiOf<E>
@@ -228,67 +254,23 @@ where
     ghost same_plans = { λ x y state s item plan same is. is };
 }
 
-impl<T, S, E> Removes<T, S> for ByHashMultiOf<E>
-where
-    E: HashKey<T>,
-    S: BuildHasher,
-{
-    fn remove(&mut self, items: &ItemSet<T>, state: &S, ix: ItemIndex) {
-        self.table.remove(ix);
-    }
-}
-
-impl<T, S, E> Inserts<T, S> for ByHashMultiOf<E>
-where
-    E: HashKey<T>,
-    S: BuildHasher,
-{
-    fn hashes(state: &S, item: &T) -> MapHash {
-        hash_of::<T, E, S>(state, item)
-    }
-
-    fn look_up(
-        &self,
-        items: &ItemSet<T>,
-        state: &S,
-        hashes: MapHash,
-        item: &T,
-    ) -> Result<(), NoConflict> {
-        Ok(())
-    }
-
-    fn plan(&self, items: &ItemSet<T>, state: &S, position: (), ix: ItemIndex, item: &T) {}
-
-    fn make_room(&mut self, items: &ItemSet<T>, state: &S, plan: &()) -> Result<(), AllocError> {
-        linked_steps::reserve(&mut self.table, items, 1)
-    }
-
-    fn insert(&mut self, hashes: MapHash, plan: &(), blocks: (), ix: ItemIndex) {
-        self.table.insert(hashes, ix);
-    }
-}
-
-impl<T, S, E> Overwrites<T, S> for ByHashMultiOf<E>
-where
-    E: HashKey<T>,
-    S: BuildHasher,
-{
-    fn next_reported(conflict: &NoConflict, before: Option<ItemIndex>) -> Option<ItemIndex> {
-        None
-    }
-
-    fn position(&self, items: &ItemSet<T>, state: &S, hashes: MapHash, item: &T) {}
-
-    fn blocks_after(&self, items: &ItemSet<T>, state: &S) -> Result<(), AllocError> {
-        Ok(())
-    }
-}
-
 impl<T, S, E> Moves<T, S> for ByHashMultiOf<E>
 where
     E: HashKey<T>,
     S: BuildHasher,
 {
+    ghost use Rattle.iddqd_map.specs.Files.{IsMoveFor};
+    ghost use Rattle.iddqd_map.specs.Hashed.{moves};
+
+    type MovePlan = Move;
+
+    ghost is_move = { λ state s ix item plan. IsMoveFor E.key_of (hashing_of E.eq E.hash_input S.BuildHasher
+        S.Hasher.Hasher state) s ix item plan };
+
+    ghost moves = { moves };
+
+    ghost are_enough_for = { λ x plan blocks. Unit {0} };
+
     fn no_hashes() {}
 
     fn plan_move(

@@ -18,9 +18,10 @@ use crate::hashed_plan::plan_move;
 use crate::hashed_query::{find_item, find_under, take_by};
 use crate::hashed_steps;
 use crate::key_index::{
-    ComparesKeys, FindsSame, Here, IndexLaws, Inserts, KeyIndex, Moves, Overwrites, PlanLaws,
-    PlansChanges, Removes, ReportsAt, TakesAt, UniqueAt, Upkeep,
+    Changes, ComparesKeys, FindsSame, Here, IndexLaws, KeyIndex, Moves, PlanLaws, ReportsAt,
+    TakesAt, UniqueAt, Upkeep,
 };
+use crate::reported::past;
 use iddqd::index_remap::IndexRemap;
 use iddqd::internal::{ValidateCompact, ValidateRefusal, ValidationError};
 use iddqd::item_index::ItemIndex;
@@ -96,7 +97,7 @@ where
     ghost unique_keys = { 1 };
 }
 
-impl<T, S, E> PlansChanges<T, S> for ByHashOf<E>
+impl<T, S, E> Changes<T, S> for ByHashOf<E>
 where
     E: HashKey<T>,
     S: BuildHasher,
@@ -104,8 +105,6 @@ where
     ghost use Rattle.std.specs.Prelude.{◌≢◌, Some, ◌≤◌};
     ghost use Rattle.iddqd_hash.specs.HashTable.{room};
     ghost use Rattle.iddqd_map.specs.Map.{shares};
-    ghost use Rattle.iddqd_map.specs.Hashed.{moves};
-    ghost use Rattle.iddqd_map.specs.Indexing.{Plans};
 
     type Conflict = ItemIndex;
 
@@ -114,8 +113,6 @@ where
     type Position = ();
 
     type InsertPlan = ();
-
-    type MovePlan = Move;
 
     type Blocks = ();
 
@@ -138,12 +135,46 @@ where
 
     ghost are_enough_after = { λ x blocks. Unit {0} };
 
-    ghost is_move = { λ state s ix item plan. Plans E.key_of (hashing_of E.eq E.hash_input S.BuildHasher
-        S.Hasher.Hasher state) s ix item plan };
+    fn hashes(state: &S, item: &T) -> MapHash {
+        hash_of::<T, E, S>(state, item)
+    }
 
-    ghost moves = { moves };
+    fn look_up(
+        &self,
+        items: &ItemSet<T>,
+        state: &S,
+        hashes: MapHash,
+        item: &T,
+    ) -> Result<(), ItemIndex> {
+        match find_item::<T, E, S>(&self.table, items, state, hashes, item) {
+            Some(at) => Err(at),
+            None => Ok(()),
+        }
+    }
 
-    ghost are_enough_for = { λ x plan blocks. Unit {0} };
+    fn plan(&self, items: &ItemSet<T>, state: &S, position: (), ix: ItemIndex, item: &T) {}
+
+    fn make_room(&mut self, items: &ItemSet<T>, state: &S, plan: &()) -> Result<(), AllocError> {
+        hashed_steps::make_room(&mut self.table, items)
+    }
+
+    fn insert(&mut self, hashes: MapHash, plan: &(), blocks: (), ix: ItemIndex) {
+        self.table.insert_prehashed_unchecked(hashes, ix);
+    }
+
+    fn next_reported(conflict: &ItemIndex, before: Option<ItemIndex>) -> Option<ItemIndex> {
+        past(&Some(*conflict), &before)
+    }
+
+    fn position(&self, items: &ItemSet<T>, state: &S, hashes: MapHash, item: &T) {}
+
+    fn blocks_after(&self, items: &ItemSet<T>, state: &S) -> Result<(), AllocError> {
+        Ok(())
+    }
+
+    fn remove(&mut self, items: &ItemSet<T>, state: &S, ix: ItemIndex) {
+        hashed_steps::remove_live::<T, E, S>(&mut self.table, items, state, ix);
+    }
 }
 
 impl<T, S, E> IndexLaws<T, S> for ByHashOf<E>
@@ -194,74 +225,23 @@ where
     ghost same_plans = { λ x y state s item plan same is. is };
 }
 
-impl<T, S, E> Removes<T, S> for ByHashOf<E>
-where
-    E: HashKey<T>,
-    S: BuildHasher,
-{
-    fn remove(&mut self, items: &ItemSet<T>, state: &S, ix: ItemIndex) {
-        hashed_steps::remove_live::<T, E, S>(&mut self.table, items, state, ix);
-    }
-}
-
-impl<T, S, E> Inserts<T, S> for ByHashOf<E>
-where
-    E: HashKey<T>,
-    S: BuildHasher,
-{
-    fn hashes(state: &S, item: &T) -> MapHash {
-        hash_of::<T, E, S>(state, item)
-    }
-
-    fn look_up(
-        &self,
-        items: &ItemSet<T>,
-        state: &S,
-        hashes: MapHash,
-        item: &T,
-    ) -> Result<(), ItemIndex> {
-        match find_item::<T, E, S>(&self.table, items, state, hashes, item) {
-            Some(at) => Err(at),
-            None => Ok(()),
-        }
-    }
-
-    fn plan(&self, items: &ItemSet<T>, state: &S, position: (), ix: ItemIndex, item: &T) {}
-
-    fn make_room(&mut self, items: &ItemSet<T>, state: &S, plan: &()) -> Result<(), AllocError> {
-        hashed_steps::make_room(&mut self.table, items)
-    }
-
-    fn insert(&mut self, hashes: MapHash, plan: &(), blocks: (), ix: ItemIndex) {
-        self.table.insert_prehashed_unchecked(hashes, ix);
-    }
-}
-
-impl<T, S, E> Overwrites<T, S> for ByHashOf<E>
-where
-    E: HashKey<T>,
-    S: BuildHasher,
-{
-    fn next_reported(conflict: &ItemIndex, before: Option<ItemIndex>) -> Option<ItemIndex> {
-        let at = *conflict;
-        match before {
-            Some(before) if at <= before => None,
-            _ => Some(at),
-        }
-    }
-
-    fn position(&self, items: &ItemSet<T>, state: &S, hashes: MapHash, item: &T) {}
-
-    fn blocks_after(&self, items: &ItemSet<T>, state: &S) -> Result<(), AllocError> {
-        Ok(())
-    }
-}
-
 impl<T, S, E> Moves<T, S> for ByHashOf<E>
 where
     E: HashKey<T>,
     S: BuildHasher,
 {
+    ghost use Rattle.iddqd_map.specs.Hashed.{moves};
+    ghost use Rattle.iddqd_map.specs.Indexing.{Plans};
+
+    type MovePlan = Move;
+
+    ghost is_move = { λ state s ix item plan. Plans E.key_of (hashing_of E.eq E.hash_input S.BuildHasher
+        S.Hasher.Hasher state) s ix item plan };
+
+    ghost moves = { moves };
+
+    ghost are_enough_for = { λ x plan blocks. Unit {0} };
+
     fn no_hashes() -> Option<MapHash> {
         None
     }

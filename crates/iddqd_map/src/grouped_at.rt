@@ -8,7 +8,7 @@ ghost use Rattle.iddqd_map.specs.Groups.{AreHits, FindsSome, listed_from};
 ghost use Rattle.iddqd_map.specs.ModifyMany.{MayLeave, ModifiesHits, TakesMut};
 ghost use Rattle.iddqd_map.specs.RangeRetain.{KeepsMisses};
 
-use crate::key_index::{KeyIndex, Left, Removes, Right};
+use crate::key_index::{Changes, KeyIndex, Left, Right};
 use crate::pair::Pair;
 use iddqd::item_index::ItemIndex;
 use iddqd::item_set::ItemSet;
@@ -107,7 +107,7 @@ where
 impl<P, Q, T, S, A, B> StepsInGroup<Left<P>, Q, T, S> for Pair<A, B>
 where
     A: StepsInGroup<P, Q, T, S>,
-    B: Removes<T, S>,
+    B: Changes<T, S>,
 {
     fn next_in_group(
         &self,
@@ -157,7 +157,7 @@ where
 
 impl<P, Q, T, S, A, B> StepsInGroup<Right<P>, Q, T, S> for Pair<A, B>
 where
-    A: Removes<T, S>,
+    A: Changes<T, S>,
     B: StepsInGroup<P, Q, T, S>,
 {
     fn next_in_group(

@@ -17,13 +17,14 @@
 //! one index beyond its capacity are a value of their own, which the insert or the move consumes. So beyond its
 //! capacity no key index holds memory for a call to come.
 //!
-//! The trait `KeyIndex` says what a key index holds, and `PlansChanges` over it by what a change is planned.
-//! `IndexLaws` and `PlanLaws` have the laws of each. None of these has a method. The calls are traits above them:
-//! `Removes`, `Inserts`, `Overwrites`, `Moves`, `Upkeep` and `ComparesKeys`. For a key at a place `UniqueAt` and
-//! `GroupedAt` find, and `TakesAt` and `StepsInGroup` over them remove. For a key in order `OrderedAt` has the order
-//! alone, and `StepsAt` over it the calls. So a look-up needs only the method that it calls and no type of a plan, and
-//! an insert no law. That keeps callers cheap: the proof of a caller pays for each method, and for each type with a
-//! bound, of each trait to which its bounds lead, once for each path to it, and at a pair for both halves.
+//! The trait `KeyIndex` says what a key index holds, and has no methods. The calls are traits over it. `Changes` has
+//! those that insert, overwrite and remove, with the types by which they are planned; `Moves` stands over it, and
+//! `Upkeep` and `ComparesKeys` apart. For a key at a place `UniqueAt` and `GroupedAt` find, and `TakesAt` and
+//! `StepsInGroup` over them remove. For a key in order `OrderedAt` has the order alone, and `StepsAt` over it the
+//! calls. So a look-up needs only the method that it calls and no type of a plan, and an insert no law: the laws are
+//! `IndexLaws` and `PlanLaws`. That keeps callers cheap. The proof of a caller pays for each method, and for each type
+//! with a bound, of each trait to which its bounds lead, once for each path to it, and at a pair for both halves. So
+//! calls that are planned by the same types are one trait: a trait more would be paid on each path.
 //!
 //! The laws stand apart since they are proved by laws of the keys. In a trait without methods only a member that names
 //! something of another trait counts as a law, and may be proved so.
@@ -102,10 +103,12 @@ pub trait KeyIndex<T, S>: Sized + Drop {
     ghost unique_keys: { ℕ };
 }
 
-/// What an insert, an overwrite or a move is planned by, before anything is written.
-pub trait PlansChanges<T, S>: KeyIndex<T, S> {
-    ghost use Rattle.std.specs.Prelude.{ℕ, Bool};
+/// What an insert, an overwrite or a removal is planned by, and asks of a key index.
+pub trait Changes<T, S>: KeyIndex<T, S> {
+    ghost use Rattle.std.specs.Prelude.{ℕ, List, ◌↔◌};
     ghost use Rattle.iddqd.specs.Store.{Store};
+    ghost use Rattle.std.specs.List.{Contains};
+    ghost use Rattle.iddqd_keys.specs.Scan.{IsHit};
 
     /// The items that an item is alike to: at least one.
     type Conflict: Copy;
@@ -115,8 +118,6 @@ pub trait PlansChanges<T, S>: KeyIndex<T, S> {
     type Position: Drop;
     /// The position for an item under its index.
     type InsertPlan: Drop;
-    /// How a live index must move if its item is replaced.
-    type MovePlan: Drop;
     /// The memory that was taken for one insert or one move, beyond that of the tables.
     type Blocks: Drop;
 
@@ -143,91 +144,6 @@ pub trait PlansChanges<T, S>: KeyIndex<T, S> {
     // They are enough for any insert that comes after a removal.
     ghost are_enough_after: { Self → Self.Blocks → Type 0 };
 
-    ghost is_move: { S → Store T → ℕ → T → Self.MovePlan → Type 0 };
-
-    // Some table has to move the index.
-    ghost moves: { Self.MovePlan → Bool };
-
-    // They are enough for the planned move.
-    ghost are_enough_for: { Self → Self.MovePlan → Self.Blocks → Type 0 };
-}
-
-/// The laws of a key index.
-pub trait IndexLaws<T, S>: KeyIndex<T, S> {
-    ghost use Rattle.std.specs.Prelude.{ℕ, Some};
-    ghost use Rattle.std.specs.Cmp.{IsEquivalence};
-    ghost use Rattle.iddqd.specs.Store.{Store, get};
-    ghost use Rattle.iddqd_keys.specs.Scan.{AreApart};
-    ghost use Rattle.iddqd_map.specs.KeyIndex.{HaveSameKeys};
-
-    // If there are no slots and no indexes, a shrink leaves nothing.
-    ghost kept_none: { Self.kept 0 0 ≡ 0 };
-
-    // More slots and more indexes need no fewer cells.
-    ghost needed_grows: { (slots more_slots count more : ℕ) → slots ≤ more_slots → count ≤ more
-        → Self.needed slots count ≤ Self.needed more_slots more };
-
-    // `same` is reflexive. Of two key indexes that are the same, the second indexes each store that the first does.
-    ghost same_as_itself: { (x : Self) → Self.same x x };
-
-    ghost same_indexes: { (x y : Self) (state : S) (s : Store T) → Self.same x y → Self.indexes x state s
-        → Self.indexes y state s };
-
-    // No two items are alike.
-    ghost apart: { (x : Self) (state : S) (s : Store T) → Self.indexes x state s → AreApart Self.alike s };
-
-    // A key index still indexes its store after an item was modified and kept its keys, and it indexes any store whose
-    // items have the same keys.
-    ghost modified: { (x : Self) (state : S) (s : Store T) (ix : ℕ) (was item : T) → Self.indexes x state s
-        → get s ix ≡ Some was → Self.keys item ≡ Self.keys was → Self.indexes x state (rebound s ix item) };
-
-    ghost same_items: { (x : Self) (state : S) (s t : Store T) → HaveSameKeys Self.same_keys s t
-        → Self.indexes x state s → Self.indexes x state t };
-
-    // To share all keys is an equivalence.
-    ghost equivalence: { IsEquivalence Self.same_keys };
-}
-
-/// The laws of what is planned.
-pub trait PlanLaws<T, S>: PlansChanges<T, S> {
-    ghost use Rattle.std.specs.Prelude.{ℕ, List, ◌↔◌};
-    ghost use Rattle.std.specs.List.{Contains};
-    ghost use Rattle.iddqd.specs.Store.{Store};
-    ghost use Rattle.iddqd_keys.specs.Scan.{IsHit};
-
-    // A conflict reports the stored items that share a key with the item, and no others.
-    ghost reported: { (s : Store T) (item : T) (at : Self.Conflict) → Self.conflicts s item at → (ix : ℕ)
-        → Self.reports at ix ↔ IsHit s (Self.alike item) ix };
-
-    // At least one is reported, and never more than there are keys.
-    ghost reported_some: { (s : Store T) (item : T) (at : Self.Conflict) → Self.conflicts s item at
-        → (ix : ℕ) × Self.reports at ix };
-
-    ghost few_reported: { (at : Self.Conflict) → (l : List ℕ) × (length l ≤ Self.unique_keys)
-        × ((ix : ℕ) → Self.reports at ix → Contains l ix) };
-
-    // What was planned by a key index is planned by one that is the same.
-    ghost same_plans: { (x y : Self) (state : S) (s : Store T) (item : T) (plan : Self.InsertPlan) → Self.same x y
-        → Self.is_planned x state s item plan → Self.is_planned y state s item plan };
-}
-
-/// What a removal asks of a key index.
-pub trait Removes<T, S>: PlansChanges<T, S> {
-    /// Removes a live index. It takes no memory. What was taken for an insert after a removal is still enough for it.
-    fn remove(&mut self, items: &ItemSet<T>, state: &S, ix: ItemIndex)
-        requires live { IsLive items.now.store ix }
-        requires indexed { Self.indexes self.old state.now items.now.store }
-        ensures indexed { Self.indexes self.new state.now (removed items.now.store ix) }
-        ensures capacity { Self.capacity self.new ≡ Self.capacity self.old }
-        ensures cells { Self.cells self.new ≡ Self.cells self.old }
-        ensures enough { (blocks : Self.Blocks) → Self.are_enough_after self.old blocks
-            → Self.are_enough_after self.new blocks }
-        ensures roomy { (plan : Self.InsertPlan) (blocks : Self.Blocks) → Self.are_enough_after self.old blocks
-            → Self.has_room_for self.new plan blocks };
-}
-
-/// What an insert asks of a key index: a position for the item, its memory, and then the index.
-pub trait Inserts<T, S>: PlansChanges<T, S> {
     /// Hashes the keys of an item, each once.
     fn hashes(state: &S, item: &T) -> Self::Hashes
         ensures { Self.are_hashes state.now item.now result };
@@ -295,13 +211,16 @@ pub trait Inserts<T, S>: PlansChanges<T, S> {
             (Self.indexes self.old) ix (Self.indexes self.new) }
         ensures capacity { Self.capacity self.new ≡ Self.capacity self.old }
         ensures cells { Self.cells self.new ≡ Self.cells self.old };
-}
 
-/// What a call that overwrites or remakes an item asks of a key index, besides an insert and a removal.
-pub trait Overwrites<T, S>: PlanLaws<T, S> {
     /// The least reported index that is greater than `before`; the least of all if `before` is `None`.
     fn next_reported(conflict: &Self::Conflict, before: Option<ItemIndex>) -> Option<ItemIndex>
-        ensures { IsNextReported (Self.reports conflict.now) before result };
+        ensures next { IsNextReported (Self.reports conflict.now) before result }
+        ensures reported { (s : Store T) (item : T) → Self.conflicts s item conflict.now → (ix : ℕ)
+            → Self.reports conflict.now ix ↔ IsHit s (Self.alike item) ix }
+        ensures some { (s : Store T) (item : T) → Self.conflicts s item conflict.now
+            → (ix : ℕ) × Self.reports conflict.now ix }
+        ensures few { (l : List ℕ) × (length l ≤ Self.unique_keys)
+            × ((ix : ℕ) → Self.reports conflict.now ix → Contains l ix) };
 
     /// The position for an item that is alike to none.
     fn position(
@@ -323,10 +242,95 @@ pub trait Overwrites<T, S>: PlanLaws<T, S> {
         ensures none { live_count items.now.store ≤ Self.capacity self.now → IfOk result Self.are_none }
         ensures may_need_memory { OnErr result (Self.may_need_memory ≡ true) }
         ensures past { OnErr result (Self.capacity self.now < live_count items.now.store) };
+
+    /// Removes a live index. It takes no memory. What was taken for an insert after a removal is still enough for it.
+    fn remove(&mut self, items: &ItemSet<T>, state: &S, ix: ItemIndex)
+        requires live { IsLive items.now.store ix }
+        requires indexed { Self.indexes self.old state.now items.now.store }
+        ensures indexed { Self.indexes self.new state.now (removed items.now.store ix) }
+        ensures capacity { Self.capacity self.new ≡ Self.capacity self.old }
+        ensures cells { Self.cells self.new ≡ Self.cells self.old }
+        ensures enough { (blocks : Self.Blocks) → Self.are_enough_after self.old blocks
+            → Self.are_enough_after self.new blocks }
+        ensures roomy { (plan : Self.InsertPlan) (blocks : Self.Blocks) → Self.are_enough_after self.old blocks
+            → Self.has_room_for self.new plan blocks };
+}
+
+/// The laws of a key index.
+pub trait IndexLaws<T, S>: KeyIndex<T, S> {
+    ghost use Rattle.std.specs.Prelude.{ℕ, Some};
+    ghost use Rattle.std.specs.Cmp.{IsEquivalence};
+    ghost use Rattle.iddqd.specs.Store.{Store, get};
+    ghost use Rattle.iddqd_keys.specs.Scan.{AreApart};
+    ghost use Rattle.iddqd_map.specs.KeyIndex.{HaveSameKeys};
+
+    // If there are no slots and no indexes, a shrink leaves nothing.
+    ghost kept_none: { Self.kept 0 0 ≡ 0 };
+
+    // More slots and more indexes need no fewer cells.
+    ghost needed_grows: { (slots more_slots count more : ℕ) → slots ≤ more_slots → count ≤ more
+        → Self.needed slots count ≤ Self.needed more_slots more };
+
+    // `same` is reflexive. Of two key indexes that are the same, the second indexes each store that the first does.
+    ghost same_as_itself: { (x : Self) → Self.same x x };
+
+    ghost same_indexes: { (x y : Self) (state : S) (s : Store T) → Self.same x y → Self.indexes x state s
+        → Self.indexes y state s };
+
+    // No two items are alike.
+    ghost apart: { (x : Self) (state : S) (s : Store T) → Self.indexes x state s → AreApart Self.alike s };
+
+    // A key index still indexes its store after an item was modified and kept its keys, and it indexes any store whose
+    // items have the same keys.
+    ghost modified: { (x : Self) (state : S) (s : Store T) (ix : ℕ) (was item : T) → Self.indexes x state s
+        → get s ix ≡ Some was → Self.keys item ≡ Self.keys was → Self.indexes x state (rebound s ix item) };
+
+    ghost same_items: { (x : Self) (state : S) (s t : Store T) → HaveSameKeys Self.same_keys s t
+        → Self.indexes x state s → Self.indexes x state t };
+
+    // To share all keys is an equivalence.
+    ghost equivalence: { IsEquivalence Self.same_keys };
+}
+
+/// The laws of what is planned.
+pub trait PlanLaws<T, S>: Changes<T, S> {
+    ghost use Rattle.std.specs.Prelude.{ℕ, List, ◌↔◌};
+    ghost use Rattle.std.specs.List.{Contains};
+    ghost use Rattle.iddqd.specs.Store.{Store};
+    ghost use Rattle.iddqd_keys.specs.Scan.{IsHit};
+
+    // A conflict reports the stored items that share a key with the item, and no others.
+    ghost reported: { (s : Store T) (item : T) (at : Self.Conflict) → Self.conflicts s item at → (ix : ℕ)
+        → Self.reports at ix ↔ IsHit s (Self.alike item) ix };
+
+    // At least one is reported, and never more than there are keys.
+    ghost reported_some: { (s : Store T) (item : T) (at : Self.Conflict) → Self.conflicts s item at
+        → (ix : ℕ) × Self.reports at ix };
+
+    ghost few_reported: { (at : Self.Conflict) → (l : List ℕ) × (length l ≤ Self.unique_keys)
+        × ((ix : ℕ) → Self.reports at ix → Contains l ix) };
+
+    // What was planned by a key index is planned by one that is the same.
+    ghost same_plans: { (x y : Self) (state : S) (s : Store T) (item : T) (plan : Self.InsertPlan) → Self.same x y
+        → Self.is_planned x state s item plan → Self.is_planned y state s item plan };
 }
 
 /// What a replacement of an item asks of a key index: how its index moves, the memory for that, and the move.
-pub trait Moves<T, S>: PlansChanges<T, S> {
+pub trait Moves<T, S>: Changes<T, S> {
+    ghost use Rattle.std.specs.Prelude.{ℕ, Bool};
+    ghost use Rattle.iddqd.specs.Store.{Store};
+
+    /// How a live index must move if its item is replaced.
+    type MovePlan: Drop;
+
+    ghost is_move: { S → Store T → ℕ → T → Self.MovePlan → Type 0 };
+
+    // Some table has to move the index.
+    ghost moves: { Self.MovePlan → Bool };
+
+    // They are enough for the planned move.
+    ghost are_enough_for: { Self → Self.MovePlan → Self.Blocks → Type 0 };
+
     /// The value for no hash: no look-up computed one.
     fn no_hashes() -> Self::KnownHashes;
 
@@ -541,7 +545,7 @@ pub trait TakesAt<P, Q, T, S>: UniqueAt<P, Q, T, S> {
 }
 
 /// A key index that tells from a conflict which item shares the unique key at the place `P`.
-pub trait ReportsAt<P, T, S>: PlansChanges<T, S> {
+pub trait ReportsAt<P, T, S>: Changes<T, S> {
     ghost use Rattle.std.specs.Prelude.{Bool, true};
     ghost use Rattle.iddqd.specs.Store.{Store};
 
@@ -550,7 +554,7 @@ pub trait ReportsAt<P, T, S>: PlansChanges<T, S> {
 
     /// The index of the item that shares the key at the place; `None` if none does.
     fn reported_at(conflict: &Self::Conflict) -> Option<ItemIndex>
-        ensures { (s : Store T) (item : T) → Self.PlansChanges.conflicts s item conflict.now
+        ensures { (s : Store T) (item : T) → Self.Changes.conflicts s item conflict.now
             → AnswersScan s (alike_at item) result };
 
     // Items that share that key share a unique key.

@@ -7,20 +7,22 @@
 //! Invariant: both key indexes index the same store, under the same state of the hasher.
 //!
 //! It is one file: it is an impl of each trait of key indexes, and no impl can be split.
-ghost use Rattle.std.specs.Prelude.{◌≡◌, ◌+◌, ℕ, min, Some, IfSome};
+ghost use Rattle.std.specs.Prelude.{◌≡◌, ◌+◌, ◌≤◌, ◌↔◌, ℕ, List, length, min, Some, IfSome, IsSome};
+ghost use Rattle.std.specs.List.{Contains};
 ghost use Rattle.std.specs.Option.{option_map};
 ghost use Rattle.std.specs.Range.Bound.{bound_map};
 ghost use Rattle.iddqd.specs.{removed};
+ghost use Rattle.iddqd.specs.Store.{Store};
 ghost use Rattle.iddqd_keys.specs.KeyWalk.{IsFirstHit, IsNextHit};
 ghost use Rattle.iddqd_keys.specs.OrderedQuery.{is_up_to, is_within};
-ghost use Rattle.iddqd_keys.specs.Scan.{IsLive};
+ghost use Rattle.iddqd_keys.specs.Scan.{IsHit, IsLive};
 ghost use Rattle.iddqd_map.specs.KeyIndex.{IsNextReported};
-ghost use Rattle.iddqd_map.specs.PairConflict.{IsReportedBy, first_of, second_of};
+ghost use Rattle.iddqd_map.specs.PairConflict.{IsReportedBy, Reports, first_of, second_of};
 ghost use Rattle.iddqd_map.specs.Ranges.{itself};
 
 use crate::key_index::{
-    ComparesKeys, FindsSame, IndexLaws, Inserts, KeyIndex, Left, Moves, OrderedAt, Overwrites,
-    PlanLaws, PlansChanges, Removes, ReportsAt, Right, StepsAt, TakesAt, UniqueAt, Upkeep,
+    Changes, ComparesKeys, FindsSame, IndexLaws, KeyIndex, Left, Moves, OrderedAt, PlanLaws,
+    ReportsAt, Right, StepsAt, TakesAt, UniqueAt, Upkeep,
 };
 use crate::pair_conflict::PairConflict;
 use crate::pair_hashes::{PairHashes, first_known, second_known};
@@ -80,12 +82,11 @@ where
     ghost unique_keys = { A.unique_keys + B.unique_keys };
 }
 
-impl<T, S, A, B> PlansChanges<T, S> for Pair<A, B>
+impl<T, S, A, B> Changes<T, S> for Pair<A, B>
 where
-    A: PlansChanges<T, S>,
-    B: PlansChanges<T, S>,
+    A: Changes<T, S>,
+    B: Changes<T, S>,
 {
-    ghost use Rattle.std.specs.Prelude.{◌||◌};
     ghost use Rattle.iddqd_map.specs.PairConflict.{ReportBoth, ReportBothOther, IsEither, IsReportedBy, first_of, second_of};
 
     type Conflict = PairConflict<A::Conflict, B::Conflict>;
@@ -95,8 +96,6 @@ where
     type Position = (A::Position, B::Position);
 
     type InsertPlan = (A::InsertPlan, B::InsertPlan);
-
-    type MovePlan = (A::MovePlan, B::MovePlan);
 
     type Blocks = (A::Blocks, B::Blocks);
 
@@ -123,97 +122,6 @@ where
 
     ghost are_enough_after = { λ x blocks. A.are_enough_after x.first blocks.0 × B.are_enough_after x.second blocks.1 };
 
-    ghost is_move = { λ state s ix item plan. A.is_move state s ix item plan.0 × B.is_move state s ix item plan.1 };
-
-    ghost moves = { λ plan. A.moves plan.0 || B.moves plan.1 };
-
-    ghost are_enough_for = { λ x plan blocks. A.are_enough_for x.first plan.0 blocks.0
-        × B.are_enough_for x.second plan.1 blocks.1 };
-}
-
-impl<T, S, A, B> IndexLaws<T, S> for Pair<A, B>
-where
-    A: IndexLaws<T, S>,
-    B: IndexLaws<T, S>,
-{
-    ghost use Rattle.std.proofs.Common.{ap};
-    ghost use Rattle.std.proofs.lemmas.Cmp.{and_equiv};
-    ghost use Rattle.iddqd_map.specs.PairLaws.{AreApart-either, HaveSameKeys-first, HaveSameKeys-second, sum_none, sum_grows};
-
-    ghost needed_grows = { λ slots more_slots count more wider up.
-        sum_grows (A.needed_grows slots more_slots count more wider up)
-        (B.needed_grows slots more_slots count more wider up) };
-
-    ghost kept_none = { sum_none A.kept_none B.kept_none };
-
-    ghost same_as_itself = { λ x. (A.same_as_itself x.first, B.same_as_itself x.second) };
-
-    ghost same_indexes = { λ x y state s same is. (
-      A.same_indexes x.first y.first state s same.0 is.0,
-      B.same_indexes x.second y.second state s same.1 is.1,
-    ) };
-
-    ghost apart = { λ x state s is. AreApart-either A.alike B.alike s (A.apart x.first state s is.0)
-        (B.apart x.second state s is.1) };
-
-    ghost modified = { λ x state s ix was item is live same. (
-      A.modified x.first state s ix was item is.0 live (ap (λ both. both.0) same),
-      B.modified x.second state s ix was item is.1 live (ap (λ both. both.1) same),
-    ) };
-
-    ghost same_items = { λ x state s t same is. (
-      A.same_items x.first state s t (HaveSameKeys-first A.same_keys B.same_keys s t same) is.0,
-      B.same_items x.second state s t (HaveSameKeys-second A.same_keys B.same_keys s t same) is.1,
-    ) };
-
-    ghost equivalence = { and_equiv A.equivalence B.equivalence };
-}
-
-impl<T, S, A, B> PlanLaws<T, S> for Pair<A, B>
-where
-    A: PlanLaws<T, S>,
-    B: PlanLaws<T, S>,
-{
-    ghost use Rattle.iddqd_map.specs.PairConflict.{IsReportedBy, first_of, second_of};
-    ghost use Rattle.iddqd_map.specs.PairLaws.{reported_by_one, reported_both, reported_some, few_by_one, few_both};
-
-    ghost reported = { λ s item at conflicts ix. reported_both A.alike B.alike s item
-        (IsReportedBy A.reports (first_of at))
-        (IsReportedBy B.reports (second_of at)) ix
-        (reported_by_one A.reports A.alike A.conflicts s item (A.reported s item) (first_of at) conflicts.first ix)
-        (reported_by_one B.reports B.alike B.conflicts s item (B.reported s item) (second_of at) conflicts.second ix) };
-
-    ghost reported_some = { λ s item at conflicts. reported_some A.reports B.reports A.conflicts B.conflicts s item
-        A.alike B.alike
-        (A.reported_some s item) (B.reported_some s item) (first_of at) (second_of at) conflicts };
-
-    ghost few_reported = { λ at. few_both (IsReportedBy A.reports (first_of at)) (IsReportedBy B.reports (second_of at))
-        A.unique_keys
-        B.unique_keys (few_by_one A.reports A.unique_keys A.few_reported (first_of at))
-        (few_by_one B.reports B.unique_keys B.few_reported (second_of at)) };
-
-    ghost same_plans = { λ x y state s item plan same is. (
-      A.same_plans x.first y.first state s item plan.0 same.0 is.0,
-      B.same_plans x.second y.second state s item plan.1 same.1 is.1,
-    ) };
-}
-
-impl<T, S, A, B> Removes<T, S> for Pair<A, B>
-where
-    A: Removes<T, S>,
-    B: Removes<T, S>,
-{
-    fn remove(&mut self, items: &ItemSet<T>, state: &S, ix: ItemIndex) {
-        self.first.remove(items, state, ix);
-        self.second.remove(items, state, ix);
-    }
-}
-
-impl<T, S, A, B> Inserts<T, S> for Pair<A, B>
-where
-    A: Inserts<T, S>,
-    B: Inserts<T, S>,
-{
     fn hashes(state: &S, item: &T) -> (A::Hashes, B::Hashes) {
         (A::hashes(state, item), B::hashes(state, item))
     }
@@ -273,13 +181,7 @@ where
         self.first.insert(hashes.0, &plan.0, first, ix);
         self.second.insert(hashes.1, &plan.1, second, ix);
     }
-}
 
-impl<T, S, A, B> Overwrites<T, S> for Pair<A, B>
-where
-    A: Overwrites<T, S>,
-    B: Overwrites<T, S>,
-{
     fn next_reported(
         conflict: &PairConflict<A::Conflict, B::Conflict>,
         before: Option<ItemIndex>,
@@ -311,6 +213,78 @@ where
         let second = self.second.blocks_after(items, state)?;
         Ok((first, second))
     }
+
+    fn remove(&mut self, items: &ItemSet<T>, state: &S, ix: ItemIndex) {
+        self.first.remove(items, state, ix);
+        self.second.remove(items, state, ix);
+    }
+}
+
+impl<T, S, A, B> IndexLaws<T, S> for Pair<A, B>
+where
+    A: IndexLaws<T, S>,
+    B: IndexLaws<T, S>,
+{
+    ghost use Rattle.std.proofs.Common.{ap};
+    ghost use Rattle.std.proofs.lemmas.Cmp.{and_equiv};
+    ghost use Rattle.iddqd_map.specs.PairLaws.{AreApart-either, HaveSameKeys-first, HaveSameKeys-second, sum_none, sum_grows};
+
+    ghost needed_grows = { λ slots more_slots count more wider up.
+        sum_grows (A.needed_grows slots more_slots count more wider up)
+        (B.needed_grows slots more_slots count more wider up) };
+
+    ghost kept_none = { sum_none A.kept_none B.kept_none };
+
+    ghost same_as_itself = { λ x. (A.same_as_itself x.first, B.same_as_itself x.second) };
+
+    ghost same_indexes = { λ x y state s same is. (
+      A.same_indexes x.first y.first state s same.0 is.0,
+      B.same_indexes x.second y.second state s same.1 is.1,
+    ) };
+
+    ghost apart = { λ x state s is. AreApart-either A.alike B.alike s (A.apart x.first state s is.0)
+        (B.apart x.second state s is.1) };
+
+    ghost modified = { λ x state s ix was item is live same. (
+      A.modified x.first state s ix was item is.0 live (ap (λ both. both.0) same),
+      B.modified x.second state s ix was item is.1 live (ap (λ both. both.1) same),
+    ) };
+
+    ghost same_items = { λ x state s t same is. (
+      A.same_items x.first state s t (HaveSameKeys-first A.same_keys B.same_keys s t same) is.0,
+      B.same_items x.second state s t (HaveSameKeys-second A.same_keys B.same_keys s t same) is.1,
+    ) };
+
+    ghost equivalence = { and_equiv A.equivalence B.equivalence };
+}
+
+impl<T, S, A, B> PlanLaws<T, S> for Pair<A, B>
+where
+    A: PlanLaws<T, S>,
+    B: PlanLaws<T, S>,
+{
+    ghost use Rattle.iddqd_map.specs.PairConflict.{IsReportedBy, Reports, first_of, second_of};
+    ghost use Rattle.iddqd_map.specs.PairLaws.{reported_by_one, reported_both, reported_some, few_by_one, few_both};
+
+    ghost reported = { λ s item at conflicts ix. reported_both A.alike B.alike s item
+        (IsReportedBy A.reports (first_of at))
+        (IsReportedBy B.reports (second_of at)) ix
+        (reported_by_one A.reports A.alike A.conflicts s item (A.reported s item) (first_of at) conflicts.first ix)
+        (reported_by_one B.reports B.alike B.conflicts s item (B.reported s item) (second_of at) conflicts.second ix) };
+
+    ghost reported_some = { λ s item at conflicts. reported_some A.reports B.reports A.conflicts B.conflicts s item
+        A.alike B.alike
+        (A.reported_some s item) (B.reported_some s item) (first_of at) (second_of at) conflicts };
+
+    ghost few_reported = { λ at. few_both (IsReportedBy A.reports (first_of at)) (IsReportedBy B.reports (second_of at))
+        A.unique_keys
+        B.unique_keys (few_by_one A.reports A.unique_keys A.few_reported (first_of at))
+        (few_by_one B.reports B.unique_keys B.few_reported (second_of at)) };
+
+    ghost same_plans = { λ x y state s item plan same is. (
+      A.same_plans x.first y.first state s item plan.0 same.0 is.0,
+      B.same_plans x.second y.second state s item plan.1 same.1 is.1,
+    ) };
 }
 
 impl<T, S, A, B> Moves<T, S> for Pair<A, B>
@@ -318,6 +292,17 @@ where
     A: Moves<T, S>,
     B: Moves<T, S>,
 {
+    ghost use Rattle.std.specs.Prelude.{◌||◌};
+
+    type MovePlan = (A::MovePlan, B::MovePlan);
+
+    ghost is_move = { λ state s ix item plan. A.is_move state s ix item plan.0 × B.is_move state s ix item plan.1 };
+
+    ghost moves = { λ plan. A.moves plan.0 || B.moves plan.1 };
+
+    ghost are_enough_for = { λ x plan blocks. A.are_enough_for x.first plan.0 blocks.0
+        × B.are_enough_for x.second plan.1 blocks.1 };
+
     fn no_hashes() -> PairHashes<A::KnownHashes, B::KnownHashes> {
         PairHashes::Neither
     }
@@ -480,14 +465,22 @@ fn first_with<A, B>(one: A, other: Option<B>) -> PairConflict<A, B>
 }
 
 // The next reported index past `before`; `None` if this key index reported nothing.
-fn next_of<T, S, X: Overwrites<T, S>>(
+fn next_of<T, S, X: Changes<T, S>>(
     conflict: Option<X::Conflict>,
     before: &Option<ItemIndex>,
 ) -> Option<ItemIndex>
-    ensures { IsNextReported (IsReportedBy X.reports conflict) before.now result }
+    ensures next { IsNextReported (IsReportedBy X.reports conflict) before.now result }
+    ensures reported { (s : Store T) (item : T) → Reports X.alike X.conflicts s item conflict → (ix : ℕ)
+        → IsReportedBy X.reports conflict ix ↔ IsHit s (X.alike item) ix }
+    ensures some { (s : Store T) (item : T) → Reports X.alike X.conflicts s item conflict → IsSome conflict
+        → (ix : ℕ) × IsReportedBy X.reports conflict ix }
+    ensures few { (l : List ℕ) × (length l ≤ X.unique_keys)
+        × ((ix : ℕ) → IsReportedBy X.reports conflict ix → Contains l ix) }
 {
-    let reported = conflict?;
-    X::next_reported(&reported, *before)
+    match conflict {
+        None => None,
+        Some(reported) => X::next_reported(&reported, *before),
+    }
 }
 
 impl<P, Q, T, S, A, B> UniqueAt<Left<P>, Q, T, S> for Pair<A, B>
@@ -514,7 +507,7 @@ where
 impl<P, Q, T, S, A, B> TakesAt<Left<P>, Q, T, S> for Pair<A, B>
 where
     A: TakesAt<P, Q, T, S>,
-    B: Removes<T, S>,
+    B: Changes<T, S>,
 {
     fn take(&mut self, items: &ItemSet<T>, state: &S, query: Q) -> Option<ItemIndex> {
         let ix = self.first.take(items, state, query)?;
@@ -546,7 +539,7 @@ where
 
 impl<P, Q, T, S, A, B> TakesAt<Right<P>, Q, T, S> for Pair<A, B>
 where
-    A: Removes<T, S>,
+    A: Changes<T, S>,
     B: TakesAt<P, Q, T, S>,
 {
     fn take(&mut self, items: &ItemSet<T>, state: &S, query: Q) -> Option<ItemIndex> {
@@ -559,7 +552,7 @@ where
 impl<P, T, S, A, B> ReportsAt<Left<P>, T, S> for Pair<A, B>
 where
     A: ReportsAt<P, T, S>,
-    B: PlansChanges<T, S>,
+    B: Changes<T, S>,
 {
     ghost use Rattle.iddqd_map.specs.PairLaws.{alike_first};
 
@@ -586,7 +579,7 @@ where
 impl<P, Q, T, S, A, B> StepsAt<Left<P>, Q, T, S> for Pair<A, B>
 where
     A: StepsAt<P, Q, T, S>,
-    B: Removes<T, S>,
+    B: Changes<T, S>,
 {
     ghost use Rattle.std.proofs.Common.{ap};
 
@@ -664,7 +657,7 @@ where
 
 impl<P, T, S, A, B> ReportsAt<Right<P>, T, S> for Pair<A, B>
 where
-    A: PlansChanges<T, S>,
+    A: Changes<T, S>,
     B: ReportsAt<P, T, S>,
 {
     ghost use Rattle.iddqd_map.specs.PairLaws.{alike_second};
@@ -691,7 +684,7 @@ where
 
 impl<P, Q, T, S, A, B> StepsAt<Right<P>, Q, T, S> for Pair<A, B>
 where
-    A: Removes<T, S>,
+    A: Changes<T, S>,
     B: StepsAt<P, Q, T, S>,
 {
     ghost use Rattle.std.proofs.Common.{ap};

@@ -19,6 +19,7 @@ ghost use Rattle.iddqd_by_order.specs.Ordered.{is_equal};
 ghost use Rattle.iddqd_keys.specs.Scan.{AnswersScan, IsLive, IsKeyAt};
 ghost use Rattle.iddqd_keys.specs.KeyWalk.{IsFirstHit, IsNextHit};
 ghost use Rattle.iddqd_keys.specs.OrderedQuery.{is_up_to, is_within};
+ghost use Rattle.iddqd_map.specs.KeyIndex.{IsNextReported};
 ghost use Rattle.iddqd_map.specs.Ranges.{itself};
 ghost use Rattle.iddqd_ord_map.specs.OrderedSteps.{reserved_for};
 ghost use Rattle.std.specs.Option.{option_map};
@@ -39,8 +40,8 @@ use iddqd_keys::key_kinds::Field;
 use iddqd_keys::key_of::{Itself, key_at};
 use iddqd_keys::order_key::OrdKey;
 use iddqd_map::key_index::{
-    ComparesKeys, FindsSame, Here, IndexLaws, Inserts, KeyIndex, Moves, OrderedAt, Overwrites,
-    PlanLaws, PlansChanges, Removes, ReportsAt, StepsAt, TakesAt, UniqueAt, Upkeep,
+    Changes, ComparesKeys, FindsSame, Here, IndexLaws, KeyIndex, Moves, OrderedAt, PlanLaws,
+    ReportsAt, StepsAt, TakesAt, UniqueAt, Upkeep,
 };
 use iddqd_order::btree_table::{Asking, Blocks, Gap, MapBTreeTable, Spot};
 use std::alloc::{AllocError, Global};
@@ -116,16 +117,25 @@ where
     ghost unique_keys = { 1 };
 }
 
-impl<T, S, E> PlansChanges<T, S> for ByOrderOf<E>
+// The index, if it is greater than `before`.
+fn past(at: ItemIndex, before: Option<ItemIndex>) -> Option<ItemIndex>
+    ensures { IsNextReported (λ ix. ix ≡ at) before result }
+{
+    match before {
+        Some(before) if at <= before => None,
+        _ => Some(at),
+    }
+}
+
+impl<T, S, E> Changes<T, S> for ByOrderOf<E>
 where
     E: OrdKey<T>,
 {
     ghost use Rattle.std.specs.Prelude.{◌≢◌, Some, Ok};
     ghost use Rattle.std.specs.Ordering.{eq_by_cmp};
     ghost use Rattle.iddqd_map.specs.Map.{shares};
-    ghost use Rattle.iddqd_ord_map.specs.OrderedSteps.{HasBlocksAt, HasBlocksAnywhere, HasBlocksFor, moves};
+    ghost use Rattle.iddqd_ord_map.specs.OrderedSteps.{HasBlocksAt, HasBlocksAnywhere};
     ghost use Rattle.iddqd_ord_map.specs.ByOrder.{IsGapFor};
-    ghost use Rattle.iddqd_ord_map.specs.OrderedIndexing.{PlansOrConflicts};
 
     type Conflict = ItemIndex;
 
@@ -134,8 +144,6 @@ where
     type Position = Gap;
 
     type InsertPlan = Gap;
-
-    type MovePlan = Move;
 
     type Blocks = Blocks;
 
@@ -157,11 +165,53 @@ where
 
     ghost are_enough_after = { λ x blocks. HasBlocksAnywhere x.table blocks };
 
-    ghost is_move = { λ state s ix item plan. PlansOrConflicts E.key_of E.cmp s ix item (Ok plan) };
+    fn hashes(state: &S, item: &T) {}
 
-    ghost moves = { moves };
+    fn look_up(
+        &self,
+        items: &ItemSet<T>,
+        state: &S,
+        hashes: (),
+        item: &T,
+    ) -> Result<Gap, ItemIndex> {
+        place_of::<T, E>(&self.table, items, item)
+    }
 
-    ghost are_enough_for = { λ x plan blocks. HasBlocksFor x.table blocks plan };
+    fn plan(&self, items: &ItemSet<T>, state: &S, position: Gap, ix: ItemIndex, item: &T) -> Gap {
+        position
+    }
+
+    fn make_room(
+        &mut self,
+        items: &ItemSet<T>,
+        state: &S,
+        plan: &Gap,
+    ) -> Result<Blocks, AllocError> {
+        ordered_steps::blocks_at(&self.table, items, plan)
+    }
+
+    fn insert(&mut self, hashes: (), plan: &Gap, blocks: Blocks, ix: ItemIndex) {
+        self.table.insert_in(plan, ix, blocks);
+    }
+
+    fn next_reported(conflict: &ItemIndex, before: Option<ItemIndex>) -> Option<ItemIndex> {
+        past(*conflict, before)
+    }
+
+    fn position(&self, items: &ItemSet<T>, state: &S, hashes: (), item: &T) -> Gap {
+        match place_of::<T, E>(&self.table, items, item) {
+            Ok(gap) => gap,
+            Err(_) => unreachable!(),
+        }
+    }
+
+    fn blocks_after(&self, items: &ItemSet<T>, state: &S) -> Result<Blocks, AllocError> {
+        ordered_steps::blocks_anywhere(&self.table, items)
+    }
+
+    fn remove(&mut self, items: &ItemSet<T>, state: &S, ix: ItemIndex) {
+        ordered_steps::remove_live::<T, E>(&mut self.table, items, ix);
+    }
 }
 
 impl<T, S, E> IndexLaws<T, S> for ByOrderOf<E>
@@ -211,76 +261,22 @@ where
         IsGapFor-same_tree E.key_of E.cmp s x.table y.table item gap same is };
 }
 
-impl<T, S, E> Removes<T, S> for ByOrderOf<E>
-where
-    E: OrdKey<T>,
-{
-    fn remove(&mut self, items: &ItemSet<T>, state: &S, ix: ItemIndex) {
-        ordered_steps::remove_live::<T, E>(&mut self.table, items, ix);
-    }
-}
-
-impl<T, S, E> Inserts<T, S> for ByOrderOf<E>
-where
-    E: OrdKey<T>,
-{
-    fn hashes(state: &S, item: &T) {}
-
-    fn look_up(
-        &self,
-        items: &ItemSet<T>,
-        state: &S,
-        hashes: (),
-        item: &T,
-    ) -> Result<Gap, ItemIndex> {
-        place_of::<T, E>(&self.table, items, item)
-    }
-
-    fn plan(&self, items: &ItemSet<T>, state: &S, position: Gap, ix: ItemIndex, item: &T) -> Gap {
-        position
-    }
-
-    fn make_room(
-        &mut self,
-        items: &ItemSet<T>,
-        state: &S,
-        plan: &Gap,
-    ) -> Result<Blocks, AllocError> {
-        ordered_steps::blocks_at(&self.table, items, plan)
-    }
-
-    fn insert(&mut self, hashes: (), plan: &Gap, blocks: Blocks, ix: ItemIndex) {
-        self.table.insert_in(plan, ix, blocks);
-    }
-}
-
-impl<T, S, E> Overwrites<T, S> for ByOrderOf<E>
-where
-    E: OrdKey<T>,
-{
-    fn next_reported(conflict: &ItemIndex, before: Option<ItemIndex>) -> Option<ItemIndex> {
-        match before {
-            Some(ix) if *conflict <= ix => None,
-            _ => Some(*conflict),
-        }
-    }
-
-    fn position(&self, items: &ItemSet<T>, state: &S, hashes: (), item: &T) -> Gap {
-        match place_of::<T, E>(&self.table, items, item) {
-            Ok(gap) => gap,
-            Err(_) => unreachable!(),
-        }
-    }
-
-    fn blocks_after(&self, items: &ItemSet<T>, state: &S) -> Result<Blocks, AllocError> {
-        ordered_steps::blocks_anywhere(&self.table, items)
-    }
-}
-
 impl<T, S, E> Moves<T, S> for ByOrderOf<E>
 where
     E: OrdKey<T>,
 {
+    ghost use Rattle.std.specs.Prelude.{Ok};
+    ghost use Rattle.iddqd_ord_map.specs.OrderedSteps.{HasBlocksFor, moves};
+    ghost use Rattle.iddqd_ord_map.specs.OrderedIndexing.{PlansOrConflicts};
+
+    type MovePlan = Move;
+
+    ghost is_move = { λ state s ix item plan. PlansOrConflicts E.key_of E.cmp s ix item (Ok plan) };
+
+    ghost moves = { moves };
+
+    ghost are_enough_for = { λ x plan blocks. HasBlocksFor x.table blocks plan };
+
     fn no_hashes() {}
 
     fn plan_move(

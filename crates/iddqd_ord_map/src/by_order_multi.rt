@@ -37,8 +37,7 @@ use iddqd_keys::key_kinds::Field;
 use iddqd_keys::key_of::{Itself, key_at};
 use iddqd_keys::order_key::OrdKey;
 use iddqd_map::key_index::{
-    ComparesKeys, Here, IndexLaws, Inserts, KeyIndex, Moves, OrderedAt, Overwrites, PlanLaws,
-    PlansChanges, Removes, StepsAt, Upkeep,
+    Changes, ComparesKeys, Here, IndexLaws, KeyIndex, Moves, OrderedAt, PlanLaws, StepsAt, Upkeep,
 };
 pub use iddqd_map::no_conflict::NoConflict;
 use iddqd_order::btree_table::{Asking, Blocks, Gap, MapBTreeTable, Spot};
@@ -118,12 +117,12 @@ where
     ghost unique_keys = { 0 };
 }
 
-impl<T, S, E> PlansChanges<T, S> for ByOrderMultiOf<E>
+impl<T, S, E> Changes<T, S> for ByOrderMultiOf<E>
 where
     E: OrdKey<T>,
 {
-    ghost use Rattle.iddqd_ord_map.specs.OrderedSteps.{HasBlocksAt, HasBlocksAnywhere, HasBlocksFor, moves};
-    ghost use Rattle.iddqd_ord_map.specs.ByOrderMulti.{IsOwnGapFor, IsMoveFor};
+    ghost use Rattle.iddqd_ord_map.specs.OrderedSteps.{HasBlocksAt, HasBlocksAnywhere};
+    ghost use Rattle.iddqd_ord_map.specs.ByOrderMulti.{IsOwnGapFor};
 
     type Conflict = NoConflict;
 
@@ -132,8 +131,6 @@ where
     type Position = ();
 
     type InsertPlan = Gap;
-
-    type MovePlan = Move;
 
     type Blocks = Blocks;
 
@@ -155,11 +152,48 @@ where
 
     ghost are_enough_after = { λ x blocks. HasBlocksAnywhere x.table blocks };
 
-    ghost is_move = { λ state s ix item plan. IsMoveFor E.key_of E.cmp s ix item plan };
+    fn hashes(state: &S, item: &T) {}
 
-    ghost moves = { moves };
+    fn look_up(
+        &self,
+        items: &ItemSet<T>,
+        state: &S,
+        hashes: (),
+        item: &T,
+    ) -> Result<(), NoConflict> {
+        Ok(())
+    }
 
-    ghost are_enough_for = { λ x plan blocks. HasBlocksFor x.table blocks plan };
+    fn plan(&self, items: &ItemSet<T>, state: &S, position: (), ix: ItemIndex, item: &T) -> Gap {
+        place_of::<T, E>(&self.table, items, ix, item)
+    }
+
+    fn make_room(
+        &mut self,
+        items: &ItemSet<T>,
+        state: &S,
+        plan: &Gap,
+    ) -> Result<Blocks, AllocError> {
+        ordered_steps::blocks_at(&self.table, items, plan)
+    }
+
+    fn insert(&mut self, hashes: (), plan: &Gap, blocks: Blocks, ix: ItemIndex) {
+        self.table.insert_in(plan, ix, blocks);
+    }
+
+    fn next_reported(conflict: &NoConflict, before: Option<ItemIndex>) -> Option<ItemIndex> {
+        None
+    }
+
+    fn position(&self, items: &ItemSet<T>, state: &S, hashes: (), item: &T) {}
+
+    fn blocks_after(&self, items: &ItemSet<T>, state: &S) -> Result<Blocks, AllocError> {
+        ordered_steps::blocks_anywhere(&self.table, items)
+    }
+
+    fn remove(&mut self, items: &ItemSet<T>, state: &S, ix: ItemIndex) {
+        ordered_steps::remove_live::<T, E>(&mut self.table, items, ix);
+    }
 }
 
 impl<T, S, E> IndexLaws<T, S> for ByOrderMultiOf<E>
@@ -207,68 +241,21 @@ where
         IsOwnGapFor-same_tree E.key_of E.cmp s x.table y.table item gap same is };
 }
 
-impl<T, S, E> Removes<T, S> for ByOrderMultiOf<E>
-where
-    E: OrdKey<T>,
-{
-    fn remove(&mut self, items: &ItemSet<T>, state: &S, ix: ItemIndex) {
-        ordered_steps::remove_live::<T, E>(&mut self.table, items, ix);
-    }
-}
-
-impl<T, S, E> Inserts<T, S> for ByOrderMultiOf<E>
-where
-    E: OrdKey<T>,
-{
-    fn hashes(state: &S, item: &T) {}
-
-    fn look_up(
-        &self,
-        items: &ItemSet<T>,
-        state: &S,
-        hashes: (),
-        item: &T,
-    ) -> Result<(), NoConflict> {
-        Ok(())
-    }
-
-    fn plan(&self, items: &ItemSet<T>, state: &S, position: (), ix: ItemIndex, item: &T) -> Gap {
-        place_of::<T, E>(&self.table, items, ix, item)
-    }
-
-    fn make_room(
-        &mut self,
-        items: &ItemSet<T>,
-        state: &S,
-        plan: &Gap,
-    ) -> Result<Blocks, AllocError> {
-        ordered_steps::blocks_at(&self.table, items, plan)
-    }
-
-    fn insert(&mut self, hashes: (), plan: &Gap, blocks: Blocks, ix: ItemIndex) {
-        self.table.insert_in(plan, ix, blocks);
-    }
-}
-
-impl<T, S, E> Overwrites<T, S> for ByOrderMultiOf<E>
-where
-    E: OrdKey<T>,
-{
-    fn next_reported(conflict: &NoConflict, before: Option<ItemIndex>) -> Option<ItemIndex> {
-        None
-    }
-
-    fn position(&self, items: &ItemSet<T>, state: &S, hashes: (), item: &T) {}
-
-    fn blocks_after(&self, items: &ItemSet<T>, state: &S) -> Result<Blocks, AllocError> {
-        ordered_steps::blocks_anywhere(&self.table, items)
-    }
-}
-
 impl<T, S, E> Moves<T, S> for ByOrderMultiOf<E>
 where
     E: OrdKey<T>,
 {
+    ghost use Rattle.iddqd_ord_map.specs.OrderedSteps.{HasBlocksFor, moves};
+    ghost use Rattle.iddqd_ord_map.specs.ByOrderMulti.{IsMoveFor};
+
+    type MovePlan = Move;
+
+    ghost is_move = { λ state s ix item plan. IsMoveFor E.key_of E.cmp s ix item plan };
+
+    ghost moves = { moves };
+
+    ghost are_enough_for = { λ x plan blocks. HasBlocksFor x.table blocks plan };
+
     fn no_hashes() {}
 
     fn plan_move(

@@ -15,7 +15,7 @@ use crate::id_ord_map::Iter;
 use crate::ranges_at::{RangesAt, SortedAt};
 use iddqd::item_index::ItemIndex;
 use iddqd_by_order::ordered_walk::Range;
-use iddqd_map::key_index::{KeyIndex, Removes};
+use iddqd_map::key_index::{Changes, KeyIndex};
 use iddqd_map::map::{Map, Parts};
 use std::ops::{Bound, RangeBounds};
 
@@ -48,7 +48,7 @@ pub trait InOrder<T, X: KeyIndex<T, S>, S> {
     /// Removes the first item in order, and returns it. It is a removal from each table, and takes no memory.
     fn pop_first_by<P>(&mut self) -> Option<T>
     where
-        X: SortedAt<P, T, S> + Removes<T, S>,
+        X: SortedAt<P, T, S> + Changes<T, S>,
         ensures pops { PopsFirst X.sorts_by (state self.old) result (state self.new) }
         ensures count { OnSome result (live_count (state self.old).store ≡ live_count (state self.new).store + 1) }
         ensures freed { OnSome result (live_count (state self.old).store ≤ capacity (state self.old)
@@ -57,7 +57,7 @@ pub trait InOrder<T, X: KeyIndex<T, S>, S> {
     /// Removes the last item in order, and returns it. It is a removal from each table, and takes no memory.
     fn pop_last_by<P>(&mut self) -> Option<T>
     where
-        X: SortedAt<P, T, S> + Removes<T, S>,
+        X: SortedAt<P, T, S> + Changes<T, S>,
         ensures pops { PopsLast X.sorts_by (state self.old) result (state self.new) }
         ensures count { OnSome result (live_count (state self.old).store ≡ live_count (state self.new).store + 1) }
         ensures freed { OnSome result (live_count (state self.old).store ≤ capacity (state self.old)
@@ -131,7 +131,7 @@ impl<T, X: KeyIndex<T, S>, S> InOrder<T, X, S> for Map<T, X, S> {
 
     fn pop_first_by<P>(&mut self) -> Option<T>
     where
-        X: SortedAt<P, T, S> + Removes<T, S>,
+        X: SortedAt<P, T, S> + Changes<T, S>,
     {
         let ix = first_index::<P, T, X, S>(self)?;
         self.remove_at(ix)
@@ -139,7 +139,7 @@ impl<T, X: KeyIndex<T, S>, S> InOrder<T, X, S> for Map<T, X, S> {
 
     fn pop_last_by<P>(&mut self) -> Option<T>
     where
-        X: SortedAt<P, T, S> + Removes<T, S>,
+        X: SortedAt<P, T, S> + Changes<T, S>,
     {
         let ix = last_index::<P, T, X, S>(self)?;
         self.remove_at(ix)

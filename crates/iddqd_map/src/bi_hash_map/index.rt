@@ -8,8 +8,8 @@ use super::clash::{BiClash, both_moves, clash_of};
 use super::item::{BiHashItem, Key1, Key2};
 use crate::by_hash::ByHashOf;
 use crate::key_index::{
-    ComparesKeys, FindsSame, First, IndexLaws, Inserts, KeyIndex, Moves, Overwrites, PlanLaws,
-    PlansChanges, Removes, ReportsAt, Second, TakesAt, UniqueAt, Upkeep,
+    Changes, ComparesKeys, FindsSame, First, IndexLaws, KeyIndex, Moves, PlanLaws, ReportsAt,
+    Second, TakesAt, UniqueAt, Upkeep,
 };
 use crate::reported::{lesser, past};
 use iddqd::index_remap::IndexRemap;
@@ -89,20 +89,18 @@ where
     ghost unique_keys = { 2 };
 }
 
-impl<T, S, A, B> PlansChanges<T, S> for BiIndexOf<A, B>
+impl<T, S, A, B> Changes<T, S> for BiIndexOf<A, B>
 where
     A: HashKey<T>,
     B: HashKey<T>,
     S: BuildHasher,
 {
-    ghost use Rattle.std.specs.Prelude.{◌≡◌, ◌≤◌, ◌||◌};
+    ghost use Rattle.std.specs.Prelude.{◌≡◌, ◌≤◌};
     ghost use Rattle.iddqd_hash.specs.HashTable.{room};
     ghost use Rattle.iddqd_by_hash.specs.Hashed.{hashing_of};
-    ghost use Rattle.iddqd_map.specs.Indexing.{Plans};
     ghost use Rattle.iddqd_map.specs.KeyLaws.{IsOfTwo};
     ghost use Rattle.iddqd_map.specs.Map.{shares};
     ghost use Rattle.iddqd_map.specs.TwoKeys.{AreReported, AreTaken};
-    ghost use Rattle.iddqd_map.specs.Hashed.{moves};
 
     type Conflict = BiClash;
 
@@ -111,8 +109,6 @@ where
     type Position = ();
 
     type InsertPlan = ();
-
-    type MovePlan = (Move, Move);
 
     type Blocks = ();
 
@@ -138,14 +134,50 @@ where
 
     ghost are_enough_after = { λ x blocks. Unit {0} };
 
-    ghost is_move = { λ state s ix item plan.
-        Plans A.key_of (hashing_of A.eq A.hash_input S.BuildHasher S.Hasher.Hasher state) s ix item plan.0
-        × Plans B.key_of (hashing_of B.eq B.hash_input S.BuildHasher S.Hasher.Hasher state) s ix item
-        plan.1 };
+    fn hashes(state: &S, item: &T) -> (MapHash, MapHash) {
+        let first = <ByHashOf<A> as Changes<T, S>>::hashes(state, item);
+        let second = <ByHashOf<B> as Changes<T, S>>::hashes(state, item);
+        (first, second)
+    }
 
-    ghost moves = { λ plan. moves plan.0 || moves plan.1 };
+    fn look_up(
+        &self,
+        items: &ItemSet<T>,
+        state: &S,
+        hashes: (MapHash, MapHash),
+        item: &T,
+    ) -> Result<(), BiClash> {
+        let first = self.first.look_up(items, state, hashes.0, item);
+        let second = self.second.look_up(items, state, hashes.1, item);
+        clash_of(first.err(), second.err())
+    }
 
-    ghost are_enough_for = { λ x plan blocks. Unit {0} };
+    fn plan(&self, items: &ItemSet<T>, state: &S, position: (), ix: ItemIndex, item: &T) {}
+
+    fn make_room(&mut self, items: &ItemSet<T>, state: &S, plan: &()) -> Result<(), AllocError> {
+        self.first.make_room(items, state, plan)?;
+        self.second.make_room(items, state, plan)
+    }
+
+    fn insert(&mut self, hashes: (MapHash, MapHash), plan: &(), blocks: (), ix: ItemIndex) {
+        <ByHashOf<A> as Changes<T, S>>::insert(&mut self.first, hashes.0, plan, blocks, ix);
+        <ByHashOf<B> as Changes<T, S>>::insert(&mut self.second, hashes.1, plan, blocks, ix);
+    }
+
+    fn next_reported(conflict: &BiClash, before: Option<ItemIndex>) -> Option<ItemIndex> {
+        lesser(past(&conflict.key1, &before), past(&conflict.key2, &before))
+    }
+
+    fn position(&self, items: &ItemSet<T>, state: &S, hashes: (MapHash, MapHash), item: &T) {}
+
+    fn blocks_after(&self, items: &ItemSet<T>, state: &S) -> Result<(), AllocError> {
+        Ok(())
+    }
+
+    fn remove(&mut self, items: &ItemSet<T>, state: &S, ix: ItemIndex) {
+        self.first.remove(items, state, ix);
+        self.second.remove(items, state, ix);
+    }
 }
 
 impl<T, S, A, B> IndexLaws<T, S> for BiIndexOf<A, B>
@@ -220,78 +252,28 @@ where
     ghost same_plans = { λ x y state s item plan same is. is };
 }
 
-impl<T, S, A, B> Removes<T, S> for BiIndexOf<A, B>
-where
-    A: HashKey<T>,
-    B: HashKey<T>,
-    S: BuildHasher,
-{
-    fn remove(&mut self, items: &ItemSet<T>, state: &S, ix: ItemIndex) {
-        self.first.remove(items, state, ix);
-        self.second.remove(items, state, ix);
-    }
-}
-
-impl<T, S, A, B> Inserts<T, S> for BiIndexOf<A, B>
-where
-    A: HashKey<T>,
-    B: HashKey<T>,
-    S: BuildHasher,
-{
-    fn hashes(state: &S, item: &T) -> (MapHash, MapHash) {
-        let first = <ByHashOf<A> as Inserts<T, S>>::hashes(state, item);
-        let second = <ByHashOf<B> as Inserts<T, S>>::hashes(state, item);
-        (first, second)
-    }
-
-    fn look_up(
-        &self,
-        items: &ItemSet<T>,
-        state: &S,
-        hashes: (MapHash, MapHash),
-        item: &T,
-    ) -> Result<(), BiClash> {
-        let first = self.first.look_up(items, state, hashes.0, item);
-        let second = self.second.look_up(items, state, hashes.1, item);
-        clash_of(first.err(), second.err())
-    }
-
-    fn plan(&self, items: &ItemSet<T>, state: &S, position: (), ix: ItemIndex, item: &T) {}
-
-    fn make_room(&mut self, items: &ItemSet<T>, state: &S, plan: &()) -> Result<(), AllocError> {
-        self.first.make_room(items, state, plan)?;
-        self.second.make_room(items, state, plan)
-    }
-
-    fn insert(&mut self, hashes: (MapHash, MapHash), plan: &(), blocks: (), ix: ItemIndex) {
-        <ByHashOf<A> as Inserts<T, S>>::insert(&mut self.first, hashes.0, plan, blocks, ix);
-        <ByHashOf<B> as Inserts<T, S>>::insert(&mut self.second, hashes.1, plan, blocks, ix);
-    }
-}
-
-impl<T, S, A, B> Overwrites<T, S> for BiIndexOf<A, B>
-where
-    A: HashKey<T>,
-    B: HashKey<T>,
-    S: BuildHasher,
-{
-    fn next_reported(conflict: &BiClash, before: Option<ItemIndex>) -> Option<ItemIndex> {
-        lesser(past(&conflict.key1, &before), past(&conflict.key2, &before))
-    }
-
-    fn position(&self, items: &ItemSet<T>, state: &S, hashes: (MapHash, MapHash), item: &T) {}
-
-    fn blocks_after(&self, items: &ItemSet<T>, state: &S) -> Result<(), AllocError> {
-        Ok(())
-    }
-}
-
 impl<T, S, A, B> Moves<T, S> for BiIndexOf<A, B>
 where
     A: HashKey<T>,
     B: HashKey<T>,
     S: BuildHasher,
 {
+    ghost use Rattle.std.specs.Prelude.{◌||◌};
+    ghost use Rattle.iddqd_by_hash.specs.Hashed.{hashing_of};
+    ghost use Rattle.iddqd_map.specs.Indexing.{Plans};
+    ghost use Rattle.iddqd_map.specs.Hashed.{moves};
+
+    type MovePlan = (Move, Move);
+
+    ghost is_move = { λ state s ix item plan.
+        Plans A.key_of (hashing_of A.eq A.hash_input S.BuildHasher S.Hasher.Hasher state) s ix item plan.0
+        × Plans B.key_of (hashing_of B.eq B.hash_input S.BuildHasher S.Hasher.Hasher state) s ix item
+        plan.1 };
+
+    ghost moves = { λ plan. moves plan.0 || moves plan.1 };
+
+    ghost are_enough_for = { λ x plan blocks. Unit {0} };
+
     fn no_hashes() -> (Option<MapHash>, Option<MapHash>) {
         (None, None)
     }

@@ -12,11 +12,11 @@ use super::Map;
 use super::inserts::{NotReady, prepare};
 use super::steps::{store_in_room, take_out};
 use crate::appended::Appended;
-use crate::key_index::{IndexLaws, Inserts, PlanLaws, Removes};
+use crate::key_index::{Changes, IndexLaws, PlanLaws};
 use iddqd::item_index::ItemIndex;
 use iddqd::item_set::GrowError;
 
-impl<T, X: IndexLaws<T, S> + PlanLaws<T, S> + Inserts<T, S> + Removes<T, S>, S> Map<T, X, S> {
+impl<T, X: IndexLaws<T, S> + PlanLaws<T, S> + Changes<T, S>, S> Map<T, X, S> {
     /// Moves the items of another map into this one, by rising index, and returns how many were moved.
     ///
     /// Each is inserted as by `insert_unique`. An item that shares a unique key with one of this map stays in the other

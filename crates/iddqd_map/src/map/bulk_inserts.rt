@@ -8,13 +8,13 @@ ghost use Rattle.iddqd_map.specs.Calls.{IsDuplicate};
 ghost use Rattle.iddqd_map.specs.Map.{room};
 
 use super::Map;
-use crate::key_index::{Inserts, Upkeep};
+use crate::key_index::{Changes, Upkeep};
 use crate::refusal::{InsertRefusal, Stopped};
 use iddqd::hash_builder::DefaultHashBuilder;
 use iddqd::item_index::ItemIndex;
 use std::alloc::Global;
 
-impl<T, X: Inserts<T, DefaultHashBuilder> + Upkeep<T, DefaultHashBuilder>> Map<
+impl<T, X: Changes<T, DefaultHashBuilder> + Upkeep<T, DefaultHashBuilder>> Map<
     T,
     X,
     DefaultHashBuilder,
@@ -38,7 +38,7 @@ impl<T, X: Inserts<T, DefaultHashBuilder> + Upkeep<T, DefaultHashBuilder>> Map<
     }
 }
 
-impl<T, X: Inserts<T, S> + Upkeep<T, S>, S> Map<T, X, S> {
+impl<T, X: Changes<T, S> + Upkeep<T, S>, S> Map<T, X, S> {
     /// `from_array`, with this hasher.
     pub fn from_array_with_hasher<const N: usize>(
         alloc: Global,

@@ -1,5 +1,5 @@
 //! Inserts the items of an iterator, each in place of those that share a key with it.
-ghost use Rattle.std.specs.Prelude.{◌≡◌, ◌+◌, ◌≤◌, ℕ, Bool, List, IfErr, IfSome, IsOk, IsNone, length};
+ghost use Rattle.std.specs.Prelude.{◌≡◌, ◌+◌, ◌≤◌, ℕ, Bool, List, None, IfErr, IfSome, IsOk, IsNone, length};
 ghost use Rattle.std.specs.Iterator.{IsNearerEnd, UpTo};
 ghost use Rattle.std.specs.List.{FoldsTo};
 ghost use Rattle.iddqd.specs.{IsValid, removed, room as set_room};
@@ -7,7 +7,7 @@ ghost use Rattle.iddqd.specs.LiveItems.{live_items};
 ghost use Rattle.iddqd_hash.specs.Asks.{CanAsk};
 ghost use Rattle.iddqd_keys.specs.Scan.{IsLive};
 ghost use Rattle.iddqd_map.specs.BulkOverwrite.{CanDisplace, Displaces, DisplacesByNext, HandsOver, MayDisplace, OverwritesFrom, OverwritesUntil, overwritten_count};
-ghost use Rattle.iddqd_map.specs.KeyIndex.{IsIndexed};
+ghost use Rattle.iddqd_map.specs.KeyIndex.{IsIndexed, IsNextReported};
 ghost use Rattle.iddqd_map.specs.Map.{map_with, room};
 ghost use Rattle.iddqd_map.specs.Overwrite.{GivesReported};
 ghost use Rattle.iddqd_map.specs.Ranges.{GivesItem, TakesItem};
@@ -16,13 +16,13 @@ use super::Map;
 use super::inserts::insert;
 use super::overwrites::insert_in_room;
 use super::retain_into::give_out;
-use crate::key_index::{Inserts, Overwrites, Removes, Upkeep};
+use crate::key_index::{Changes, Upkeep};
 use crate::refusal::{InsertRefusal, OverwriteRefusal, StoppedOverwrite};
 use iddqd::item_index::ItemIndex;
 use iddqd::item_set::ItemSet;
 use std::alloc::AllocError;
 
-impl<T, X: Inserts<T, S> + Overwrites<T, S> + Removes<T, S> + Upkeep<T, S>, S> Map<T, X, S> {
+impl<T, X: Changes<T, S> + Upkeep<T, S>, S> Map<T, X, S> {
     /// Inserts the items of an iterator in turn, each in place of those that share a key with it, up to the first that
     /// is refused, and returns how many were inserted.
     ///
@@ -119,7 +119,7 @@ impl<T, X: Inserts<T, S> + Overwrites<T, S> + Removes<T, S> + Upkeep<T, S>, S> M
 }
 
 // Stores the item, and inserts its index. Those that share a key with it are removed, and passed to the closure.
-fn insert_or_displace<T, X: Inserts<T, S> + Overwrites<T, S> + Removes<T, S>, S, G: FnMut(T)>(
+fn insert_or_displace<T, X: Changes<T, S>, S, G: FnMut(T)>(
     items: &mut ItemSet<T>,
     indexes: &mut X,
     state: &S,
@@ -147,7 +147,7 @@ fn insert_or_displace<T, X: Inserts<T, S> + Overwrites<T, S> + Removes<T, S>, S,
 
 // Removes the items that share a key with this one, and passes them to the closure; then it stores the item and inserts
 // its index. If memory runs out, it returns the item before anything is removed.
-fn displace<T, X: Inserts<T, S> + Overwrites<T, S> + Removes<T, S>, S, G: FnMut(T)>(
+fn displace<T, X: Changes<T, S>, S, G: FnMut(T)>(
     items: &mut ItemSet<T>,
     indexes: &mut X,
     state: &S,
@@ -166,23 +166,27 @@ fn displace<T, X: Inserts<T, S> + Overwrites<T, S> + Removes<T, S>, S, G: FnMut(
         (map_with items.old (X.capacity indexes.old) (X.cells indexes.old)) gone.old item result
         (map_with items.new (X.capacity indexes.new) (X.cells indexes.new)) gone.new }
 {
+    let first = X::next_reported(at, None);
     let blocks = match indexes.blocks_after(items, state) {
         Ok(blocks) => blocks,
         Err(AllocError) => return Err(OverwriteRefusal::Memory(item)),
     };
-    give_reported(items, indexes, state, at, gone);
+    give_reported(items, indexes, state, at, first, gone);
     Ok(insert_in_room(items, indexes, state, hashes, blocks, item))
 }
 
-// Removes the items that were reported, at least one, by rising index, and passes each to the closure.
-fn give_reported<T, X: Inserts<T, S> + Overwrites<T, S> + Removes<T, S>, S, G: FnMut(T)>(
+// Removes the items that were reported, at least one, by rising index, and passes each to the closure. The first of
+// them is known.
+fn give_reported<T, X: Changes<T, S>, S, G: FnMut(T)>(
     items: &mut ItemSet<T>,
     indexes: &mut X,
     state: &S,
     at: &X::Conflict,
+    first: Option<ItemIndex>,
     gone: &mut G,
 )
     requires map { IsIndexed (X.indexes indexes.old) state.now items.old.store }
+    requires first { IsNextReported (X.reports at.now) None first }
     requires live { (ix : ℕ) → X.reports at.now ix → IsLive items.old.store ix }
     requires some { (ix : ℕ) × X.reports at.now ix }
     requires can_give { CanAsk (TakesItem G.FnMut) (λ p x (b : Bool) q. GivesItem G.FnMut p x q) gone.old
@@ -197,7 +201,7 @@ fn give_reported<T, X: Inserts<T, S> + Overwrites<T, S> + Removes<T, S>, S, G: F
     ensures capacity { X.capacity indexes.new ≡ X.capacity indexes.old }
     ensures cells { X.cells indexes.new ≡ X.cells indexes.old }
 {
-    let mut next = X::next_reported(at, None);
+    let mut next = first;
     while let Some(ix) = next {
         give_out(items, indexes, state, ix, gone);
         next = X::next_reported(at, Some(ix));

@@ -9,13 +9,13 @@ ghost use Rattle.iddqd_map.specs.Refusal.{refusal_of};
 
 use super::Map;
 use super::steps::store_in_room;
-use crate::key_index::Inserts;
+use crate::key_index::Changes;
 use crate::refusal::InsertRefusal;
 use iddqd::item_index::ItemIndex;
 use iddqd::item_set::{GrowError, ItemSet};
 use std::alloc::AllocError;
 
-impl<T, X: Inserts<T, S>, S> Map<T, X, S> {
+impl<T, X: Changes<T, S>, S> Map<T, X, S> {
     /// Inserts an item that shares no unique key with another, and returns its index.
     ///
     /// If there are several reasons for a refusal, the first of these is reported: duplicate, full, out of memory. A
@@ -43,7 +43,7 @@ impl<T, X: Inserts<T, S>, S> Map<T, X, S> {
 }
 
 /// Stores an item that shares no unique key with another, and inserts its index.
-pub(super) fn insert<T, X: Inserts<T, S>, S>(
+pub(super) fn insert<T, X: Changes<T, S>, S>(
     items: &mut ItemSet<T>,
     indexes: &mut X,
     state: &S,
@@ -76,7 +76,7 @@ pub(super) enum NotReady<C> {
 /// Takes all memory that the insert of an item needs. Returns the plan by which its index is inserted, the blocks for
 /// that, and the index. The contents stay.
 #[inline(always)]
-pub(super) fn prepare<T, X: Inserts<T, S>, S>(
+pub(super) fn prepare<T, X: Changes<T, S>, S>(
     items: &mut ItemSet<T>,
     indexes: &mut X,
     state: &S,

@@ -2,25 +2,26 @@
 //!
 //! The memory of each table is asked for before an item is removed. The store needs none then, since the removal of an
 //! item leaves a slot.
-ghost use Rattle.std.specs.Prelude.{◌≡◌, ◌+◌, ◌≤◌, ℕ, [], length, count_by, is_some, IsOk, OnOk, OnErr};
+ghost use Rattle.std.specs.Prelude.{◌≡◌, ◌+◌, ◌≤◌, ℕ, List, [], None, length, count_by, is_some, IsOk, OnOk, OnErr};
+ghost use Rattle.std.specs.List.{Contains};
 ghost use Rattle.iddqd.specs.{get, live_count, next_index, inserted, removed, room};
 ghost use Rattle.iddqd_keys.specs.Scan.{IsLive, HasNoHit};
 ghost use Rattle.iddqd_map.specs.Map.{map_with, room as map_room};
 ghost use Rattle.iddqd_map.specs.Calls.{OverwritesInto};
-ghost use Rattle.iddqd_map.specs.KeyIndex.{IsIndexed};
+ghost use Rattle.iddqd_map.specs.KeyIndex.{IsIndexed, IsNextReported};
 ghost use Rattle.iddqd_map.specs.Overwrite.{TakesAll};
 ghost use Rattle.iddqd_keys.specs.Removals.{padded};
 
 use super::Map;
 use super::inserts::insert;
 use super::steps::{put_in_room, put_into, take_out};
-use crate::key_index::{Inserts, Overwrites, Removes};
+use crate::key_index::Changes;
 use crate::refusal::{InsertRefusal, OverwriteRefusal};
 use iddqd::item_index::ItemIndex;
 use iddqd::item_set::ItemSet;
 use std::alloc::AllocError;
 
-impl<T, X: Inserts<T, S> + Overwrites<T, S> + Removes<T, S>, S> Map<T, X, S> {
+impl<T, X: Changes<T, S>, S> Map<T, X, S> {
     /// Inserts an item, and returns its index. Stored items that share a key with it are first moved into `places`, by
     /// rising index.
     ///
@@ -57,7 +58,7 @@ impl<T, X: Inserts<T, S> + Overwrites<T, S> + Removes<T, S>, S> Map<T, X, S> {
 
 // Stores the item, and inserts its index. Those that share a key with it are removed into the places.
 #[inline(always)]
-fn insert_or_overwrite<T, X: Inserts<T, S> + Overwrites<T, S> + Removes<T, S>, S>(
+fn insert_or_overwrite<T, X: Changes<T, S>, S>(
     items: &mut ItemSet<T>,
     indexes: &mut X,
     state: &S,
@@ -86,7 +87,7 @@ fn insert_or_overwrite<T, X: Inserts<T, S> + Overwrites<T, S> + Removes<T, S>, S
 
 // Removes the items that share a key with this one, stores it and inserts its index. If memory runs out, it returns the
 // item before anything is removed.
-fn overwrite<T, X: Inserts<T, S> + Overwrites<T, S> + Removes<T, S>, S>(
+fn overwrite<T, X: Changes<T, S>, S>(
     items: &mut ItemSet<T>,
     indexes: &mut X,
     state: &S,
@@ -105,23 +106,28 @@ fn overwrite<T, X: Inserts<T, S> + Overwrites<T, S> + Removes<T, S>, S>(
         (map_with items.old (X.capacity indexes.old) (X.cells indexes.old)) item result places.new
         (map_with items.new (X.capacity indexes.new) (X.cells indexes.new)) }
 {
+    let first = X::next_reported(at, None);
     let blocks = match indexes.blocks_after(items, state) {
         Ok(blocks) => blocks,
         Err(AllocError) => return Err(OverwriteRefusal::Memory(item)),
     };
-    remove_reported(items, indexes, state, at, places);
+    remove_reported(items, indexes, state, at, first, places);
     Ok(insert_in_room(items, indexes, state, hashes, blocks, item))
 }
 
-// Removes the items that were reported, at least one, into the places, by rising index.
-fn remove_reported<T, X: Inserts<T, S> + Overwrites<T, S> + Removes<T, S>, S>(
+// Removes the items that were reported, at least one, into the places, by rising index. The first of them is known.
+fn remove_reported<T, X: Changes<T, S>, S>(
     items: &mut ItemSet<T>,
     indexes: &mut X,
     state: &S,
     at: &X::Conflict,
+    first: Option<ItemIndex>,
     places: &mut [Option<T>],
 )
     requires map { IsIndexed (X.indexes indexes.old) state.now items.old.store }
+    requires first { IsNextReported (X.reports at.now) None first }
+    requires few { (l : List ℕ) × (length l ≤ X.unique_keys)
+        × ((ix : ℕ) → X.reports at.now ix → Contains l ix) }
     requires live { (ix : ℕ) → X.reports at.now ix → IsLive items.old.store ix }
     requires some { (ix : ℕ) × X.reports at.now ix }
     requires enough { X.unique_keys ≤ length places.old }
@@ -136,7 +142,7 @@ fn remove_reported<T, X: Inserts<T, S> + Overwrites<T, S> + Removes<T, S>, S>(
     ensures cells { X.cells indexes.new ≡ X.cells indexes.old }
 {
     let mut count = 0;
-    let mut next = X::next_reported(at, None);
+    let mut next = first;
     while let Some(ix) = next {
         let taken = take_out(items, indexes, state, ix);
         put_into(places, count, taken);
@@ -146,7 +152,7 @@ fn remove_reported<T, X: Inserts<T, S> + Overwrites<T, S> + Removes<T, S>, S>(
 }
 
 /// Stores an item that shares no key with another, and inserts its index. There is room for it.
-pub(super) fn insert_in_room<T, X: Inserts<T, S> + Overwrites<T, S>, S>(
+pub(super) fn insert_in_room<T, X: Changes<T, S>, S>(
     items: &mut ItemSet<T>,
     indexes: &mut X,
     state: &S,

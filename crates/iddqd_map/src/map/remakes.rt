@@ -11,13 +11,13 @@ ghost use Rattle.iddqd_map.specs.Remake.{Remakes, RemakesAt, RemakesIfLive};
 
 use super::Map;
 use super::steps::{put_in_room, take_out};
-use crate::key_index::{Inserts, Overwrites, Removes, UniqueAt};
+use crate::key_index::{Changes, UniqueAt};
 use crate::refusal::InsertRefusal;
 use iddqd::item_index::ItemIndex;
 use iddqd::item_set::ItemSet;
 use std::alloc::AllocError;
 
-impl<T, X: Inserts<T, S> + Overwrites<T, S> + Removes<T, S>, S> Map<T, X, S> {
+impl<T, X: Changes<T, S>, S> Map<T, X, S> {
     /// Replaces the item at an index by what the closure makes of it, and returns the index, which stays; `Ok(None)` if
     /// the index has no item, and then the closure isn't called.
     ///
@@ -72,7 +72,7 @@ impl<T, X: Inserts<T, S> + Overwrites<T, S> + Removes<T, S>, S> Map<T, X, S> {
 
 // Replaces the item at a live index by what the closure makes of it. The memory for the new item is asked for while the
 // old one is there. If there is none, the closure is called all the same, so that there is an item to return.
-fn remake<T, X: Inserts<T, S> + Overwrites<T, S> + Removes<T, S>, S, F: FnOnce(T) -> T>(
+fn remake<T, X: Changes<T, S>, S, F: FnOnce(T) -> T>(
     items: &mut ItemSet<T>,
     indexes: &mut X,
     state: &S,

@@ -5,10 +5,10 @@ ghost use Rattle.iddqd_map.specs.Map.{RemovesAt, capacity, room};
 
 use super::Map;
 use super::steps::take_out;
-use crate::key_index::Removes;
+use crate::key_index::Changes;
 use iddqd::item_index::ItemIndex;
 
-impl<T, X: Removes<T, S>, S> Map<T, X, S> {
+impl<T, X: Changes<T, S>, S> Map<T, X, S> {
     /// Removes the item at an index, if there is one, and returns it. It takes no memory.
     pub fn remove_at(&mut self, ix: ItemIndex) -> Option<T>
         ensures removes { RemovesAt self.old ix result self.new }

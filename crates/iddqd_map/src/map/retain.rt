@@ -9,11 +9,11 @@ ghost use Rattle.iddqd_map.specs.Retain.{AsksInTurn, MayAskInTurn, Retains, Reta
 
 use super::Map;
 use super::steps::take_out;
-use crate::key_index::Removes;
+use crate::key_index::Changes;
 use iddqd::item_index::ItemIndex;
 use iddqd::item_set::ItemSet;
 
-impl<T, X: Removes<T, S>, S> Map<T, X, S> {
+impl<T, X: Changes<T, S>, S> Map<T, X, S> {
     /// Keeps exactly the items at which the closure answers true, under their indexes, and returns how many it removed.
     ///
     /// The closure is called once at each item, by rising index. The items at which it answers false are removed, by
@@ -35,7 +35,7 @@ impl<T, X: Removes<T, S>, S> Map<T, X, S> {
 
 // Keeps the items at which the closure answers true. The closure stays in the state that its last call leaves. An item
 // at which it answers false is removed at once, so no memory is taken.
-fn retain_in<T: Drop, S, X: Removes<T, S>, F: FnMut(&T) -> bool>(
+fn retain_in<T: Drop, S, X: Changes<T, S>, F: FnMut(&T) -> bool>(
     items: &mut ItemSet<T>,
     indexes: &mut X,
     state: &S,

@@ -12,11 +12,11 @@ ghost use Rattle.iddqd_map.specs.Retain.{AsksInTurn, MayAskInTurn, Retains, Reta
 
 use super::Map;
 use super::steps::take_out;
-use crate::key_index::Removes;
+use crate::key_index::Changes;
 use iddqd::item_index::ItemIndex;
 use iddqd::item_set::ItemSet;
 
-impl<T, X: Removes<T, S>, S> Map<T, X, S> {
+impl<T, X: Changes<T, S>, S> Map<T, X, S> {
     /// Keeps exactly the items at which the first closure answers true, passes the others to the second by value, and
     /// returns how many these were.
     ///
@@ -48,7 +48,7 @@ impl<T, X: Removes<T, S>, S> Map<T, X, S> {
 
 // Keeps the items at which the first closure answers true, and passes each other one to the second at once. The
 // closures stay in the states that their last calls leave.
-fn retain_in<T, S, X: Removes<T, S>, F: FnMut(&T) -> bool, G: FnMut(T)>(
+fn retain_in<T, S, X: Changes<T, S>, F: FnMut(&T) -> bool, G: FnMut(T)>(
     items: &mut ItemSet<T>,
     indexes: &mut X,
     state: &S,
@@ -78,7 +78,7 @@ fn retain_in<T, S, X: Removes<T, S>, F: FnMut(&T) -> bool, G: FnMut(T)>(
 }
 
 /// Removes the item at a live index, and passes it to the closure.
-pub(super) fn give_out<T, S, X: Removes<T, S>, G: FnMut(T)>(
+pub(super) fn give_out<T, S, X: Changes<T, S>, G: FnMut(T)>(
     items: &mut ItemSet<T>,
     indexes: &mut X,
     state: &S,

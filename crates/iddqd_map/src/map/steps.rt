@@ -10,14 +10,14 @@ ghost use Rattle.iddqd_map.specs.KeyIndex.{IsIndexed};
 ghost use Rattle.iddqd_map.specs.Ranges.{itself};
 
 use crate::grouped_at::StepsInGroup;
-use crate::key_index::{Inserts, Removes, StepsAt};
+use crate::key_index::{Changes, StepsAt};
 use iddqd::item_index::ItemIndex;
 use iddqd::item_set::ItemSet;
 use std::mem;
 use std::ops::Bound;
 
 /// Removes the item at a live index from the store, and its index from the key index. It takes no memory.
-pub(super) fn take_out<T, X: Removes<T, S>, S>(
+pub(super) fn take_out<T, X: Changes<T, S>, S>(
     items: &mut ItemSet<T>,
     indexes: &mut X,
     state: &S,
@@ -102,7 +102,7 @@ fn next_in_room<T>(items: &mut ItemSet<T>) -> ItemIndex
 
 /// Inserts the index of an item at the position that was found for it, and stores the item. There is room for it, and
 /// it shares no unique key with another.
-pub(super) fn put_in_room<T, X: Inserts<T, S>, S>(
+pub(super) fn put_in_room<T, X: Changes<T, S>, S>(
     items: &mut ItemSet<T>,
     indexes: &mut X,
     state: &S,

@@ -7,11 +7,11 @@ ghost use Rattle.iddqd_map.specs.Map.{FindsItem, room};
 ghost use Rattle.iddqd_map.specs.Upsert.{InsertsMade, IsCallableWith, LeavesKey, MergesAt};
 
 use super::Map;
-use crate::key_index::{IndexLaws, Inserts, ReportsAt, UniqueAt};
+use crate::key_index::{Changes, IndexLaws, ReportsAt, UniqueAt};
 use crate::refusal::InsertRefusal;
 use iddqd::item_index::ItemIndex;
 
-impl<T, X: Inserts<T, S>, S> Map<T, X, S> {
+impl<T, X: Changes<T, S>, S> Map<T, X, S> {
     /// Calls the closure with a `&mut` to the item that shares the key at the place with the new item, and with the new
     /// item. If no item shares that key, it inserts the new item. It returns the index of the item that was modified or
     /// inserted.

@@ -12,8 +12,8 @@ ghost use Rattle.iddqd_map.specs.Several.{both_keys};
 use super::clash::{TriClash, all_moves, clash_of};
 use crate::by_hash::ByHashOf;
 use crate::key_index::{
-    ComparesKeys, FindsSame, First, IndexLaws, Inserts, KeyIndex, Moves, Overwrites, PlanLaws,
-    PlansChanges, Removes, ReportsAt, Second, TakesAt, Third, UniqueAt, Upkeep,
+    Changes, ComparesKeys, FindsSame, First, IndexLaws, KeyIndex, Moves, PlanLaws, ReportsAt,
+    Second, TakesAt, Third, UniqueAt, Upkeep,
 };
 use crate::reported::{lesser, past};
 use iddqd::index_remap::IndexRemap;
@@ -102,21 +102,19 @@ where
     ghost unique_keys = { 3 };
 }
 
-impl<T, S, A, B, C> PlansChanges<T, S> for TriIndexOf<A, B, C>
+impl<T, S, A, B, C> Changes<T, S> for TriIndexOf<A, B, C>
 where
     A: HashKey<T>,
     B: HashKey<T>,
     C: HashKey<T>,
     S: BuildHasher,
 {
-    ghost use Rattle.std.specs.Prelude.{◌≡◌, ◌≤◌, ◌||◌};
+    ghost use Rattle.std.specs.Prelude.{◌≡◌, ◌≤◌};
     ghost use Rattle.iddqd_hash.specs.HashTable.{room};
     ghost use Rattle.iddqd_by_hash.specs.Hashed.{hashing_of};
-    ghost use Rattle.iddqd_map.specs.Indexing.{Plans};
     ghost use Rattle.iddqd_map.specs.KeyLaws.{IsOfThree};
     ghost use Rattle.iddqd_map.specs.Map.{shares};
     ghost use Rattle.iddqd_map.specs.ThreeKeys.{AreReported, AreTaken};
-    ghost use Rattle.iddqd_map.specs.Hashed.{moves};
 
     type Conflict = TriClash;
 
@@ -125,8 +123,6 @@ where
     type Position = ();
 
     type InsertPlan = ();
-
-    type MovePlan = (Move, (Move, Move));
 
     type Blocks = ();
 
@@ -157,16 +153,68 @@ where
 
     ghost are_enough_after = { λ x blocks. Unit {0} };
 
-    ghost is_move = { λ state s ix item plan.
-        Plans A.key_of (hashing_of A.eq A.hash_input S.BuildHasher S.Hasher.Hasher state) s ix item plan.0
-        × (Plans B.key_of (hashing_of B.eq B.hash_input S.BuildHasher S.Hasher.Hasher state) s ix item
-        plan.1.0
-        × Plans C.key_of (hashing_of C.eq C.hash_input S.BuildHasher S.Hasher.Hasher state) s ix item
-        plan.1.1) };
+    fn hashes(state: &S, item: &T) -> (MapHash, (MapHash, MapHash)) {
+        let first = <ByHashOf<A> as Changes<T, S>>::hashes(state, item);
+        let second = <ByHashOf<B> as Changes<T, S>>::hashes(state, item);
+        let third = <ByHashOf<C> as Changes<T, S>>::hashes(state, item);
+        (first, (second, third))
+    }
 
-    ghost moves = { λ plan. moves plan.0 || (moves plan.1.0 || moves plan.1.1) };
+    fn look_up(
+        &self,
+        items: &ItemSet<T>,
+        state: &S,
+        hashes: (MapHash, (MapHash, MapHash)),
+        item: &T,
+    ) -> Result<(), TriClash> {
+        let first = self.first.look_up(items, state, hashes.0, item);
+        let second = self.second.look_up(items, state, hashes.1.0, item);
+        let third = self.third.look_up(items, state, hashes.1.1, item);
+        clash_of(first.err(), second.err(), third.err())
+    }
 
-    ghost are_enough_for = { λ x plan blocks. Unit {0} };
+    fn plan(&self, items: &ItemSet<T>, state: &S, position: (), ix: ItemIndex, item: &T) {}
+
+    fn make_room(&mut self, items: &ItemSet<T>, state: &S, plan: &()) -> Result<(), AllocError> {
+        self.first.make_room(items, state, plan)?;
+        self.second.make_room(items, state, plan)?;
+        self.third.make_room(items, state, plan)
+    }
+
+    fn insert(
+        &mut self,
+        hashes: (MapHash, (MapHash, MapHash)),
+        plan: &(),
+        blocks: (),
+        ix: ItemIndex,
+    ) {
+        <ByHashOf<A> as Changes<T, S>>::insert(&mut self.first, hashes.0, plan, blocks, ix);
+        <ByHashOf<B> as Changes<T, S>>::insert(&mut self.second, hashes.1.0, plan, blocks, ix);
+        <ByHashOf<C> as Changes<T, S>>::insert(&mut self.third, hashes.1.1, plan, blocks, ix);
+    }
+
+    fn next_reported(conflict: &TriClash, before: Option<ItemIndex>) -> Option<ItemIndex> {
+        let last = lesser(past(&conflict.key2, &before), past(&conflict.key3, &before));
+        lesser(past(&conflict.key1, &before), last)
+    }
+
+    fn position(
+        &self,
+        items: &ItemSet<T>,
+        state: &S,
+        hashes: (MapHash, (MapHash, MapHash)),
+        item: &T,
+    ) {}
+
+    fn blocks_after(&self, items: &ItemSet<T>, state: &S) -> Result<(), AllocError> {
+        Ok(())
+    }
+
+    fn remove(&mut self, items: &ItemSet<T>, state: &S, ix: ItemIndex) {
+        self.first.remove(items, state, ix);
+        self.second.remove(items, state, ix);
+        self.third.remove(items, state, ix);
+    }
 }
 
 impl<T, S, A, B, C> IndexLaws<T, S> for TriIndexOf<A, B, C>
@@ -264,93 +312,6 @@ where
     ghost same_plans = { λ x y state s item plan same is. is };
 }
 
-impl<T, S, A, B, C> Removes<T, S> for TriIndexOf<A, B, C>
-where
-    A: HashKey<T>,
-    B: HashKey<T>,
-    C: HashKey<T>,
-    S: BuildHasher,
-{
-    fn remove(&mut self, items: &ItemSet<T>, state: &S, ix: ItemIndex) {
-        self.first.remove(items, state, ix);
-        self.second.remove(items, state, ix);
-        self.third.remove(items, state, ix);
-    }
-}
-
-impl<T, S, A, B, C> Inserts<T, S> for TriIndexOf<A, B, C>
-where
-    A: HashKey<T>,
-    B: HashKey<T>,
-    C: HashKey<T>,
-    S: BuildHasher,
-{
-    fn hashes(state: &S, item: &T) -> (MapHash, (MapHash, MapHash)) {
-        let first = <ByHashOf<A> as Inserts<T, S>>::hashes(state, item);
-        let second = <ByHashOf<B> as Inserts<T, S>>::hashes(state, item);
-        let third = <ByHashOf<C> as Inserts<T, S>>::hashes(state, item);
-        (first, (second, third))
-    }
-
-    fn look_up(
-        &self,
-        items: &ItemSet<T>,
-        state: &S,
-        hashes: (MapHash, (MapHash, MapHash)),
-        item: &T,
-    ) -> Result<(), TriClash> {
-        let first = self.first.look_up(items, state, hashes.0, item);
-        let second = self.second.look_up(items, state, hashes.1.0, item);
-        let third = self.third.look_up(items, state, hashes.1.1, item);
-        clash_of(first.err(), second.err(), third.err())
-    }
-
-    fn plan(&self, items: &ItemSet<T>, state: &S, position: (), ix: ItemIndex, item: &T) {}
-
-    fn make_room(&mut self, items: &ItemSet<T>, state: &S, plan: &()) -> Result<(), AllocError> {
-        self.first.make_room(items, state, plan)?;
-        self.second.make_room(items, state, plan)?;
-        self.third.make_room(items, state, plan)
-    }
-
-    fn insert(
-        &mut self,
-        hashes: (MapHash, (MapHash, MapHash)),
-        plan: &(),
-        blocks: (),
-        ix: ItemIndex,
-    ) {
-        <ByHashOf<A> as Inserts<T, S>>::insert(&mut self.first, hashes.0, plan, blocks, ix);
-        <ByHashOf<B> as Inserts<T, S>>::insert(&mut self.second, hashes.1.0, plan, blocks, ix);
-        <ByHashOf<C> as Inserts<T, S>>::insert(&mut self.third, hashes.1.1, plan, blocks, ix);
-    }
-}
-
-impl<T, S, A, B, C> Overwrites<T, S> for TriIndexOf<A, B, C>
-where
-    A: HashKey<T>,
-    B: HashKey<T>,
-    C: HashKey<T>,
-    S: BuildHasher,
-{
-    fn next_reported(conflict: &TriClash, before: Option<ItemIndex>) -> Option<ItemIndex> {
-        let last = lesser(past(&conflict.key2, &before), past(&conflict.key3, &before));
-        lesser(past(&conflict.key1, &before), last)
-    }
-
-    fn position(
-        &self,
-        items: &ItemSet<T>,
-        state: &S,
-        hashes: (MapHash, (MapHash, MapHash)),
-        item: &T,
-    ) {}
-
-    fn blocks_after(&self, items: &ItemSet<T>, state: &S) -> Result<(), AllocError> {
-        Ok(())
-    }
-}
-
 impl<T, S, A, B, C> Moves<T, S> for TriIndexOf<A, B, C>
 where
     A: HashKey<T>,
@@ -358,6 +319,24 @@ where
     C: HashKey<T>,
     S: BuildHasher,
 {
+    ghost use Rattle.std.specs.Prelude.{◌||◌};
+    ghost use Rattle.iddqd_by_hash.specs.Hashed.{hashing_of};
+    ghost use Rattle.iddqd_map.specs.Indexing.{Plans};
+    ghost use Rattle.iddqd_map.specs.Hashed.{moves};
+
+    type MovePlan = (Move, (Move, Move));
+
+    ghost is_move = { λ state s ix item plan.
+        Plans A.key_of (hashing_of A.eq A.hash_input S.BuildHasher S.Hasher.Hasher state) s ix item plan.0
+        × (Plans B.key_of (hashing_of B.eq B.hash_input S.BuildHasher S.Hasher.Hasher state) s ix item
+        plan.1.0
+        × Plans C.key_of (hashing_of C.eq C.hash_input S.BuildHasher S.Hasher.Hasher state) s ix item
+        plan.1.1) };
+
+    ghost moves = { λ plan. moves plan.0 || (moves plan.1.0 || moves plan.1.1) };
+
+    ghost are_enough_for = { λ x plan blocks. Unit {0} };
+
     fn no_hashes() -> (Option<MapHash>, (Option<MapHash>, Option<MapHash>)) {
         (None, (None, None))
     }

@@ -48,7 +48,7 @@ returns-in-Err-Conflict g c =
     let s = c.self.inside.items.store in
     rw (← c.self.view_is, ← c.other.view_is)
     (AppendsItem-kept g.X.KeyIndex.alike g.X.KeyIndex.grown c.args.ix item _ _ _ _ (sym c.in-Some.ensures)
-    g.X.PlansChanges.conflicts
+    g.X.Changes.conflicts
     (λ at conflicts.
     let (ix, one) = g.met.X.PlanLaws.reported_some s item at conflicts in
     (ix, (g.met.X.PlanLaws.reported s item at conflicts ix).0 one))

@@ -10,18 +10,18 @@ returns-in-None-clause-items g c =
     let (taken, did) = c.in-None.ensures.inserts in
     let none = c.reserve-reserved.ensures.store ∙ ap (λ (m : MapState _). m.store) c.with_hasher-map.ensures in
     (made_all _ array_into_iter_items (λ s t x step. step) (λ s t end. nil_from_length _ end.0)
-    g.X.KeyIndex.alike g.X.KeyIndex.grown g.X.PlansChanges.conflicts _ _ _ c.into_iter-iter.ensures.into_iter_gives.0 _ _ none taken did).0
+    g.X.KeyIndex.alike g.X.KeyIndex.grown g.X.Changes.conflicts _ _ _ c.into_iter-iter.ensures.into_iter_gives.0 _ _ none taken did).0
 
 pub returns-in-None-clause-count : goal.returns-in-None-clause-count
 returns-in-None-clause-count g c =
     let (taken, did) = c.in-None.ensures.inserts in
     let none = c.reserve-reserved.ensures.store ∙ ap (λ (m : MapState _). m.store) c.with_hasher-map.ensures in
     (made_all _ array_into_iter_items (λ s t x step. step) (λ s t end. nil_from_length _ end.0)
-    g.X.KeyIndex.alike g.X.KeyIndex.grown g.X.PlansChanges.conflicts _ _ _ c.into_iter-iter.ensures.into_iter_gives.0 _ _ none taken did).1
+    g.X.KeyIndex.alike g.X.KeyIndex.grown g.X.Changes.conflicts _ _ _ c.into_iter-iter.ensures.into_iter_gives.0 _ _ none taken did).1
 
 pub returns-in-Some-clause-refused : goal.returns-in-Some-clause-refused
 returns-in-Some-clause-refused g c =
     let (taken, did) = c.in-Some.ensures.inserts in
     let none = c.reserve-reserved.ensures.store ∙ ap (λ (m : MapState _). m.store) c.with_hasher-map.ensures in
     made_refused _ array_into_iter_items (λ s t x step. step) (λ s t end. nil_from_length _ end.0)
-    g.X.KeyIndex.alike g.X.KeyIndex.grown g.X.PlansChanges.conflicts _ _ _ c.into_iter-iter.ensures.into_iter_gives.0 _ _ none taken c.in-Some.refusal did
+    g.X.KeyIndex.alike g.X.KeyIndex.grown g.X.Changes.conflicts _ _ _ c.into_iter-iter.ensures.into_iter_gives.0 _ _ none taken c.in-Some.refusal did

@@ -8,20 +8,20 @@ use Rattle.iddqd_map.proofs.map.bulk_overwrites.displace.Goals as goal
 pub insert_in_room-requires-clause-apart : goal.insert_in_room-requires-clause-apart
 insert_in_room-requires-clause-apart g c =
     let s = c.args.items.now.store in
-    let hits = g.met.X.PlanLaws.reported s c.args.item c.args.at.now c.requires.reported in
-    HasNoHit-given g.X.KeyIndex.alike g.X.KeyIndex.grown (GivesItem g.G.FnMut) (g.X.PlansChanges.reports c.args.at.now) s c.args.item
+    let hits = c.next_reported-first.ensures.reported s c.args.item c.requires.reported in
+    HasNoHit-given g.X.KeyIndex.alike g.X.KeyIndex.grown (GivesItem g.G.FnMut) (g.X.Changes.reports c.args.at.now) s c.args.item
     hits _ _ _ c.give_reported.ensures.given
 
 pub returns-clause-displaces : goal.returns-clause-displaces
 returns-clause-displaces g c =
     let s = c.args.items.now.store in
-    let hits = g.met.X.PlanLaws.reported s c.args.item c.args.at.now c.requires.reported in
-    let some = g.met.X.PlanLaws.reported_some s c.args.item c.args.at.now c.requires.reported in
+    let hits = c.next_reported-first.ensures.reported s c.args.item c.requires.reported in
+    let some = c.next_reported-first.ensures.some s c.args.item c.requires.reported in
     let gave = c.give_reported.ensures in
     let put = c.insert_in_room.ensures in
     let slots = ap (λ (s : SizedStore _). s.capacity) put.stored ∙ gave.slots in (
       gave.given.displaced,
-      DisplacesAt-given g.X.KeyIndex.alike g.X.KeyIndex.grown (GivesItem g.G.FnMut) (g.X.PlansChanges.reports c.args.at.now) s c.args.item
+      DisplacesAt-given g.X.KeyIndex.alike g.X.KeyIndex.grown (GivesItem g.G.FnMut) (g.X.Changes.reports c.args.at.now) s c.args.item
           hits _ _ _ gave.given _ _ _ refl some put.index (ap (λ (s : SizedStore _). s.store) put.stored)
           (memory_same _ _ _ _ _ _ slots (put.capacity ∙ gave.capacity) (put.cells ∙ gave.cells)),
       gave.given.given,

@@ -16,7 +16,7 @@ loop-next-init g c = record {
   map = c.requires.map;
   can = c.requires.can_give;
   enough = λ blocks enough. enough;
-  displacing = Displacing-none _ c.args.items.now.store _ _ _ _ c.next_reported-next.ensures;
+  displacing = Displacing-none _ c.args.items.now.store _ _ _ _ c.requires.first;
   slots = refl;
   capacity = refl;
   cells = refl;
@@ -61,7 +61,7 @@ loop-next-preserved g c =
       enough = λ blocks enough. did.enough blocks (i.enough blocks enough);
       displacing =
           Displacing-next _ _ _ _ _ _ _ _ i.displacing ix item c.give_out.new.gone _ _ _ c.in-Some.is
-          c.next_reported-next-in-Some.ensures live gives (ap (λ (z : SizedStore _). z.store) did.removed)
+          c.next_reported-next.ensures.next live gives (ap (λ (z : SizedStore _). z.store) did.removed)
           (omega (arith, did.items_room), λ plan blocks enough. did.roomy plan blocks (i.enough blocks enough));
       slots = ap (λ (z : SizedStore _). z.capacity) did.removed ∙ i.slots;
       capacity = did.capacity ∙ i.capacity;

@@ -13,12 +13,12 @@ invariant-loop-next g l = record {
   map : IsIndexed (g.X.KeyIndex.indexes l.indexes) l.state l.items.store;
   can : CanAsk (TakesItem g.G.FnMut) (λ p x (b : Bool) q. GivesItem g.G.FnMut p x q) l.gone
       (live_items l.fn.items.store);
-  enough : (blocks : g.row.X-Blocks.Denot) → g.X.PlansChanges.are_enough_after l.fn.indexes blocks
-      → g.X.PlansChanges.are_enough_after l.indexes blocks;
-  displacing : Displacing (g.X.PlansChanges.reports l.at) l.fn.items.store (GivesItem g.G.FnMut) l.fn.gone
+  enough : (blocks : g.row.X-Blocks.Denot) → g.X.Changes.are_enough_after l.fn.indexes blocks
+      → g.X.Changes.are_enough_after l.indexes blocks;
+  displacing : Displacing (g.X.Changes.reports l.at) l.fn.items.store (GivesItem g.G.FnMut) l.fn.gone
       ((1 ≤ room l.items)
       × ((plan : g.row.X-InsertPlan.Denot) (blocks : g.row.X-Blocks.Denot)
-      → g.X.PlansChanges.are_enough_after l.fn.indexes blocks → g.X.PlansChanges.has_room_for l.indexes plan blocks))
+      → g.X.Changes.are_enough_after l.fn.indexes blocks → g.X.Changes.has_room_for l.indexes plan blocks))
       l.items.store l.next l.gone;
   slots : l.items.capacity ≡ l.fn.items.capacity;
   capacity : g.X.KeyIndex.capacity l.indexes ≡ g.X.KeyIndex.capacity l.fn.indexes;

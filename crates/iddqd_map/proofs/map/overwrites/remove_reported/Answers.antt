@@ -7,7 +7,7 @@ pub loop-next-init : goal.loop-next-init
 loop-next-init g c = record {
   map = c.requires.map;
   enough = λ blocks enough. enough;
-  taking = Taking-none _ _ c.args.items.now.store _ _ c.next_reported-next.ensures c.requires.vacant;
+  taking = Taking-none _ _ c.args.items.now.store _ _ c.requires.first c.requires.vacant;
   within = omega arith;
   slots = refl;
   room = omega arith;
@@ -23,20 +23,20 @@ take_out-taken-requires-clause-live g c =
 pub put_into-requires-clause-within : goal.put_into-requires-clause-within
 put_into-requires-clause-within g c =
     let t = taking_at c.in-Some.is c.loop-next.invariant.taking in
-    let fits = next_fits _ _ c.args.items.now.store _ _ c.in-Some.ix _ (g.X.KeyIndex.unique_keys) t (g.met.X.PlanLaws.few_reported c.args.at.now) in
+    let fits = next_fits _ _ c.args.items.now.store _ _ c.in-Some.ix _ (g.X.KeyIndex.unique_keys) t c.requires.few in
     let left = places_left _ _ c.args.items.now.store _ _ _ _ c.loop-next.invariant.taking in
     omega (arith, fits, left, c.requires.enough)
 
 pub put_into-requires-clause-vacant : goal.put_into-requires-clause-vacant
 put_into-requires-clause-vacant g c =
     let t = taking_at c.in-Some.is c.loop-next.invariant.taking in
-    let fits = next_fits _ _ c.args.items.now.store _ _ c.in-Some.ix _ (g.X.KeyIndex.unique_keys) t (g.met.X.PlanLaws.few_reported c.args.at.now) in
+    let fits = next_fits _ _ c.args.items.now.store _ _ c.in-Some.ix _ (g.X.KeyIndex.unique_keys) t c.requires.few in
     place_vacant _ _ c.args.items.now.store _ _ _ _ c.loop-next.invariant.taking (omega (arith, fits, c.requires.enough))
 
 pub loop-next-smaller : goal.loop-next-smaller
 loop-next-smaller g c =
     let t = taking_at c.in-Some.is c.loop-next.invariant.taking in
-    let fits = next_fits _ _ c.args.items.now.store _ _ c.in-Some.ix _ (g.X.KeyIndex.unique_keys) t (g.met.X.PlanLaws.few_reported c.args.at.now) in
+    let fits = next_fits _ _ c.args.items.now.store _ _ c.in-Some.ix _ (g.X.KeyIndex.unique_keys) t c.requires.few in
     omega (arith, fits, c.requires.enough)
 
 pub loop-next-preserved : goal.loop-next-preserved
@@ -44,12 +44,12 @@ loop-next-preserved g c =
     let i = c.loop-next.invariant in
     let took = c.take_out-taken.ensures in
     let t = taking_at c.in-Some.is i.taking in
-    let fits = next_fits _ _ c.args.items.now.store _ _ c.in-Some.ix _ (g.X.KeyIndex.unique_keys) t (g.met.X.PlanLaws.few_reported c.args.at.now) in
+    let fits = next_fits _ _ c.args.items.now.store _ _ c.in-Some.ix _ (g.X.KeyIndex.unique_keys) t c.requires.few in
     let within : c.loop-next.count < length c.args.places.now = omega (arith, fits, c.requires.enough) in
     record {
       map = took.map;
       enough = λ blocks enough. took.enough blocks (i.enough blocks enough);
-      taking = Taking-next _ _ c.args.items.now.store _ _ _ _ c.in-Some.ix _ _ _ t within c.next_reported-next-in-Some.ensures took.value c.put_into.ensures (ap (λ (s : SizedStore _). s.store) took.removed);
+      taking = Taking-next _ _ c.args.items.now.store _ _ _ _ c.in-Some.ix _ _ _ t within c.next_reported-next.ensures.next took.value c.put_into.ensures (ap (λ (s : SizedStore _). s.store) took.removed);
       within = omega (arith, within);
       slots = ap (λ (s : SizedStore _). s.capacity) took.removed ∙ i.slots;
       room = let r = i.room in let more = took.items_room in omega (arith, r, more);

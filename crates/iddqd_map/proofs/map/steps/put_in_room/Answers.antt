@@ -10,6 +10,6 @@ returns-clause-map g c =
     let s = items.store in
     let state = c.args.state.now in
     let free : IsFull s → ⊥ = not_full s items.capacity c.requires.room in
-    let planned : g.X.PlansChanges.is_planned c.args.indexes.now state s c.args.item c.plan-plan.result = search rules in
+    let planned : g.X.Changes.is_planned c.args.indexes.now state s c.args.item c.plan-plan.result = search rules in
     let done = c.insert.ensures.indexed state s c.args.item c.requires.map.indexed c.requires.map.valid free c.next_in_room-ix.ensures.index c.requires.apart c.requires.hashed planned in
     IsIndexed-inserted _ state s _ c.args.item (search rules) c.requires.map.valid free done
