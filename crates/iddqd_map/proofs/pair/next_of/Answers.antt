@@ -6,8 +6,8 @@ use Rattle.iddqd_map.proofs.pair.next_of.Goals as goal
 
 -- what reported nothing reports no hit, and there is none
 none_reported :
-    {T C : Type 0} (reports : C → ℕ → Type 0) (alike : T → T → Bool) (conflicts : Store T → T → C → Type 0) (s : Store T)
-    (item : T) (found : Option C)
+    {T C : Type 0} (reports : C → ℕ → Type 0) (alike : T → T → Bool) (conflicts : Store T → T → C → Type 0)
+    (s : Store T) (item : T) (found : Option C)
     → found ≡ None
     → Reports alike conflicts s item found
     → (ix : ℕ)
@@ -17,4 +17,5 @@ none_reported reports alike conflicts s item (Some at) is none ix = absurd (cc)
 
 pub returns-in-None-clause-reported : goal.returns-in-None-clause-reported
 returns-in-None-clause-reported g c = λ s item none ix.
-    none_reported g.X.Changes.reports g.X.KeyIndex.alike g.X.Changes.conflicts s item c.args.conflict c.in-None.is none ix
+    none_reported g.X.Changes.reports g.X.KeyIndex.alike g.X.Changes.conflicts s item c.args.conflict c.in-None.is none
+    ix

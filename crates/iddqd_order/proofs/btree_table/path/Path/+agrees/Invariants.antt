@@ -1,5 +1,5 @@
 use Rattle.iddqd_order.proofs.btree_table.path.Path.+agrees.Given as goal
 
--- proposed from what the function passes where it calls itself
+-- each call goes one level down
 abbrev pub decreases-agrees : goal.decreases-agrees
 decreases-agrees l = l.level
