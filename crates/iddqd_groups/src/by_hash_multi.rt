@@ -149,8 +149,6 @@ where
 
     ghost conflicts = { λ s item at. ⊥ };
 
-    ghost taken = { λ s ix item at. ⊥ };
-
     ghost reports = { λ at ix. ⊥ };
 
     ghost are_hashes = { λ state item hash. hash ≡ (hashing_of E.eq E.hash_input S.BuildHasher
@@ -262,12 +260,20 @@ where
     ghost use Rattle.iddqd_map.specs.Files.{IsMoveFor};
     ghost use Rattle.iddqd_map.specs.Hashed.{moves};
 
+    type Taken = NoConflict;
+
     type MovePlan = Move;
+
+    type MoveBlocks = ();
+
+    ghost taken = { λ s ix item at. ⊥ };
 
     ghost is_move = { λ state s ix item plan. IsMoveFor E.key_of (hashing_of E.eq E.hash_input S.BuildHasher
         S.Hasher.Hasher state) s ix item plan };
 
     ghost moves = { moves };
+
+    ghost took_none = { λ blocks. Unit {0} };
 
     ghost are_enough_for = { λ x plan blocks. Unit {0} };
 

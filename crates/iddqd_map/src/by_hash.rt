@@ -102,7 +102,7 @@ where
     E: HashKey<T>,
     S: BuildHasher,
 {
-    ghost use Rattle.std.specs.Prelude.{◌≢◌, Some, ◌≤◌};
+    ghost use Rattle.std.specs.Prelude.{Some, ◌≤◌};
     ghost use Rattle.iddqd_hash.specs.HashTable.{room};
     ghost use Rattle.iddqd_map.specs.Map.{shares};
 
@@ -117,8 +117,6 @@ where
     type Blocks = ();
 
     ghost conflicts = { λ s item at. AnswersScan s (shares E.key_of E.eq item) (Some at) };
-
-    ghost taken = { λ s ix item at. (at ≢ ix) × AnswersScan s (shares E.key_of E.eq item) (Some at) };
 
     ghost reports = { λ at ix. ix ≡ at };
 
@@ -230,15 +228,25 @@ where
     E: HashKey<T>,
     S: BuildHasher,
 {
+    ghost use Rattle.std.specs.Prelude.{◌≢◌, Some};
     ghost use Rattle.iddqd_map.specs.Hashed.{moves};
     ghost use Rattle.iddqd_map.specs.Indexing.{Plans};
+    ghost use Rattle.iddqd_map.specs.Map.{shares};
+
+    type Taken = ItemIndex;
 
     type MovePlan = Move;
+
+    type MoveBlocks = ();
+
+    ghost taken = { λ s ix item at. (at ≢ ix) × AnswersScan s (shares E.key_of E.eq item) (Some at) };
 
     ghost is_move = { λ state s ix item plan. Plans E.key_of (hashing_of E.eq E.hash_input S.BuildHasher
         S.Hasher.Hasher state) s ix item plan };
 
     ghost moves = { moves };
+
+    ghost took_none = { λ blocks. Unit {0} };
 
     ghost are_enough_for = { λ x plan blocks. Unit {0} };
 

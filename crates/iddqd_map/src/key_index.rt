@@ -18,8 +18,8 @@
 //! capacity no key index holds memory for a call to come.
 //!
 //! The trait `KeyIndex` says what a key index holds, and has no methods. The calls are traits over it. `Changes` has
-//! those that insert, overwrite and remove, with the types by which they are planned; `Moves` stands over it, and
-//! `Upkeep` and `ComparesKeys` apart. For a key at a place `UniqueAt` and `GroupedAt` find, and `TakesAt` and
+//! those that insert, overwrite and remove, `Moves` those that replace, each with the types by which it plans; `Upkeep`
+//! and `ComparesKeys` stand beside them. For a key at a place `UniqueAt` and `GroupedAt` find, and `TakesAt` and
 //! `StepsInGroup` over them remove. For a key in order `OrderedAt` has the order alone, and `StepsAt` over it the
 //! calls. So a look-up needs only the method that it calls and no type of a plan, and an insert no law: the laws are
 //! `IndexLaws` and `PlanLaws`. That keeps callers cheap. The proof of a caller pays for each method, and for each type
@@ -118,13 +118,10 @@ pub trait Changes<T, S>: KeyIndex<T, S> {
     type Position: Drop;
     /// The position for an item under its index.
     type InsertPlan: Drop;
-    /// The memory that was taken for one insert or one move, beyond that of the tables.
+    /// The memory that was taken for one insert, beyond that of the tables.
     type Blocks: Drop;
 
     ghost conflicts: { Store T → T → Self.Conflict → Type 0 };
-
-    // The conflict reports the items, other than the one at the index, that this item is alike to.
-    ghost taken: { Store T → ℕ → T → Self.Conflict → Type 0 };
 
     // The conflict reports this index.
     ghost reports: { Self.Conflict → ℕ → Type 0 };
@@ -316,20 +313,30 @@ pub trait PlanLaws<T, S>: Changes<T, S> {
 }
 
 /// What a replacement of an item asks of a key index: how its index moves, the memory for that, and the move.
-pub trait Moves<T, S>: Changes<T, S> {
+pub trait Moves<T, S>: KeyIndex<T, S> {
     ghost use Rattle.std.specs.Prelude.{ℕ, Bool};
     ghost use Rattle.iddqd.specs.Store.{Store};
 
+    /// The items, other than the one that is replaced, that an item is alike to: at least one.
+    type Taken: Copy;
     /// How a live index must move if its item is replaced.
     type MovePlan: Drop;
+    /// The memory that was taken for one move, beyond that of the tables.
+    type MoveBlocks: Drop;
+
+    // It reports the items, other than the one at the index, that this item is alike to.
+    ghost taken: { Store T → ℕ → T → Self.Taken → Type 0 };
 
     ghost is_move: { S → Store T → ℕ → T → Self.MovePlan → Type 0 };
 
     // Some table has to move the index.
     ghost moves: { Self.MovePlan → Bool };
 
+    // No memory was taken.
+    ghost took_none: { Self.MoveBlocks → Type 0 };
+
     // They are enough for the planned move.
-    ghost are_enough_for: { Self → Self.MovePlan → Self.Blocks → Type 0 };
+    ghost are_enough_for: { Self → Self.MovePlan → Self.MoveBlocks → Type 0 };
 
     /// The value for no hash: no look-up computed one.
     fn no_hashes() -> Self::KnownHashes;
@@ -341,7 +348,7 @@ pub trait Moves<T, S>: Changes<T, S> {
         state: &S,
         ix: ItemIndex,
         item: &T,
-    ) -> Result<Self::MovePlan, Self::Conflict>
+    ) -> Result<Self::MovePlan, Self::Taken>
         requires live { IsLive items.now.store ix }
         requires indexed { Self.indexes self.now state.now items.now.store }
         ensures { FindsMove Self.alike Self.same_keys (Self.is_move state.now) Self.moves Self.taken items.now.store ix
@@ -353,11 +360,11 @@ pub trait Moves<T, S>: Changes<T, S> {
         items: &ItemSet<T>,
         state: &S,
         plan: &Self::MovePlan,
-    ) -> Result<Self::Blocks, AllocError>
+    ) -> Result<Self::MoveBlocks, AllocError>
         requires indexed { Self.indexes self.now state.now items.now.store }
         ensures enough { IfOk result (Self.are_enough_for self.now plan.now) }
-        ensures none { live_count items.now.store ≤ Self.capacity self.now → IfOk result Self.are_none }
-        ensures stays { Self.moves plan.now ≡ false → IfOk result Self.are_none }
+        ensures none { live_count items.now.store ≤ Self.capacity self.now → IfOk result Self.took_none }
+        ensures stays { Self.moves plan.now ≡ false → IfOk result Self.took_none }
         ensures moves { OnErr result (Self.moves plan.now ≡ true) }
         ensures may_need_memory { OnErr result (Self.may_need_memory ≡ true) }
         ensures past { OnErr result (Self.capacity self.now < live_count items.now.store) };
@@ -372,7 +379,7 @@ pub trait Moves<T, S>: Changes<T, S> {
         state: &S,
         known: Self::KnownHashes,
         plan: &Self::MovePlan,
-        blocks: Self::Blocks,
+        blocks: Self::MoveBlocks,
         ix: ItemIndex,
         item: &T,
     )

@@ -87,7 +87,7 @@ where
     A: Changes<T, S>,
     B: Changes<T, S>,
 {
-    ghost use Rattle.iddqd_map.specs.PairConflict.{ReportBoth, ReportBothOther, IsEither, IsReportedBy, first_of, second_of};
+    ghost use Rattle.iddqd_map.specs.PairConflict.{ReportBoth, IsEither, IsReportedBy, first_of, second_of};
 
     type Conflict = PairConflict<A::Conflict, B::Conflict>;
 
@@ -100,9 +100,6 @@ where
     type Blocks = (A::Blocks, B::Blocks);
 
     ghost conflicts = { λ s item at. ReportBoth A.alike B.alike A.conflicts B.conflicts s item (first_of at)
-        (second_of at) };
-
-    ghost taken = { λ s ix item at. ReportBothOther A.alike B.alike A.taken B.taken s ix item (first_of at)
         (second_of at) };
 
     ghost reports = { λ at. IsEither (IsReportedBy A.reports (first_of at)) (IsReportedBy B.reports (second_of at)) };
@@ -293,12 +290,22 @@ where
     B: Moves<T, S>,
 {
     ghost use Rattle.std.specs.Prelude.{◌||◌};
+    ghost use Rattle.iddqd_map.specs.PairConflict.{ReportBothOther, first_of, second_of};
+
+    type Taken = PairConflict<A::Taken, B::Taken>;
 
     type MovePlan = (A::MovePlan, B::MovePlan);
+
+    type MoveBlocks = (A::MoveBlocks, B::MoveBlocks);
+
+    ghost taken = { λ s ix item at. ReportBothOther A.alike B.alike A.taken B.taken s ix item (first_of at)
+        (second_of at) };
 
     ghost is_move = { λ state s ix item plan. A.is_move state s ix item plan.0 × B.is_move state s ix item plan.1 };
 
     ghost moves = { λ plan. A.moves plan.0 || B.moves plan.1 };
+
+    ghost took_none = { λ blocks. A.took_none blocks.0 × B.took_none blocks.1 };
 
     ghost are_enough_for = { λ x plan blocks. A.are_enough_for x.first plan.0 blocks.0
         × B.are_enough_for x.second plan.1 blocks.1 };
@@ -313,7 +320,7 @@ where
         state: &S,
         ix: ItemIndex,
         item: &T,
-    ) -> Result<(A::MovePlan, B::MovePlan), PairConflict<A::Conflict, B::Conflict>> {
+    ) -> Result<(A::MovePlan, B::MovePlan), PairConflict<A::Taken, B::Taken>> {
         let first = self.first.plan_move(items, state, ix, item);
         let second = self.second.plan_move(items, state, ix, item);
         match first {
@@ -330,7 +337,7 @@ where
         items: &ItemSet<T>,
         state: &S,
         plan: &(A::MovePlan, B::MovePlan),
-    ) -> Result<(A::Blocks, B::Blocks), AllocError> {
+    ) -> Result<(A::MoveBlocks, B::MoveBlocks), AllocError> {
         let first = self.first.blocks_for(items, state, &plan.0)?;
         let second = self.second.blocks_for(items, state, &plan.1)?;
         Ok((first, second))
@@ -342,7 +349,7 @@ where
         state: &S,
         known: PairHashes<A::KnownHashes, B::KnownHashes>,
         plan: &(A::MovePlan, B::MovePlan),
-        blocks: (A::Blocks, B::Blocks),
+        blocks: (A::MoveBlocks, B::MoveBlocks),
         ix: ItemIndex,
         item: &T,
     ) {

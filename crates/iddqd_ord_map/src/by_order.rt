@@ -131,7 +131,7 @@ impl<T, S, E> Changes<T, S> for ByOrderOf<E>
 where
     E: OrdKey<T>,
 {
-    ghost use Rattle.std.specs.Prelude.{◌≢◌, Some, Ok};
+    ghost use Rattle.std.specs.Prelude.{Some, Ok};
     ghost use Rattle.std.specs.Ordering.{eq_by_cmp};
     ghost use Rattle.iddqd_map.specs.Map.{shares};
     ghost use Rattle.iddqd_ord_map.specs.OrderedSteps.{HasBlocksAt, HasBlocksAnywhere};
@@ -148,8 +148,6 @@ where
     type Blocks = Blocks;
 
     ghost conflicts = { λ s item at. AnswersScan s (shares E.key_of (eq_by_cmp E.cmp) item) (Some at) };
-
-    ghost taken = { λ s ix item at. (at ≢ ix) × AnswersScan s (shares E.key_of (eq_by_cmp E.cmp) item) (Some at) };
 
     ghost reports = { λ at ix. ix ≡ at };
 
@@ -265,15 +263,25 @@ impl<T, S, E> Moves<T, S> for ByOrderOf<E>
 where
     E: OrdKey<T>,
 {
-    ghost use Rattle.std.specs.Prelude.{Ok};
+    ghost use Rattle.std.specs.Prelude.{◌≢◌, Some, Ok};
+    ghost use Rattle.std.specs.Ordering.{eq_by_cmp};
+    ghost use Rattle.iddqd_map.specs.Map.{shares};
     ghost use Rattle.iddqd_ord_map.specs.OrderedSteps.{HasBlocksFor, moves};
     ghost use Rattle.iddqd_ord_map.specs.OrderedIndexing.{PlansOrConflicts};
 
+    type Taken = ItemIndex;
+
     type MovePlan = Move;
+
+    type MoveBlocks = Blocks;
+
+    ghost taken = { λ s ix item at. (at ≢ ix) × AnswersScan s (shares E.key_of (eq_by_cmp E.cmp) item) (Some at) };
 
     ghost is_move = { λ state s ix item plan. PlansOrConflicts E.key_of E.cmp s ix item (Ok plan) };
 
     ghost moves = { moves };
+
+    ghost took_none = { λ blocks. blocks ≡ 0 };
 
     ghost are_enough_for = { λ x plan blocks. HasBlocksFor x.table blocks plan };
 

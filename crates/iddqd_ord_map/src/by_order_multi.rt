@@ -136,8 +136,6 @@ where
 
     ghost conflicts = { λ s item at. ⊥ };
 
-    ghost taken = { λ s ix item at. ⊥ };
-
     ghost reports = { λ at ix. ⊥ };
 
     ghost are_hashes = { λ state item hashes. Unit {0} };
@@ -248,11 +246,19 @@ where
     ghost use Rattle.iddqd_ord_map.specs.OrderedSteps.{HasBlocksFor, moves};
     ghost use Rattle.iddqd_ord_map.specs.ByOrderMulti.{IsMoveFor};
 
+    type Taken = NoConflict;
+
     type MovePlan = Move;
+
+    type MoveBlocks = Blocks;
+
+    ghost taken = { λ s ix item at. ⊥ };
 
     ghost is_move = { λ state s ix item plan. IsMoveFor E.key_of E.cmp s ix item plan };
 
     ghost moves = { moves };
+
+    ghost took_none = { λ blocks. blocks ≡ 0 };
 
     ghost are_enough_for = { λ x plan blocks. HasBlocksFor x.table blocks plan };
 

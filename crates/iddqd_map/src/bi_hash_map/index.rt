@@ -100,7 +100,7 @@ where
     ghost use Rattle.iddqd_by_hash.specs.Hashed.{hashing_of};
     ghost use Rattle.iddqd_map.specs.KeyLaws.{IsOfTwo};
     ghost use Rattle.iddqd_map.specs.Map.{shares};
-    ghost use Rattle.iddqd_map.specs.TwoKeys.{AreReported, AreTaken};
+    ghost use Rattle.iddqd_map.specs.TwoKeys.{AreReported};
 
     type Conflict = BiClash;
 
@@ -113,8 +113,6 @@ where
     type Blocks = ();
 
     ghost conflicts = { AreReported (shares A.key_of A.eq) (shares B.key_of B.eq) };
-
-    ghost taken = { AreTaken (shares A.key_of A.eq) (shares B.key_of B.eq) };
 
     ghost reports = { λ at. IsOfTwo at.key1 at.key2 };
 
@@ -262,8 +260,16 @@ where
     ghost use Rattle.iddqd_by_hash.specs.Hashed.{hashing_of};
     ghost use Rattle.iddqd_map.specs.Indexing.{Plans};
     ghost use Rattle.iddqd_map.specs.Hashed.{moves};
+    ghost use Rattle.iddqd_map.specs.Map.{shares};
+    ghost use Rattle.iddqd_map.specs.TwoKeys.{AreTaken};
+
+    type Taken = BiClash;
 
     type MovePlan = (Move, Move);
+
+    type MoveBlocks = ();
+
+    ghost taken = { AreTaken (shares A.key_of A.eq) (shares B.key_of B.eq) };
 
     ghost is_move = { λ state s ix item plan.
         Plans A.key_of (hashing_of A.eq A.hash_input S.BuildHasher S.Hasher.Hasher state) s ix item plan.0
@@ -271,6 +277,8 @@ where
         plan.1 };
 
     ghost moves = { λ plan. moves plan.0 || moves plan.1 };
+
+    ghost took_none = { λ blocks. Unit {0} };
 
     ghost are_enough_for = { λ x plan blocks. Unit {0} };
 

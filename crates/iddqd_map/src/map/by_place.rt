@@ -67,11 +67,7 @@ impl<T, X: KeyIndex<T, S>, S> Map<T, X, S> {
     /// Replaces the item that has the key, and returns it. Otherwise it behaves as `replace_at`.
     ///
     /// By hash, what the look-up computed isn't computed again.
-    pub fn replace_by<P, Q>(
-        &mut self,
-        query: Q,
-        item: T,
-    ) -> Result<T, ReplaceRefusal<T, X::Conflict>>
+    pub fn replace_by<P, Q>(&mut self, query: Q, item: T) -> Result<T, ReplaceRefusal<T, X::Taken>>
     where
         X: UniqueAt<P, Q, T, S> + Moves<T, S>,
         ensures replaces { Replaces X.alike X.same_keys X.may_need_memory X.taken self.old
@@ -98,7 +94,7 @@ impl<T, X: KeyIndex<T, S>, S> Map<T, X, S> {
         &mut self,
         query: Q,
         f: F,
-    ) -> Result<Option<T>, ReplaceRefusal<T, X::Conflict>>
+    ) -> Result<Option<T>, ReplaceRefusal<T, X::Taken>>
     where
         X: UniqueAt<P, Q, T, S> + Moves<T, S>,
         requires { MayChange F.FnOnce f self.old.store (X.stands_for query) }

@@ -23,7 +23,7 @@ pub(super) fn change_found<T, X: Moves<T, S>, S, F: FnOnce(&T) -> T>(
     known: X::KnownHashes,
     found: Option<ItemIndex>,
     f: F,
-) -> Result<Option<T>, ReplaceRefusal<T, X::Conflict>>
+) -> Result<Option<T>, ReplaceRefusal<T, X::Taken>>
     requires callable { IfSome found (λ ix. (item : Bor T) → get items.old.store ix ≡ Some item.now → F.pre f item) }
     requires live { IfSome found (IsLive items.old.store) }
     requires map { IsIndexed (X.indexes indexes.old) state.now items.old.store }

@@ -64,7 +64,7 @@ impl<T, X: KeyIndex<T, S>, S> Map<T, X, S> {
     ///
     /// The new item may have other keys. It gets the same index. If other items have a key of it, it comes back, and
     /// nothing changes. It touches no table whose key stays, and takes no memory if all keys go by their hashes.
-    pub fn replace1<Q>(&mut self, query: Q, item: T) -> Result<T, ReplaceRefusal<T, X::Conflict>>
+    pub fn replace1<Q>(&mut self, query: Q, item: T) -> Result<T, ReplaceRefusal<T, X::Taken>>
     where
         X: UniqueAt<First, Q, T, S> + Moves<T, S>,
         ensures replaces { Replaces X.alike X.same_keys X.may_need_memory X.taken self.old
@@ -83,7 +83,7 @@ impl<T, X: KeyIndex<T, S>, S> Map<T, X, S> {
         &mut self,
         query: Q,
         f: F,
-    ) -> Result<Option<T>, ReplaceRefusal<T, X::Conflict>>
+    ) -> Result<Option<T>, ReplaceRefusal<T, X::Taken>>
     where
         X: UniqueAt<First, Q, T, S> + Moves<T, S>,
         requires { MayChange F.FnOnce f self.old.store (X.stands_for query) }
@@ -150,7 +150,7 @@ impl<T, X: KeyIndex<T, S>, S> Map<T, X, S> {
     }
 
     /// Replaces the item that has the second key, as `replace1` does.
-    pub fn replace2<Q>(&mut self, query: Q, item: T) -> Result<T, ReplaceRefusal<T, X::Conflict>>
+    pub fn replace2<Q>(&mut self, query: Q, item: T) -> Result<T, ReplaceRefusal<T, X::Taken>>
     where
         X: UniqueAt<Second, Q, T, S> + Moves<T, S>,
         ensures replaces { Replaces X.alike X.same_keys X.may_need_memory X.taken self.old
@@ -166,7 +166,7 @@ impl<T, X: KeyIndex<T, S>, S> Map<T, X, S> {
         &mut self,
         query: Q,
         f: F,
-    ) -> Result<Option<T>, ReplaceRefusal<T, X::Conflict>>
+    ) -> Result<Option<T>, ReplaceRefusal<T, X::Taken>>
     where
         X: UniqueAt<Second, Q, T, S> + Moves<T, S>,
         requires { MayChange F.FnOnce f self.old.store (X.stands_for query) }
@@ -232,7 +232,7 @@ impl<T, X: KeyIndex<T, S>, S> Map<T, X, S> {
     }
 
     /// Replaces the item that has the third key, as `replace1` does.
-    pub fn replace3<Q>(&mut self, query: Q, item: T) -> Result<T, ReplaceRefusal<T, X::Conflict>>
+    pub fn replace3<Q>(&mut self, query: Q, item: T) -> Result<T, ReplaceRefusal<T, X::Taken>>
     where
         X: UniqueAt<Third, Q, T, S> + Moves<T, S>,
         ensures replaces { Replaces X.alike X.same_keys X.may_need_memory X.taken self.old
@@ -248,7 +248,7 @@ impl<T, X: KeyIndex<T, S>, S> Map<T, X, S> {
         &mut self,
         query: Q,
         f: F,
-    ) -> Result<Option<T>, ReplaceRefusal<T, X::Conflict>>
+    ) -> Result<Option<T>, ReplaceRefusal<T, X::Taken>>
     where
         X: UniqueAt<Third, Q, T, S> + Moves<T, S>,
         requires { MayChange F.FnOnce f self.old.store (X.stands_for query) }

@@ -18,11 +18,7 @@ impl<T, X: Moves<T, S>, S> Map<T, X, S> {
     ///
     /// The new item may have other keys. It gets the same index. If other items have a key of it, or memory runs out,
     /// it comes back, and nothing changes. A table whose key stays isn't touched. A hashed key needs no memory.
-    pub fn replace_at(
-        &mut self,
-        ix: ItemIndex,
-        item: T,
-    ) -> Result<T, ReplaceRefusal<T, X::Conflict>>
+    pub fn replace_at(&mut self, ix: ItemIndex, item: T) -> Result<T, ReplaceRefusal<T, X::Taken>>
         ensures replaces { ReplacesIfLive X.alike X.same_keys X.may_need_memory X.taken self.old ix item result
             self.new }
         ensures room { room self.new ≡ room self.old }
@@ -50,7 +46,7 @@ pub(super) fn replace<T, X: Moves<T, S>, S>(
     known: X::KnownHashes,
     ix: ItemIndex,
     item: T,
-) -> Result<T, ReplaceRefusal<T, X::Conflict>>
+) -> Result<T, ReplaceRefusal<T, X::Taken>>
     requires live { IsLive items.old.store ix }
     requires map { IsIndexed (X.indexes indexes.old) state.now items.old.store }
     ensures map { IsIndexed (X.indexes indexes.new) state.now items.new.store }
@@ -81,7 +77,7 @@ pub(super) fn replace_found<T, X: Moves<T, S>, S>(
     known: X::KnownHashes,
     found: Option<ItemIndex>,
     item: T,
-) -> Result<T, ReplaceRefusal<T, X::Conflict>>
+) -> Result<T, ReplaceRefusal<T, X::Taken>>
     requires live { IfSome found (IsLive items.old.store) }
     requires map { IsIndexed (X.indexes indexes.old) state.now items.old.store }
     ensures map { IsIndexed (X.indexes indexes.new) state.now items.new.store }

@@ -114,7 +114,7 @@ where
     ghost use Rattle.iddqd_by_hash.specs.Hashed.{hashing_of};
     ghost use Rattle.iddqd_map.specs.KeyLaws.{IsOfThree};
     ghost use Rattle.iddqd_map.specs.Map.{shares};
-    ghost use Rattle.iddqd_map.specs.ThreeKeys.{AreReported, AreTaken};
+    ghost use Rattle.iddqd_map.specs.ThreeKeys.{AreReported};
 
     type Conflict = TriClash;
 
@@ -127,9 +127,6 @@ where
     type Blocks = ();
 
     ghost conflicts = { AreReported (shares A.key_of A.eq) (shares B.key_of B.eq)
-        (shares C.key_of C.eq) };
-
-    ghost taken = { AreTaken (shares A.key_of A.eq) (shares B.key_of B.eq)
         (shares C.key_of C.eq) };
 
     ghost reports = { λ at. IsOfThree at.key1 at.key2 at.key3 };
@@ -323,8 +320,17 @@ where
     ghost use Rattle.iddqd_by_hash.specs.Hashed.{hashing_of};
     ghost use Rattle.iddqd_map.specs.Indexing.{Plans};
     ghost use Rattle.iddqd_map.specs.Hashed.{moves};
+    ghost use Rattle.iddqd_map.specs.Map.{shares};
+    ghost use Rattle.iddqd_map.specs.ThreeKeys.{AreTaken};
+
+    type Taken = TriClash;
 
     type MovePlan = (Move, (Move, Move));
+
+    type MoveBlocks = ();
+
+    ghost taken = { AreTaken (shares A.key_of A.eq) (shares B.key_of B.eq)
+        (shares C.key_of C.eq) };
 
     ghost is_move = { λ state s ix item plan.
         Plans A.key_of (hashing_of A.eq A.hash_input S.BuildHasher S.Hasher.Hasher state) s ix item plan.0
@@ -334,6 +340,8 @@ where
         plan.1.1) };
 
     ghost moves = { λ plan. moves plan.0 || (moves plan.1.0 || moves plan.1.1) };
+
+    ghost took_none = { λ blocks. Unit {0} };
 
     ghost are_enough_for = { λ x plan blocks. Unit {0} };
 
