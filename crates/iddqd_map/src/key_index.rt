@@ -317,7 +317,7 @@ pub trait Moves<T, S>: KeyIndex<T, S> {
     ghost use Rattle.std.specs.Prelude.{ℕ, Bool};
     ghost use Rattle.iddqd.specs.Store.{Store};
 
-    /// The items, other than the one that is replaced, that an item is alike to: at least one.
+    /// The items, other than the one that is replaced, that an item is alike to.
     type Taken: Copy;
     /// How a live index must move if its item is replaced.
     type MovePlan: Drop;
