@@ -273,7 +273,7 @@ where
 
     ghost moves = { moves };
 
-    ghost took_none = { λ blocks. Unit {0} };
+    ghost are_none = { λ blocks. Unit {0} };
 
     ghost are_enough_for = { λ x plan blocks. Unit {0} };
 

@@ -333,7 +333,7 @@ pub trait Moves<T, S>: KeyIndex<T, S> {
     ghost moves: { Self.MovePlan → Bool };
 
     // No memory was taken.
-    ghost took_none: { Self.MoveBlocks → Type 0 };
+    ghost are_none: { Self.MoveBlocks → Type 0 };
 
     // They are enough for the planned move.
     ghost are_enough_for: { Self → Self.MovePlan → Self.MoveBlocks → Type 0 };
@@ -363,8 +363,8 @@ pub trait Moves<T, S>: KeyIndex<T, S> {
     ) -> Result<Self::MoveBlocks, AllocError>
         requires indexed { Self.indexes self.now state.now items.now.store }
         ensures enough { IfOk result (Self.are_enough_for self.now plan.now) }
-        ensures none { live_count items.now.store ≤ Self.capacity self.now → IfOk result Self.took_none }
-        ensures stays { Self.moves plan.now ≡ false → IfOk result Self.took_none }
+        ensures none { live_count items.now.store ≤ Self.capacity self.now → IfOk result Self.are_none }
+        ensures stays { Self.moves plan.now ≡ false → IfOk result Self.are_none }
         ensures moves { OnErr result (Self.moves plan.now ≡ true) }
         ensures may_need_memory { OnErr result (Self.may_need_memory ≡ true) }
         ensures past { OnErr result (Self.capacity self.now < live_count items.now.store) };

@@ -305,7 +305,7 @@ where
 
     ghost moves = { λ plan. A.moves plan.0 || B.moves plan.1 };
 
-    ghost took_none = { λ blocks. A.took_none blocks.0 × B.took_none blocks.1 };
+    ghost are_none = { λ blocks. A.are_none blocks.0 × B.are_none blocks.1 };
 
     ghost are_enough_for = { λ x plan blocks. A.are_enough_for x.first plan.0 blocks.0
         × B.are_enough_for x.second plan.1 blocks.1 };

@@ -131,7 +131,7 @@ impl<T, S, E> Changes<T, S> for ByOrderOf<E>
 where
     E: OrdKey<T>,
 {
-    ghost use Rattle.std.specs.Prelude.{Some, Ok};
+    ghost use Rattle.std.specs.Prelude.{Some};
     ghost use Rattle.std.specs.Ordering.{eq_by_cmp};
     ghost use Rattle.iddqd_map.specs.Map.{shares};
     ghost use Rattle.iddqd_ord_map.specs.OrderedSteps.{HasBlocksAt, HasBlocksAnywhere};
@@ -281,7 +281,7 @@ where
 
     ghost moves = { moves };
 
-    ghost took_none = { λ blocks. blocks ≡ 0 };
+    ghost are_none = { λ blocks. blocks ≡ 0 };
 
     ghost are_enough_for = { λ x plan blocks. HasBlocksFor x.table blocks plan };
 

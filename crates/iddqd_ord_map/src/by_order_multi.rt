@@ -258,7 +258,7 @@ where
 
     ghost moves = { moves };
 
-    ghost took_none = { λ blocks. blocks ≡ 0 };
+    ghost are_none = { λ blocks. blocks ≡ 0 };
 
     ghost are_enough_for = { λ x plan blocks. HasBlocksFor x.table blocks plan };
 

@@ -278,7 +278,7 @@ where
 
     ghost moves = { λ plan. moves plan.0 || moves plan.1 };
 
-    ghost took_none = { λ blocks. Unit {0} };
+    ghost are_none = { λ blocks. Unit {0} };
 
     ghost are_enough_for = { λ x plan blocks. Unit {0} };
 
