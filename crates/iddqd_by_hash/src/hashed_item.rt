@@ -59,6 +59,19 @@ pub fn hash_of<T, E: HashKey<T>, S: BuildHasher>(state: &S, item: &T) -> MapHash
     MapHash::new(hasher.finish())
 }
 
+/// The hash of a query, which is that of each key for which it stands.
+pub fn query_hash<T, E, S, Q>(state: &S, query: Q) -> MapHash
+where
+    E: HashKey<T>,
+    S: BuildHasher,
+    Q: ItemHashQuery<T, E>,
+    ensures { result ≡ hash_one S.BuildHasher S.Hasher.Hasher state.now (Q.key_hash_input query) }
+{
+    let mut hasher = state.build_hasher();
+    query.hash_as_key(&mut hasher);
+    MapHash::new(hasher.finish())
+}
+
 /// An index that is filed under `hash` and whose item's key the query stands for, or `None` if there is none.
 ///
 /// It reads only items of indexes under that hash, each at most once.

@@ -20,7 +20,7 @@ ghost use Rattle.iddqd_map.specs.RangeRetain.{KeepsMisses};
 use crate::linked_table::{LinkedIndexes, LinkedTable};
 use iddqd::item_index::ItemIndex;
 use iddqd::item_set::ItemSet;
-use iddqd_by_hash::hashed::query_hash;
+use iddqd_by_hash::hashed_item::query_hash;
 use iddqd_keys::hash_key::HashKey;
 use iddqd_keys::item_hash_query::ItemHashQuery;
 use std::hash::BuildHasher;
@@ -50,7 +50,7 @@ where
     ensures limit { items.new.store.limit ≡ items.old.store.limit }
     ensures slots { items.new.capacity ≡ items.old.capacity }
 {
-    let hash = query_hash(state, query);
+    let hash = query_hash::<T, E, S, Q>(state, query);
     let indexes = table.indexes_under(hash);
     // The bound has 64 bits, so the count fits.
     match indexes.size_hint().1 {

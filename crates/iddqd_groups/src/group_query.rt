@@ -8,7 +8,7 @@ ghost use Rattle.iddqd_map.specs.Groups.{AreHits};
 use crate::hashed_group::{Group, group_of};
 use crate::linked_table::LinkedTable;
 use iddqd::item_set::ItemSet;
-use iddqd_by_hash::hashed::query_hash;
+use iddqd_by_hash::hashed_item::query_hash;
 use iddqd_keys::hash_key::HashKey;
 use iddqd_keys::item_hash_query::ItemHashQuery;
 use std::hash::BuildHasher;
@@ -31,7 +31,7 @@ where
     ensures hits { AreHits items.now.store (Q.stands_for_item query) result.rest }
     ensures bound { result.bound ≡ live_count items.now.store }
 {
-    let hash = query_hash(state, query);
+    let hash = query_hash::<T, E, S, Q>(state, query);
     group_of::<T, E, Q>(table, items, hash, query)
 }
 

@@ -13,7 +13,7 @@ ghost use Rattle.iddqd_map.specs.Groups.{AreHits, FindsSome, listed_from};
 use crate::linked_table::LinkedTable;
 use iddqd::item_index::ItemIndex;
 use iddqd::item_set::ItemSet;
-use iddqd_by_hash::hashed::query_hash;
+use iddqd_by_hash::hashed_item::query_hash;
 use iddqd_keys::hash_key::HashKey;
 use iddqd_keys::item_hash_query::ItemHashQuery;
 use std::hash::BuildHasher;
@@ -35,7 +35,7 @@ where
     ensures group { AreHits items.now.store (Q.stands_for_item query)
         (listed_from (hits_behind table.now items.now.store (Q.stands_for_item query)) result) }
 {
-    let hash = query_hash(state, query);
+    let hash = query_hash::<T, E, S, Q>(state, query);
     first_from::<T, E, Q>(table, items, &query, table.first_under(hash))
 }
 

@@ -11,8 +11,9 @@ use std::hash::{Hash, Hasher};
 
 /// A key of items `T` that goes by its hash.
 ///
-/// It is a [`Field`], a [`Computed`] value, or a tuple of two or three keys. Implement it for an enum without variants
-/// if none of these has the equality that you want, as that of texts without regard to case.
+/// It is a [`Field`], a [`Computed`] value, the one key of an item ([`crate::key_kinds::ItsKey`]), or a tuple of two or
+/// three keys. Implement it for an enum without variants if none of these has the equality that you want, as that of
+/// texts without regard to case.
 pub trait HashKey<T> {
     ghost use Rattle.std.specs.Prelude.{ℕ, Bool, List};
     ghost use Rattle.std.specs.Cmp.{IsEquivalence};
@@ -41,7 +42,7 @@ pub trait HashKey<T> {
     ghost respects_eq: { (x y : Self.Key) → IsTrue (eq x y) → hash_input x ≡ hash_input y };
 }
 
-impl<T, E: KeyOf<T, Key = K>, K: Eq + Hash + Drop> HashKey<T> for Field<E, K> {
+impl<T, E: KeyOf<T, Key = K>, K: Eq + Hash> HashKey<T> for Field<E, K> {
     ghost Key = { K };
 
     ghost key_of = { E.key_of };

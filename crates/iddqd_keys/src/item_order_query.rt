@@ -15,8 +15,8 @@ use std::cmp::Ordering;
 
 /// What has a place in the order of the key `E`.
 ///
-/// For a field or a computed value it is each [`OrdQuery`] for the key's type, as a `&K`, or a `&str` for a `String`.
-/// For a tuple of keys it is the tuple of their queries, a [`Prefix`], or a [`Part`].
+/// For a field, a computed value or an item's one key it is each [`OrdQuery`] for the key's type, as a `&K`, or a
+/// `&str` for a `String`. For a tuple of keys it is the tuple of their queries, a [`Prefix`], or a [`Part`].
 pub trait ItemRangeQuery<T, E: OrdKey<T>>: Copy {
     ghost use Rattle.std.specs.declared.cmp.Ordering.{Ordering};
 
@@ -36,7 +36,7 @@ pub trait ItemOrdQuery<T, E: OrdKey<T>>: ItemRangeQuery<T, E> {
     ghost one_key: { (q : Self) → IsOneKey (on E.key_of E.cmp) (Self.compare_item q) };
 }
 
-impl<T, E: KeyOf<T, Key = K>, K: Ord + Drop, Q: OrdQuery<K>> ItemRangeQuery<T, Field<E, K>> for Q {
+impl<T, E: KeyOf<T, Key = K>, K: Ord, Q: OrdQuery<K>> ItemRangeQuery<T, Field<E, K>> for Q {
     ghost compare_item = { λ q x. Q.OrdQuery.compare q (E.key_of x) };
 
     ghost fits = { λ q. FitsOrder-query E.key_of K.cmp (Q.OrdQuery.compare q) (Q.lawful q) };
@@ -46,7 +46,7 @@ impl<T, E: KeyOf<T, Key = K>, K: Ord + Drop, Q: OrdQuery<K>> ItemRangeQuery<T, F
     }
 }
 
-impl<T, E: KeyOf<T, Key = K>, K: Ord + Drop, Q: OrdQuery<K>> ItemOrdQuery<T, Field<E, K>> for Q {
+impl<T, E: KeyOf<T, Key = K>, K: Ord, Q: OrdQuery<K>> ItemOrdQuery<T, Field<E, K>> for Q {
     ghost one_key = { λ q. IsOneKey-query E.key_of K.cmp (Q.OrdQuery.compare q) (Q.lawful q) };
 }
 

@@ -1,5 +1,5 @@
-//! Types without values that name a key of an item: a field, a value that is computed from it, or another key in the
-//! reversed order.
+//! Types without values that name a key of an item: a field, the one key that the item's trait names, a value that is
+//! computed from the item, or another key in the reversed order.
 //!
 //! A key of several fields is named by a tuple of such types, as `(Field<Name, String>, Field<Version, String>)`.
 ghost use Rattle.std.specs.Prelude.{◌≡◌};
@@ -9,6 +9,12 @@ use std::marker::PhantomData;
 /// The field, a `K`, that `E`, a [`crate::key_of::KeyOf`], borrows from the item.
 pub struct Field<E, K> {
     of: PhantomData<E>,
+    by: PhantomData<K>,
+}
+
+/// The one key, a `K`, that an item's trait names: where it goes by its hash that of an
+/// [`crate::id_hash_item::IdHashItem`], in order that of an [`crate::id_ord_item::IdOrdItem`].
+pub struct ItsKey<K> {
     by: PhantomData<K>,
 }
 

@@ -8,6 +8,8 @@
 
 pub mod hash_key;
 pub mod hash_query;
+pub mod id_hash_item;
+pub mod id_ord_item;
 pub mod item_hash_query;
 pub mod item_order_query;
 pub mod key_kinds;

@@ -9,8 +9,9 @@ use std::cmp::Ordering;
 
 /// A key of items `T` that goes by its order.
 ///
-/// It is a [`Field`], a [`Computed`] value, a [`Reversed`] key, or a tuple of two or three keys, of which the first
-/// counts most. Implement it for an enum without variants if none of these has the order that you want.
+/// It is a [`Field`], a [`Computed`] value, the one key of an item ([`crate::key_kinds::ItsKey`]), a [`Reversed`] key,
+/// or a tuple of two or three keys, of which the first counts most. Implement it for an enum without variants if none
+/// of these has the order that you want.
 pub trait OrdKey<T> {
     ghost use Rattle.std.specs.Cmp.{IsTotalOrder};
     ghost use Rattle.std.specs.declared.cmp.Ordering.{Ordering};
@@ -29,7 +30,7 @@ pub trait OrdKey<T> {
     ghost total: { IsTotalOrder cmp };
 }
 
-impl<T, E: KeyOf<T, Key = K>, K: Ord + Drop> OrdKey<T> for Field<E, K> {
+impl<T, E: KeyOf<T, Key = K>, K: Ord> OrdKey<T> for Field<E, K> {
     ghost Key = { K };
 
     ghost key_of = { E.key_of };

@@ -3,8 +3,9 @@ ghost use Rattle.std.specs.Prelude.{◌≡◌};
 ghost use Rattle.std.specs.String.{string_bytes};
 ghost use Rattle.iddqd_keys.specs.Beginnings.{begin_cmp, FitsOrder-begin};
 
+use crate::id_ord_item::IdOrdItem;
 use crate::item_order_query::ItemRangeQuery;
-use crate::key_kinds::Field;
+use crate::key_kinds::{Field, ItsKey};
 use crate::key_of::KeyOf;
 use std::alloc::Allocator;
 use std::cmp::Ordering;
@@ -34,5 +35,16 @@ impl<'a, T, E: KeyOf<T, Key = String<A>>, A: Allocator> ItemRangeQuery<T, Field<
 
     fn compare_item(&self, item: &T) -> Ordering {
         compare_beginning(self.0, E::key(item).as_str())
+    }
+}
+
+impl<'a, T: IdOrdItem<Key = String<A>>, A: Allocator> ItemRangeQuery<T, ItsKey<String<A>>>
+    for StartsWith<'a> {
+    ghost compare_item = { λ q item. begin_cmp q.0.now (string_bytes (T.IdOrdItem.key_of item)) };
+
+    ghost fits = { λ q. FitsOrder-begin (λ item. string_bytes (T.IdOrdItem.key_of item)) q.0.now };
+
+    fn compare_item(&self, item: &T) -> Ordering {
+        compare_beginning(self.0, item.key().as_str())
     }
 }

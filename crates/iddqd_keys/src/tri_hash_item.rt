@@ -10,11 +10,11 @@ use std::hash::Hash;
 /// An item with three keys, each a function of the item's value.
 pub trait TriHashItem: Drop {
     /// The first key.
-    type Key1: Eq + Hash + Drop;
+    type Key1: Eq + Hash;
     /// The second key.
-    type Key2: Eq + Hash + Drop;
+    type Key2: Eq + Hash;
     /// The third key.
-    type Key3: Eq + Hash + Drop;
+    type Key3: Eq + Hash;
 
     ghost first_key: { Self → Self.Key1 };
 

@@ -27,8 +27,7 @@ use iddqd::internal::{ValidateCompact, ValidateRefusal, ValidationError};
 use iddqd::item_index::ItemIndex;
 use iddqd::item_set::ItemSet;
 use iddqd::map_hash::MapHash;
-use iddqd_by_hash::hashed::query_hash;
-use iddqd_by_hash::hashed_item::hash_of;
+use iddqd_by_hash::hashed_item::{hash_of, query_hash};
 use iddqd_by_hash::hashed_move::Move;
 use iddqd_hash::hash_table::MapHashTable;
 use iddqd_keys::hash_key::HashKey;
@@ -401,7 +400,7 @@ where
         state: &S,
         query: Q,
     ) -> (Option<ItemIndex>, Option<MapHash>) {
-        let hash = query_hash(state, query);
+        let hash = query_hash::<T, E, S, Q>(state, query);
         let found = find_under::<T, E, S, Q>(&self.table, items, state, hash, query);
         (found, Some(hash))
     }

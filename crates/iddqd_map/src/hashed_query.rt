@@ -14,7 +14,6 @@ ghost use Rattle.iddqd_map.specs.Map.{shares};
 use iddqd::item_index::ItemIndex;
 use iddqd::item_set::ItemSet;
 use iddqd::map_hash::MapHash;
-use iddqd_by_hash::hashed::query_hash;
 use iddqd_by_hash::hashed_item;
 use iddqd_hash::hash_table::MapHashTable;
 use iddqd_keys::hash_key::HashKey;
@@ -36,7 +35,7 @@ where
     E: HashKey<T>,
     S: BuildHasher,
     Q: ItemHashQuery<T, E>,
-    requires hash { hash ≡ hash_one S.BuildHasher S.Hasher.Hasher state.now (Q.hash_input query) }
+    requires hash { hash ≡ hash_one S.BuildHasher S.Hasher.Hasher state.now (Q.key_hash_input query) }
     requires indexed { Indexes E.key_of (hashing_of E.eq E.hash_input S.BuildHasher S.Hasher.Hasher state.now)
         items.now.store (filed table.now) }
     ensures { AnswersScan items.now.store (Q.stands_for_item query) result }
@@ -61,7 +60,7 @@ where
     ensures taken { Takes (filed table.old) result (filed table.new) }
     ensures memory { KeepsMemory table.old table.new }
 {
-    let hash = query_hash(state, query);
+    let hash = hashed_item::query_hash::<T, E, S, Q>(state, query);
     hashed_item::take::<T, E, Q>(table, items, hash, query)
 }
 

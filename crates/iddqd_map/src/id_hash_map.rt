@@ -2,7 +2,7 @@
 //!
 //! All calls that name no key are `Map`'s, but for `insert_overwrite`. It is here, beside the calls that name the key;
 //! each of these is the call of `Map` at the place `Here`. They are those of a `HashMapBy`, which takes any key that is
-//! read in place; an `IdHashMap` is one by the field that its items name.
+//! read in place; an `IdHashMap` is one by the key that its items name.
 ghost use Rattle.std.specs.Prelude.{◌≡◌, ◌≤◌, ◌↔◌, ◌+◌, false, Some, Ok, option_copied, IsOk, IfOk, OnErr, OnSome, IfNone};
 ghost use Rattle.iddqd.specs.{live_count};
 ghost use Rattle.iddqd_hash.specs.Sizes.{most_cells};
@@ -14,10 +14,9 @@ ghost use Rattle.iddqd_map.specs.Modify.{Modifies};
 ghost use Rattle.iddqd_map.specs.OneKey.{ChangesOne, OverwritesOne, ReplacesOne};
 
 mod clones;
-mod item;
 mod prints;
 
-use crate::by_hash::{ByHash, ByHashOf};
+use crate::by_hash::ByHashOf;
 use crate::key_index::Here;
 use crate::map::Map;
 use crate::refusal::{InsertRefusal, OverwriteRefusal, ReplaceRefusal};
@@ -25,12 +24,13 @@ pub use clones::IdHashClone;
 use iddqd::hash_builder::DefaultHashBuilder;
 use iddqd::item_index::ItemIndex;
 use iddqd_keys::hash_key::HashKey;
+pub use iddqd_keys::id_hash_item::IdHashItem;
 use iddqd_keys::item_hash_query::ItemHashQuery;
-pub use item::{IdHashItem, ItsKey};
+use iddqd_keys::key_kinds::ItsKey;
 use std::hash::BuildHasher;
 
 /// A table by the key.
-pub type IdIndex<T> = ByHash<ItsKey, <T as IdHashItem>::Key>;
+pub type IdIndex<T> = ByHashOf<ItsKey<<T as IdHashItem>::Key>>;
 
 /// Items under stable indexes, which all have different keys `E`.
 ///

@@ -48,6 +48,7 @@ pub use iddqd_keys::key_kinds as key_kinds;
 pub use iddqd_keys::key_kinds::Computed;
 pub use iddqd_keys::key_kinds::ComputedKey;
 pub use iddqd_keys::key_kinds::Field;
+pub use iddqd_keys::key_kinds::ItsKey;
 pub use iddqd_keys::key_kinds::Reversed;
 pub use iddqd_keys::key_of as key_of;
 pub use iddqd_keys::key_of::KeyOf;

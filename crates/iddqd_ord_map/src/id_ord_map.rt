@@ -42,9 +42,9 @@ pub use clones::IdOrdClone;
 use iddqd::index_remap::IndexRemap;
 use iddqd::item_index::ItemIndex;
 use iddqd::item_set::ItemSet;
+pub use iddqd_keys::id_ord_item::IdOrdItem;
 use iddqd_keys::item_order_query::ItemOrdQuery;
-use iddqd_keys::key_kinds::Field;
-use iddqd_keys::key_of::KeyOf;
+use iddqd_keys::key_kinds::ItsKey;
 use iddqd_keys::order_key::OrdKey;
 use iddqd_map::key_index::Here;
 use iddqd_map::map::Map;
@@ -57,33 +57,8 @@ use std::alloc::{AllocError, Global};
 use std::marker::Model;
 pub use values::Values;
 
-/// An item with a key, which is a function of the item's value.
-pub trait IdOrdItem: Drop {
-    /// The key.
-    type Key: Ord + Drop;
-
-    ghost key_of: { Self → Self.Key };
-
-    /// The key of the item.
-    fn key(&self) -> &Self::Key
-        ensures { result.now ≡ key_of self.now };
-}
-
-/// Names the key of such an item.
-pub enum ItsKey {}
-
-impl<T: IdOrdItem> KeyOf<T> for ItsKey {
-    type Key = T::Key;
-
-    ghost key_of = { T.IdOrdItem.key_of };
-
-    fn key(item: &T) -> &T::Key {
-        item.key()
-    }
-}
-
 /// A map of items that say themselves what their key is.
-pub type IdOrdMap<T> = OrdMapBy<T, Field<ItsKey, <T as IdOrdItem>::Key>>;
+pub type IdOrdMap<T> = OrdMapBy<T, ItsKey<<T as IdOrdItem>::Key>>;
 
 /// Items under stable indexes, which all have different keys. The key `E` is a `Field`, a `Computed` value, a
 /// `Reversed` key, or a tuple of keys.

@@ -24,7 +24,7 @@ use iddqd_maps::order_key::OrdKey;
 use iddqd_maps::refusal::InsertRefusal;
 use std::alloc::{AllocError, Global};
 use std::cmp::Ordering;
-use std::hash::{Hash, Hasher};
+use std::hash::Hasher;
 
 /// An account. No two have handles that differ in case alone.
 #[derive(Drop)]
@@ -122,44 +122,12 @@ impl OrdKey<Account> for Handle {
 #[derive(Clone, Copy, Debug)]
 pub struct Spelled<'a>(pub &'a str);
 
-impl<'a> PartialEq for Spelled<'a> {
-    ghost use Rattle.std.specs.Cmp.{on_equiv, partial_equiv_from_equiv};
-    ghost use Rattle.uses.specs.declared.handles.Spelled.{Spelled};
-
-    ghost eq = { λ x y. str_eq_ignore_ascii_case x.0.now y.0.now };
-
-    ghost laws = { partial_equiv_from_equiv
-        (on_equiv (λ (q : Spelled). str_to_ascii_lowercase q.0.now) nat_list_eq_equiv) };
-
-    fn eq(&self, other: &Spelled<'a>) -> bool {
-        self.0.eq_ignore_ascii_case(other.0)
-    }
-}
-
-impl<'a> Eq for Spelled<'a> {
-    ghost use Rattle.std.specs.Cmp.{on_equiv};
-    ghost use Rattle.uses.specs.declared.handles.Spelled.{Spelled};
-
-    ghost laws = { on_equiv (λ (q : Spelled). str_to_ascii_lowercase q.0.now) nat_list_eq_equiv };
-}
-
-impl<'a> Hash for Spelled<'a> {
-    ghost use Rattle.std.proofs.Common.{ap};
-
-    ghost hash_input = { λ q. writes (str_to_ascii_lowercase q.0.now) };
-
-    ghost respects_eq = { λ x y same. ap writes
-        ((bytes_decides (str_to_ascii_lowercase x.0.now) (str_to_ascii_lowercase y.0.now)).0 same) };
-
-    fn hash<H: Hasher>(&self, state: &mut H) {
-        feed(self.0, state);
-    }
-}
-
 impl<'a> ItemHashQuery<Account, Handle> for Spelled<'a> {
     ghost use Rattle.std.proofs.Common.{ap};
 
     ghost stands_for_item = { λ q account. str_eq_ignore_ascii_case q.0.now (string_bytes account.handle) };
+
+    ghost key_hash_input = { λ q. writes (str_to_ascii_lowercase q.0.now) };
 
     ghost same_item_hash = { λ q account same. ap writes
         ((bytes_decides (str_to_ascii_lowercase q.0.now) (letters account)).0 same) };
@@ -168,6 +136,10 @@ impl<'a> ItemHashQuery<Account, Handle> for Spelled<'a> {
 
     fn stands_for_item(&self, account: &Account) -> bool {
         self.0.eq_ignore_ascii_case(account.handle.as_str())
+    }
+
+    fn hash_as_key<H: Hasher>(&self, state: &mut H) {
+        feed(self.0, state);
     }
 }
 

@@ -10,9 +10,9 @@ use std::hash::Hash;
 /// An item with two keys, each a function of the item's value.
 pub trait BiHashItem: Drop {
     /// The first key.
-    type Key1: Eq + Hash + Drop;
+    type Key1: Eq + Hash;
     /// The second key.
-    type Key2: Eq + Hash + Drop;
+    type Key2: Eq + Hash;
 
     ghost first_key: { Self → Self.Key1 };
 

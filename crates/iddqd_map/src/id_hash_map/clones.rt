@@ -1,6 +1,5 @@
 //! Copies of a map.
-use super::IdIndex;
-use super::item::IdHashItem;
+use super::{IdHashItem, IdIndex};
 use crate::map::Map;
 use std::alloc::AllocError;
 use std::hash::BuildHasher;
