@@ -39,7 +39,7 @@ use iddqd_keys::key_kinds::Field;
 use iddqd_map::grouped_at::{GroupedAt, StepsInGroup};
 use iddqd_map::hashed_plan::move_of;
 use iddqd_map::key_index::{
-    Changes, ComparesKeys, Here, IndexLaws, KeyIndex, Moves, PlanLaws, Upkeep,
+    Changes, ComparesKeys, Empty, Here, IndexLaws, KeyIndex, Moves, PlanLaws, Upkeep,
 };
 use iddqd_map::map::Parts;
 pub use iddqd_map::no_conflict::NoConflict;
@@ -307,6 +307,19 @@ where
     }
 }
 
+impl<T, S, E> Empty<T, S> for ByHashMultiOf<E>
+where
+    E: HashKey<T>,
+    S: BuildHasher,
+{
+    fn new(alloc: Global) -> ByHashMultiOf<E> {
+        ByHashMultiOf {
+            table: LinkedTable::new(alloc),
+            of: PhantomData,
+        }
+    }
+}
+
 impl<T, S, E> Upkeep<T, S> for ByHashMultiOf<E>
 where
     E: HashKey<T>,
@@ -314,13 +327,6 @@ where
 {
     fn capacity(&self) -> usize {
         self.table.capacity()
-    }
-
-    fn new(alloc: Global) -> ByHashMultiOf<E> {
-        ByHashMultiOf {
-            table: LinkedTable::new(alloc),
-            of: PhantomData,
-        }
     }
 
     fn with_capacity(alloc: Global, wanted: usize) -> Result<ByHashMultiOf<E>, AllocError> {

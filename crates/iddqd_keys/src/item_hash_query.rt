@@ -2,7 +2,7 @@
 //!
 //! A query speaks of items and not of a key's value, since a key of several fields has none. It feeds a hasher what a
 //! key feeds, and need not be `Hash`, for which it would need an equality too. Each [`HashQuery`] for the type of a
-//! field, or of a computed value, is one.
+//! field, of a computed value, or of the one key that an item names, is one.
 ghost use Rattle.std.specs.Prelude.{◌≡◌, IsTrue};
 ghost use Rattle.std.specs.List.{fold};
 

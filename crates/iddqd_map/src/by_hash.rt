@@ -18,7 +18,7 @@ use crate::hashed_plan::plan_move;
 use crate::hashed_query::{find_item, find_under, take_by};
 use crate::hashed_steps;
 use crate::key_index::{
-    Changes, ComparesKeys, FindsSame, Here, IndexLaws, KeyIndex, Moves, PlanLaws, ReportsAt,
+    Changes, ComparesKeys, Empty, FindsSame, Here, IndexLaws, KeyIndex, Moves, PlanLaws, ReportsAt,
     TakesAt, UniqueAt, Upkeep,
 };
 use crate::reported::past;
@@ -281,6 +281,19 @@ where
     }
 }
 
+impl<T, S, E> Empty<T, S> for ByHashOf<E>
+where
+    E: HashKey<T>,
+    S: BuildHasher,
+{
+    fn new(alloc: Global) -> ByHashOf<E> {
+        ByHashOf {
+            table: hashed_steps::new(alloc),
+            of: PhantomData,
+        }
+    }
+}
+
 impl<T, S, E> Upkeep<T, S> for ByHashOf<E>
 where
     E: HashKey<T>,
@@ -288,13 +301,6 @@ where
 {
     fn capacity(&self) -> usize {
         self.table.capacity()
-    }
-
-    fn new(alloc: Global) -> ByHashOf<E> {
-        ByHashOf {
-            table: hashed_steps::new(alloc),
-            of: PhantomData,
-        }
     }
 
     fn with_capacity(alloc: Global, wanted: usize) -> Result<ByHashOf<E>, AllocError> {

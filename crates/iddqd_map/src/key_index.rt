@@ -18,13 +18,14 @@
 //! capacity no key index holds memory for a call to come.
 //!
 //! The trait `KeyIndex` says what a key index holds, and has no methods. The calls are traits over it. `Changes` has
-//! those that insert, overwrite and remove, `Moves` those that replace, each with the types by which it plans; `Upkeep`
-//! and `ComparesKeys` stand beside them. For a key at a place `UniqueAt` and `GroupedAt` find, and `TakesAt` and
-//! `StepsInGroup` over them remove. For a key in order `OrderedAt` has the order alone, and `StepsAt` over it the
-//! calls. So a look-up needs only the method that it calls and no type of a plan, and an insert no law: the laws are
-//! `IndexLaws` and `PlanLaws`. That keeps callers cheap. The proof of a caller pays for each method, and for each type
-//! with a bound, of each trait to which its bounds lead, once for each path to it, and at a pair for both halves. So
-//! calls that are planned by the same types are one trait: a trait more would be paid on each path.
+//! those that insert, overwrite and remove, `Moves` those that replace, each with the types by which it plans; `Empty`
+//! only makes a key index, and `Upkeep` and `ComparesKeys` stand beside them. For a key at a place `UniqueAt` and
+//! `GroupedAt` find, and `TakesAt` and `StepsInGroup` over them remove. For a key in order `OrderedAt` has the order
+//! alone, and `StepsAt` over it the calls. So a look-up needs only the method that it calls and no type of a plan, and
+//! an insert no law: the laws are `IndexLaws` and `PlanLaws`. That keeps callers cheap. The proof of a caller pays for
+//! each method, and for each type with a bound, of each trait to which its bounds lead, once for each path to it, and
+//! at a pair for both halves. So calls that are planned by the same types are one trait: a trait more would be paid on
+//! each path.
 //!
 //! The laws stand apart since they are proved by laws of the keys. In a trait without methods only a member that names
 //! something of another trait counts as a law, and may be proved so.
@@ -392,17 +393,20 @@ pub trait Moves<T, S>: KeyIndex<T, S> {
         ensures cells { Self.cells self.new ≡ Self.cells self.old };
 }
 
-/// What concerns a key index as a whole: it is made, resized, cleared, renamed, copied and checked.
-pub trait Upkeep<T, S>: IndexLaws<T, S> {
-    /// How many indexes it can hold without more memory.
-    fn capacity(&self) -> usize
-        ensures { result ≡ Self.capacity self.now };
-
+/// How a key index is made that has no indexes. It is a trait of its own since each map is made, and few are kept up.
+pub trait Empty<T, S>: KeyIndex<T, S> {
     /// A key index of a store without items. It takes no memory.
     fn new(alloc: Global) -> Self
         ensures none { IndexesNone (Self.indexes result) }
         ensures capacity { Self.capacity result ≡ 0 }
         ensures cells { Self.cells result ≡ 0 };
+}
+
+/// What concerns a key index as a whole: it is made with room, resized, cleared, renamed, copied and checked.
+pub trait Upkeep<T, S>: IndexLaws<T, S> {
+    /// How many indexes it can hold without more memory.
+    fn capacity(&self) -> usize
+        ensures { result ≡ Self.capacity self.now };
 
     /// A key index of a store without items that can hold `wanted` indexes. With 0 it takes no memory.
     fn with_capacity(alloc: Global, wanted: usize) -> Result<Self, AllocError>

@@ -46,7 +46,7 @@ mod upserts;
 mod walks;
 mod whole;
 
-use crate::key_index::{IndexLaws, KeyIndex, Upkeep};
+use crate::key_index::{Empty, IndexLaws, KeyIndex};
 use iddqd::hash_builder::DefaultHashBuilder;
 use iddqd::item_index::ItemIndex;
 use iddqd::item_set::ItemSet;
@@ -77,7 +77,7 @@ impl<T, X: KeyIndex<T, S>, S> Model for Map<T, X, S> {
     ghost invariant = { λ m. IsIndexed (X.indexes m.indexes) m.state m.items.store };
 }
 
-impl<T, X: Upkeep<T, DefaultHashBuilder>> Map<T, X, DefaultHashBuilder> {
+impl<T, X: Empty<T, DefaultHashBuilder>> Map<T, X, DefaultHashBuilder> {
     /// An empty map with the default hasher, whose seed is fixed. It may grow to `u32::MAX` items, one for each index
     /// but `SENTINEL`. It takes no memory.
     pub fn new(alloc: Global) -> Map<T, X, DefaultHashBuilder>
@@ -96,7 +96,7 @@ impl<T, X: Upkeep<T, DefaultHashBuilder>> Map<T, X, DefaultHashBuilder> {
     }
 }
 
-impl<T, X: Upkeep<T, S>, S> Map<T, X, S> {
+impl<T, X: Empty<T, S>, S> Map<T, X, S> {
     /// An empty map that may grow to `u32::MAX` items, one for each index but `SENTINEL`. It takes no memory.
     pub fn with_hasher(alloc: Global, state: S) -> Map<T, X, S>
         ensures { result ≡ empty_map u32.MAX }

@@ -21,7 +21,7 @@ ghost use Rattle.iddqd_map.specs.PairConflict.{IsReportedBy, Reports, first_of, 
 ghost use Rattle.iddqd_map.specs.Ranges.{itself};
 
 use crate::key_index::{
-    Changes, ComparesKeys, FindsSame, IndexLaws, KeyIndex, Left, Moves, OrderedAt, PlanLaws,
+    Changes, ComparesKeys, Empty, FindsSame, IndexLaws, KeyIndex, Left, Moves, OrderedAt, PlanLaws,
     ReportsAt, Right, StepsAt, TakesAt, UniqueAt, Upkeep,
 };
 use crate::pair_conflict::PairConflict;
@@ -363,6 +363,19 @@ where
     }
 }
 
+impl<T, S, A, B> Empty<T, S> for Pair<A, B>
+where
+    A: Empty<T, S>,
+    B: Empty<T, S>,
+{
+    fn new(alloc: Global) -> Pair<A, B> {
+        Pair {
+            first: A::new(alloc),
+            second: B::new(alloc),
+        }
+    }
+}
+
 impl<T, S, A, B> Upkeep<T, S> for Pair<A, B>
 where
     A: Upkeep<T, S>,
@@ -370,13 +383,6 @@ where
 {
     fn capacity(&self) -> usize {
         self.first.capacity().min(self.second.capacity())
-    }
-
-    fn new(alloc: Global) -> Pair<A, B> {
-        Pair {
-            first: A::new(alloc),
-            second: B::new(alloc),
-        }
     }
 
     fn with_capacity(alloc: Global, wanted: usize) -> Result<Pair<A, B>, AllocError> {

@@ -40,7 +40,7 @@ use iddqd_keys::key_kinds::Field;
 use iddqd_keys::key_of::{Itself, key_at};
 use iddqd_keys::order_key::OrdKey;
 use iddqd_map::key_index::{
-    Changes, ComparesKeys, FindsSame, Here, IndexLaws, KeyIndex, Moves, OrderedAt, PlanLaws,
+    Changes, ComparesKeys, Empty, FindsSame, Here, IndexLaws, KeyIndex, Moves, OrderedAt, PlanLaws,
     ReportsAt, StepsAt, TakesAt, UniqueAt, Upkeep,
 };
 use iddqd_order::btree_table::{Asking, Blocks, Gap, MapBTreeTable, Spot};
@@ -315,19 +315,24 @@ where
     }
 }
 
+impl<T, S, E> Empty<T, S> for ByOrderOf<E>
+where
+    E: OrdKey<T>,
+{
+    fn new(alloc: Global) -> ByOrderOf<E> {
+        ByOrderOf {
+            table: MapBTreeTable::new(alloc),
+            of: PhantomData,
+        }
+    }
+}
+
 impl<T, S, E> Upkeep<T, S> for ByOrderOf<E>
 where
     E: OrdKey<T>,
 {
     fn capacity(&self) -> usize {
         ordered_steps::capacity(&self.table)
-    }
-
-    fn new(alloc: Global) -> ByOrderOf<E> {
-        ByOrderOf {
-            table: MapBTreeTable::new(alloc),
-            of: PhantomData,
-        }
     }
 
     fn with_capacity(alloc: Global, wanted: usize) -> Result<ByOrderOf<E>, AllocError> {

@@ -37,7 +37,8 @@ use iddqd_keys::key_kinds::Field;
 use iddqd_keys::key_of::{Itself, key_at};
 use iddqd_keys::order_key::OrdKey;
 use iddqd_map::key_index::{
-    Changes, ComparesKeys, Here, IndexLaws, KeyIndex, Moves, OrderedAt, PlanLaws, StepsAt, Upkeep,
+    Changes, ComparesKeys, Empty, Here, IndexLaws, KeyIndex, Moves, OrderedAt, PlanLaws, StepsAt,
+    Upkeep,
 };
 pub use iddqd_map::no_conflict::NoConflict;
 use iddqd_order::btree_table::{Asking, Blocks, Gap, MapBTreeTable, Spot};
@@ -295,19 +296,24 @@ where
     }
 }
 
+impl<T, S, E> Empty<T, S> for ByOrderMultiOf<E>
+where
+    E: OrdKey<T>,
+{
+    fn new(alloc: Global) -> ByOrderMultiOf<E> {
+        ByOrderMultiOf {
+            table: MapBTreeTable::new(alloc),
+            of: PhantomData,
+        }
+    }
+}
+
 impl<T, S, E> Upkeep<T, S> for ByOrderMultiOf<E>
 where
     E: OrdKey<T>,
 {
     fn capacity(&self) -> usize {
         ordered_steps::capacity(&self.table)
-    }
-
-    fn new(alloc: Global) -> ByOrderMultiOf<E> {
-        ByOrderMultiOf {
-            table: MapBTreeTable::new(alloc),
-            of: PhantomData,
-        }
     }
 
     fn with_capacity(alloc: Global, wanted: usize) -> Result<ByOrderMultiOf<E>, AllocError> {

@@ -8,8 +8,8 @@ use super::clash::{BiClash, both_moves, clash_of};
 use super::item::{BiHashItem, Key1, Key2};
 use crate::by_hash::ByHashOf;
 use crate::key_index::{
-    Changes, ComparesKeys, FindsSame, First, IndexLaws, KeyIndex, Moves, PlanLaws, ReportsAt,
-    Second, TakesAt, UniqueAt, Upkeep,
+    Changes, ComparesKeys, Empty, FindsSame, First, IndexLaws, KeyIndex, Moves, PlanLaws,
+    ReportsAt, Second, TakesAt, UniqueAt, Upkeep,
 };
 use crate::reported::{lesser, past};
 use iddqd::index_remap::IndexRemap;
@@ -324,6 +324,20 @@ where
     }
 }
 
+impl<T, S, A, B> Empty<T, S> for BiIndexOf<A, B>
+where
+    A: HashKey<T>,
+    B: HashKey<T>,
+    S: BuildHasher,
+{
+    fn new(alloc: Global) -> BiIndexOf<A, B> {
+        BiIndexOf {
+            first: <ByHashOf<A> as Empty<T, S>>::new(alloc),
+            second: <ByHashOf<B> as Empty<T, S>>::new(alloc),
+        }
+    }
+}
+
 impl<T, S, A, B> Upkeep<T, S> for BiIndexOf<A, B>
 where
     A: HashKey<T>,
@@ -334,13 +348,6 @@ where
         let first = <ByHashOf<A> as Upkeep<T, S>>::capacity(&self.first);
         let second = <ByHashOf<B> as Upkeep<T, S>>::capacity(&self.second);
         first.min(second)
-    }
-
-    fn new(alloc: Global) -> BiIndexOf<A, B> {
-        BiIndexOf {
-            first: <ByHashOf<A> as Upkeep<T, S>>::new(alloc),
-            second: <ByHashOf<B> as Upkeep<T, S>>::new(alloc),
-        }
     }
 
     fn with_capacity(alloc: Global, wanted: usize) -> Result<BiIndexOf<A, B>, AllocError> {

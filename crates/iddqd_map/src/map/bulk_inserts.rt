@@ -8,17 +8,18 @@ ghost use Rattle.iddqd_map.specs.Calls.{IsDuplicate};
 ghost use Rattle.iddqd_map.specs.Map.{room};
 
 use super::Map;
-use crate::key_index::{Changes, Upkeep};
+use crate::key_index::{Changes, Empty, Upkeep};
 use crate::refusal::{InsertRefusal, Stopped};
 use iddqd::hash_builder::DefaultHashBuilder;
 use iddqd::item_index::ItemIndex;
 use std::alloc::Global;
 
-impl<T, X: Changes<T, DefaultHashBuilder> + Upkeep<T, DefaultHashBuilder>> Map<
-    T,
-    X,
-    DefaultHashBuilder,
-> {
+impl<T, X> Map<T, X, DefaultHashBuilder>
+where
+    X: Changes<T, DefaultHashBuilder>,
+    X: Empty<T, DefaultHashBuilder>,
+    X: Upkeep<T, DefaultHashBuilder>,
+{
     /// A map of these items, with the default hasher, each inserted as by `insert_unique`, in turn.
     ///
     /// The first refusal is returned, and then all other items are dropped. The condition is that the array's iterator
@@ -38,7 +39,7 @@ impl<T, X: Changes<T, DefaultHashBuilder> + Upkeep<T, DefaultHashBuilder>> Map<
     }
 }
 
-impl<T, X: Changes<T, S> + Upkeep<T, S>, S> Map<T, X, S> {
+impl<T, X: Changes<T, S> + Empty<T, S> + Upkeep<T, S>, S> Map<T, X, S> {
     /// `from_array`, with this hasher.
     pub fn from_array_with_hasher<const N: usize>(
         alloc: Global,
@@ -61,7 +62,9 @@ impl<T, X: Changes<T, S> + Upkeep<T, S>, S> Map<T, X, S> {
             Some(refusal) => Err(refusal),
         }
     }
+}
 
+impl<T, X: Changes<T, S> + Upkeep<T, S>, S> Map<T, X, S> {
     /// Inserts the items of an iterator in turn, up to the first that is refused, and returns how many there were.
     ///
     /// Each is inserted as by `insert_unique`. A refusal comes back with its item, with the number of items that were

@@ -1,11 +1,11 @@
 //! An empty map where only an allocator is given, as `or_default` of std's maps gives one.
 use super::Map;
-use crate::key_index::Upkeep;
+use crate::key_index::Empty;
 use std::alloc::Global;
 use std::default::{Default, MadeWith};
 
 /// The map of `with_hasher`, with the default value of the hasher. It takes no memory.
-impl<T, X: Upkeep<T, S>, S: Default> MadeWith<Global> for Map<T, X, S> {
+impl<T, X: Empty<T, S>, S: Default> MadeWith<Global> for Map<T, X, S> {
     ghost use Rattle.std.specs.Prelude.{◌≡◌};
     ghost use Rattle.iddqd.specs.Store.{slot_limit};
     ghost use Rattle.iddqd_map.specs.Map.{empty_map};

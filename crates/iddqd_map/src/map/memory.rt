@@ -6,13 +6,16 @@ ghost use Rattle.iddqd_map.specs.Memory.{ReservesItems, ShrinksItems, HasMoreTha
 ghost use Rattle.iddqd_map.specs.Calls.{Compacts};
 
 use super::Map;
-use crate::key_index::Upkeep;
+use crate::key_index::{Empty, Upkeep};
 use iddqd::hash_builder::DefaultHashBuilder;
 use iddqd::index_remap::IndexRemap;
 use iddqd::item_set::ItemSet;
 use std::alloc::{AllocError, Global};
 
-impl<T, X: Upkeep<T, DefaultHashBuilder>> Map<T, X, DefaultHashBuilder> {
+impl<T, X> Map<T, X, DefaultHashBuilder>
+where
+    X: Empty<T, DefaultHashBuilder> + Upkeep<T, DefaultHashBuilder>,
+{
     /// Empty, with the default hasher, and memory for `wanted` items. With 0 it takes no memory.
     pub fn with_capacity(
         alloc: Global,
@@ -48,7 +51,7 @@ impl<T, X: Upkeep<T, DefaultHashBuilder>> Map<T, X, DefaultHashBuilder> {
     }
 }
 
-impl<T, X: Upkeep<T, S>, S> Map<T, X, S> {
+impl<T, X: Empty<T, S> + Upkeep<T, S>, S> Map<T, X, S> {
     /// Empty, with memory for `wanted` items. With 0 it takes none.
     pub fn with_capacity_and_hasher(
         alloc: Global,
@@ -92,7 +95,9 @@ impl<T, X: Upkeep<T, S>, S> Map<T, X, S> {
         map.reserve(wanted)?;
         Ok(map)
     }
+}
 
+impl<T, X: Upkeep<T, S>, S> Map<T, X, S> {
     /// How many items the memory has room for. For an ordered key only reserved memory counts, so with such a key it
     /// may be less than `len`. Only calls that shrink lower it.
     pub fn capacity(&self) -> usize

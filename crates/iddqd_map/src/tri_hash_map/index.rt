@@ -12,8 +12,8 @@ ghost use Rattle.iddqd_map.specs.Several.{both_keys};
 use super::clash::{TriClash, all_moves, clash_of};
 use crate::by_hash::ByHashOf;
 use crate::key_index::{
-    Changes, ComparesKeys, FindsSame, First, IndexLaws, KeyIndex, Moves, PlanLaws, ReportsAt,
-    Second, TakesAt, Third, UniqueAt, Upkeep,
+    Changes, ComparesKeys, Empty, FindsSame, First, IndexLaws, KeyIndex, Moves, PlanLaws,
+    ReportsAt, Second, TakesAt, Third, UniqueAt, Upkeep,
 };
 use crate::reported::{lesser, past};
 use iddqd::index_remap::IndexRemap;
@@ -390,6 +390,22 @@ where
     }
 }
 
+impl<T, S, A, B, C> Empty<T, S> for TriIndexOf<A, B, C>
+where
+    A: HashKey<T>,
+    B: HashKey<T>,
+    C: HashKey<T>,
+    S: BuildHasher,
+{
+    fn new(alloc: Global) -> TriIndexOf<A, B, C> {
+        TriIndexOf {
+            first: <ByHashOf<A> as Empty<T, S>>::new(alloc),
+            second: <ByHashOf<B> as Empty<T, S>>::new(alloc),
+            third: <ByHashOf<C> as Empty<T, S>>::new(alloc),
+        }
+    }
+}
+
 impl<T, S, A, B, C> Upkeep<T, S> for TriIndexOf<A, B, C>
 where
     A: HashKey<T>,
@@ -402,14 +418,6 @@ where
         let second = <ByHashOf<B> as Upkeep<T, S>>::capacity(&self.second);
         let third = <ByHashOf<C> as Upkeep<T, S>>::capacity(&self.third);
         first.min(second.min(third))
-    }
-
-    fn new(alloc: Global) -> TriIndexOf<A, B, C> {
-        TriIndexOf {
-            first: <ByHashOf<A> as Upkeep<T, S>>::new(alloc),
-            second: <ByHashOf<B> as Upkeep<T, S>>::new(alloc),
-            third: <ByHashOf<C> as Upkeep<T, S>>::new(alloc),
-        }
     }
 
     fn with_capacity(alloc: Global, wanted: usize) -> Result<TriIndexOf<A, B, C>, AllocError> {

@@ -1,7 +1,7 @@
 use Rattle.std.proofs.Common.{ap}
 use Rattle.iddqd_groups.specs.LinkedTable.{LinkedState}
 use Rattle.iddqd_groups.proofs.FilesLemmas.{FilesWithin-empty}
-use Rattle.iddqd_groups.proofs.by_hash_multi.ByHashMultiOfUpkeep.new.Goals as goal
+use Rattle.iddqd_groups.proofs.by_hash_multi.ByHashMultiOfEmpty.new.Goals as goal
 
 pub returns-clause-none : goal.returns-clause-none
 returns-clause-none g c = λ state limit.

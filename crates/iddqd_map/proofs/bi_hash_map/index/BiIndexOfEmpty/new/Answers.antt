@@ -1,4 +1,4 @@
-use Rattle.iddqd_map.proofs.bi_hash_map.index.BiIndexOfUpkeep.new.Goals as goal
+use Rattle.iddqd_map.proofs.bi_hash_map.index.BiIndexOfEmpty.new.Goals as goal
 
 pub returns-clause-none : goal.returns-clause-none
 returns-clause-none g c = λ state limit. (
