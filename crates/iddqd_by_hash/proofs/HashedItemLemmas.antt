@@ -1,5 +1,5 @@
--- A table in sync by keys is in sync by items.
-use Rattle.std.proofs.Common.{◌≡◌, ℕ, Bool, IsTrue, List}
+-- A table in sync by keys is in sync by items; and what queries for items stand for.
+use Rattle.std.proofs.Common.{◌≡◌, ◌∙◌, ℕ, Bool, IsTrue, List, ap, sym}
 use Rattle.std.specs.Cmp.{IsEquivalence, on_equiv, partial_equiv_from_equiv}
 use Rattle.std.specs.FinMap.{FinMap}
 use Rattle.std.specs.Ordering.{nat_cmp, on}
@@ -23,6 +23,17 @@ module _
         → IsInSync key_of (hashing_of equal fed b h state) s m
         → IsInSync (λ x. x) item_hashing s m
     IsInSync-items s m o = record { placed = o.placed; apart = o.apart }
+
+    -- a query that keeps the laws stands for the items of one key, under its hash
+    pub StandsForOne-query :
+        (input : List (List ℕ)) (test : T → Bool)
+        → ((x : T) → IsTrue (test x) → input ≡ fed (key_of x))
+        → ((x y : T) → IsTrue (test x) → test y ≡ equal (key_of x) (key_of y))
+        → StandsForOne item_hashing (hash_one b h state input) test
+    StandsForOne-query input test same_hash same_key = record {
+      hashed = λ x passed. ap (hash_one b h state) (sym (same_hash x passed));
+      one_key = λ x y one other. sym (same_key x y one) ∙ other;
+    }
 
     pub StandsForOne-item :
         IsEquivalence equal

@@ -1,19 +1,16 @@
--- Each step of a store and of a hash table that indexes it keeps it so; and what queries stand for.
-use Rattle.std.proofs.Common.{◌≡◌, ◌≢◌, ◌∙◌, ◌⊎◌, ◌↔◌, inl, inr, ℕ, Bool, true, not, IsSome, IsTrue, List, Some, refl, sym, ap, subst}
+-- Each step of a store and of a hash table that indexes it keeps it so.
+use Rattle.std.proofs.Common.{◌≡◌, ◌≢◌, ◌∙◌, ◌⊎◌, ◌↔◌, inl, inr, ℕ, true, not, IsSome, Some, refl, sym, ap, subst}
 use Rattle.std.proofs.lemmas.Bool.{cases_eq}
 use Rattle.std.specs.Ordering.{nat_cmp}
 use Rattle.std.specs.FinMap as finite
 use Rattle.std.specs.FinMap.{FinMap}
-use Rattle.std.specs.declared.hash.Hasher as hasher
-use Rattle.std.specs.declared.hash.BuildHasher as builder
-use Rattle.iddqd.specs.MapHash.{hash_one}
 use Rattle.iddqd.specs.Store.{Store, IsValid, empty_within, cleared, get, next_index, inserted, removed, rebound}
 use Rattle.iddqd.specs.Compaction.{compacted, rank}
 use Rattle.iddqd.proofs.LiveLemmas.{live_at}
 use Rattle.iddqd_hash.specs.MapHashTable.{Renames}
 use Rattle.iddqd_hash.proofs.MemberLemmas.{get-insert_at, get-insert_other, get-remove_other}
 use Rattle.iddqd_keys.specs.Scan.{IsLive, IsHit, HasNoHit, AreApart}
-use Rattle.iddqd_by_hash.specs.Hashed.{Hashing, hashing_of, IsInPlace, IsLawful, StandsForOne}
+use Rattle.iddqd_by_hash.specs.Hashed.{Hashing, IsInPlace, IsLawful}
 use Rattle.iddqd_by_hash.specs.HashedMove.{moved}
 use Rattle.iddqd_map.specs.Files.{Files}
 use Rattle.iddqd_map.specs.Indexing.{Indexes, shares_key, Plans}
@@ -22,18 +19,6 @@ use Rattle.iddqd_by_hash.specs.declared.hashed_move.Move.TheVariants.{Stays, To}
 use Rattle.iddqd_by_hash.proofs.HoldsLemmas.{Holds-empty, Holds-cleared, Holds-removed, Holds-inserted, Holds-compacted, Holds-rebound}
 use Rattle.iddqd_by_hash.proofs.PlaceLemmas.{IsInSync-empty, IsInSync-inserted, Keeps-cleared, Keeps-removed, Keeps-compacted, Keeps-rebound}
 use Rattle.iddqd_keys.proofs.ScanLemmas.{rebound_cases, live_rebound}
-
--- a query that keeps the laws stands for one key, under its hash
-pub StandsForOne-query :
-    {K S H : Type 0} (equal : K → K → Bool) (hash_input : K → List (List ℕ)) (b : builder.Ghosts S H)
-    (h : hasher.Ghosts H) (state : S) (input : List (List ℕ)) (test : K → Bool)
-    → ((key : K) → IsTrue (test key) → input ≡ hash_input key)
-    → ((x y : K) → IsTrue (test x) → test y ≡ equal x y)
-    → StandsForOne (hashing_of equal hash_input b h state) (hash_one b h state input) test
-StandsForOne-query equal hash_input b h state input test same_hash same_key = record {
-  hashed = λ key passed. ap (hash_one b h state) (sym (same_hash key passed));
-  one_key = λ x y one other. sym (same_key x y one) ∙ other;
-}
 
 module _ {T K : Type 0} (key_of : T → K) (hashing : Hashing K) where
   module _ (s : Store T) (m : FinMap nat_cmp ℕ) (o : Files key_of hashing s m) where

@@ -1,7 +1,5 @@
-use Rattle.std.specs.Ordering.{on}
 use Rattle.iddqd_hash.specs.MapHashTable.{filed}
-use Rattle.iddqd_by_hash.proofs.HashedItemLemmas.{IsInSync-items, item_hashing}
-use Rattle.iddqd_map.proofs.IndexingLemmas.{StandsForOne-query}
+use Rattle.iddqd_by_hash.proofs.HashedItemLemmas.{IsInSync-items, StandsForOne-query, item_hashing}
 use Rattle.iddqd_map.proofs.hashed_query.find_under.Goals as goal
 
 pub returns : goal.returns
@@ -11,6 +9,11 @@ returns g c =
     let fed = g.E.HashKey.hash_input in
     let state = c.args.state.now in
     let query = c.args.query in
-    let one = StandsForOne-query (on key_of equal) (λ (x : g.row.T.Denot). fed (key_of x)) g.S.BuildHasher g.S.Hasher.Hasher state (g.Q.ItemHashQuery.key_hash_input query) (g.Q.ItemHashQuery.stands_for_item query) (g.met.Q.ItemHashQuery.same_item_hash query) (g.met.Q.ItemHashQuery.same_item_key query) in
-    c.find.ensures.as_scan (item_hashing key_of equal fed g.S.BuildHasher g.S.Hasher.Hasher state) (rw c.requires.hash one)
-    (IsInSync-items key_of equal fed g.S.BuildHasher g.S.Hasher.Hasher state c.args.items.now.store (filed c.args.table.now) c.requires.indexed.in_sync)
+    let one =
+        StandsForOne-query key_of equal fed g.S.BuildHasher g.S.Hasher.Hasher state
+        (g.Q.ItemHashQuery.key_hash_input query) (g.Q.ItemHashQuery.stands_for_item query)
+        (g.met.Q.ItemHashQuery.same_item_hash query) (g.met.Q.ItemHashQuery.same_item_key query) in
+    c.find.ensures.as_scan (item_hashing key_of equal fed g.S.BuildHasher g.S.Hasher.Hasher state)
+    (rw c.requires.hash one)
+    (IsInSync-items key_of equal fed g.S.BuildHasher g.S.Hasher.Hasher state c.args.items.now.store
+    (filed c.args.table.now) c.requires.indexed.in_sync)
