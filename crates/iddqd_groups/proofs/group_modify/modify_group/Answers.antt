@@ -16,9 +16,9 @@ returns-clause-modified g c =
     let test = g.Q.ItemHashQuery.stands_for_item query in
     let hashing = item_hashing key_of equal fed g.S.BuildHasher g.S.Hasher.Hasher state in
     let one =
-        StandsForOne-query key_of equal fed g.S.BuildHasher g.S.Hasher.Hasher state
-        (g.Q.ItemHashQuery.key_hash_input query) test
-        (g.met.Q.ItemHashQuery.same_item_hash query) (g.met.Q.ItemHashQuery.same_item_key query) in
+    StandsForOne-query key_of equal fed g.S.BuildHasher g.S.Hasher.Hasher state
+    (g.Q.ItemHashQuery.key_hash_input query) test
+    (g.met.Q.ItemHashQuery.same_item_hash query) (g.met.Q.ItemHashQuery.same_item_key query) in
     let s = c.args.items.now.store in
     let m = c.args.table.now.filed in
     let under = c.indexes_under-indexes.result.rest in
@@ -26,8 +26,8 @@ returns-clause-modified g c =
     let files = Files-items key_of equal fed g.S.BuildHasher g.S.Hasher.Hasher state s m c.requires.files in
     let group = IsGroupOf-under (λ (x : g.row.T.Denot). x) s m hash test under c.indexes_under-indexes.ensures.under in
     let hits : AreHits s test (hits_among s test under) =
-        AreHits-group (λ (x : g.row.T.Denot). x) hashing s m files hash test (hits_among s test under)
-        (rw c.query_hash-hash.ensures one) group in
+    AreHits-group (λ (x : g.row.T.Denot). x) hashing s m files hash test (hits_among s test under)
+    (rw c.query_hash-hash.ensures one) group in
     let did = c.modify_hits.ensures in
     record {
       indexes = hits_among s test under;

@@ -14,9 +14,9 @@ returns-clause-hits g c =
     let test = g.Q.ItemHashQuery.stands_for_item query in
     let hashing = item_hashing key_of equal fed g.S.BuildHasher g.S.Hasher.Hasher state in
     let one =
-        StandsForOne-query key_of equal fed g.S.BuildHasher g.S.Hasher.Hasher state
-        (g.Q.ItemHashQuery.key_hash_input query) test
-        (g.met.Q.ItemHashQuery.same_item_hash query) (g.met.Q.ItemHashQuery.same_item_key query) in
+    StandsForOne-query key_of equal fed g.S.BuildHasher g.S.Hasher.Hasher state
+    (g.Q.ItemHashQuery.key_hash_input query) test
+    (g.met.Q.ItemHashQuery.same_item_hash query) (g.met.Q.ItemHashQuery.same_item_key query) in
     let m = c.args.table.now.filed in
     AreHits-group (λ (x : g.row.T.Denot). x) hashing c.args.items.now.store m
     (Files-items key_of equal fed g.S.BuildHasher g.S.Hasher.Hasher state c.args.items.now.store m c.requires)

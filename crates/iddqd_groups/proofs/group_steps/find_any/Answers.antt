@@ -22,9 +22,9 @@ returns-clause-group g c =
     let test = g.Q.ItemHashQuery.stands_for_item query in
     let hashing = item_hashing key_of equal fed g.S.BuildHasher g.S.Hasher.Hasher state in
     let one =
-        StandsForOne-query key_of equal fed g.S.BuildHasher g.S.Hasher.Hasher state
-        (g.Q.ItemHashQuery.key_hash_input query) test
-        (g.met.Q.ItemHashQuery.same_item_hash query) (g.met.Q.ItemHashQuery.same_item_key query) in
+    StandsForOne-query key_of equal fed g.S.BuildHasher g.S.Hasher.Hasher state
+    (g.Q.ItemHashQuery.key_hash_input query) test
+    (g.met.Q.ItemHashQuery.same_item_hash query) (g.met.Q.ItemHashQuery.same_item_key query) in
     let s = c.args.items.now.store in
     let m = c.args.table.now.filed in
     let group = IsGroupOf-under (λ (x : g.row.T.Denot). x) s m c.query_hash-hash.result test _ c.first_under.ensures in

@@ -10,9 +10,9 @@ returns g c =
     let state = c.args.state.now in
     let query = c.args.query in
     let one =
-        StandsForOne-query key_of equal fed g.S.BuildHasher g.S.Hasher.Hasher state
-        (g.Q.ItemHashQuery.key_hash_input query) (g.Q.ItemHashQuery.stands_for_item query)
-        (g.met.Q.ItemHashQuery.same_item_hash query) (g.met.Q.ItemHashQuery.same_item_key query) in
+    StandsForOne-query key_of equal fed g.S.BuildHasher g.S.Hasher.Hasher state
+    (g.Q.ItemHashQuery.key_hash_input query) (g.Q.ItemHashQuery.stands_for_item query)
+    (g.met.Q.ItemHashQuery.same_item_hash query) (g.met.Q.ItemHashQuery.same_item_key query) in
     c.find.ensures.as_scan (item_hashing key_of equal fed g.S.BuildHasher g.S.Hasher.Hasher state)
     (rw c.requires.hash one)
     (IsInSync-items key_of equal fed g.S.BuildHasher g.S.Hasher.Hasher state c.args.items.now.store
