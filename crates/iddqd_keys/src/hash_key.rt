@@ -1,7 +1,7 @@
 //! Keys that go by their hash.
 //!
-//! Nothing borrows or owns such a key as a whole: it is read in place, from the item. So a key of several fields needs
-//! no value of its own.
+//! No call hands such a key out: it is hashed and compared within its item. So a key of several fields needs no value of
+//! its own.
 ghost use Rattle.std.specs.Prelude.{◌≡◌, IsTrue};
 ghost use Rattle.std.specs.List.{fold};
 

@@ -13,10 +13,12 @@ use crate::order_key::OrdKey;
 use crate::order_query::OrdQuery;
 use std::cmp::Ordering;
 
-/// What has a place in the order of the key `E`.
+/// What a range or a group of items is looked up by in the order of their key `E`.
 ///
 /// For a field, a computed value or an item's one key it is each [`OrdQuery`] for the key's type, as a `&K`, or a
-/// `&str` for a `String`. For a tuple of keys it is the tuple of their queries, a [`Prefix`], or a [`Part`].
+/// `&str` for a `String`, and for a `String` also a [`crate::starts_with::StartsWith`]. For a tuple of keys it is the
+/// tuple of their queries, a [`Prefix`], or a [`Part`]. For a [`Reversed`] key it is a query for the key that is
+/// reversed.
 pub trait ItemRangeQuery<T, E: OrdKey<T>>: Copy {
     ghost use Rattle.std.specs.declared.cmp.Ordering.{Ordering};
 

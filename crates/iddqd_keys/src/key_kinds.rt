@@ -1,5 +1,5 @@
-//! Types without values that name a key of an item: a field, the one key that the item's trait names, a value that is
-//! computed from the item, or another key in the reversed order.
+//! Types that name a key of an item, and of which no value is made: a field, the one key that the item's trait names, a
+//! value that is computed from the item, or another key in the reversed order.
 //!
 //! A key of several fields is named by a tuple of such types, as `(Field<Name, String>, Field<Version, String>)`.
 ghost use Rattle.std.specs.Prelude.{◌≡◌};

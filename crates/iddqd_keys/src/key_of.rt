@@ -34,8 +34,8 @@ impl<T> KeyOf<T> for Itself {
 }
 
 /// A query that is a key itself. It implements [`Equivalent`] and [`Comparable`], the traits of the queries that the
-/// calls on tables beside a store take. (A plain `&K` implements only [`crate::hash_query::HashQuery`] and
-/// [`crate::order_query::OrdQuery`].)
+/// calls on tables beside a store take. A plain `&K` implements neither: it is a query for the calls of a map, by
+/// [`crate::hash_query::HashQuery`] and [`crate::order_query::OrdQuery`].
 ///
 /// `iddqd::map_hash::Same` won't do: those calls ask for an `Equivalent<K>`, and it implements `Equivalent<&'b K>`. If
 /// they asked for that, each generic caller would have to name `'b` in its bounds, and the prover finds no proof then.

@@ -1,9 +1,10 @@
 //! Keys of a store's items, and queries for them.
 //!
-//! A type without values names a key: a field ([`key_of::KeyOf`]), a computed value, several keys in turn, or a key in
-//! the reversed order ([`key_kinds`]). A query stands for keys by their hash ([`hash_query::HashQuery`]) or by their
-//! order ([`order_query::OrdQuery`]). The definitions say what a look-up in a table in sync answers: what a scan of all
-//! items would.
+//! A type of which no value is made names a key: a field ([`key_of::KeyOf`]), an item's one key, a computed value,
+//! several keys in turn, or a key in the reversed order ([`key_kinds`]). A query stands for keys by their hash
+//! ([`hash_query::HashQuery`]) or by their order ([`order_query::OrdQuery`]), or for items by their keys
+//! ([`item_hash_query`], [`item_order_query`]). The definitions say what a look-up in a table in sync answers: what a
+//! scan of all items would.
 #![tactic(auto)]
 
 pub mod hash_key;

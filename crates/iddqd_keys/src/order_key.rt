@@ -1,6 +1,6 @@
 //! Keys that go by their order.
 //!
-//! As a key that goes by its hash, such a key is read in place.
+//! Like a key that goes by its hash, such a key is read in place.
 ghost use Rattle.std.specs.Prelude.{◌≡◌};
 
 use crate::key_kinds::{Computed, ComputedKey, Field, Reversed};

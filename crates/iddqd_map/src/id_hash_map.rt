@@ -34,7 +34,7 @@ pub type IdIndex<T> = ByHashOf<ItsKey<<T as IdHashItem>::Key>>;
 
 /// Items under stable indexes, which all have different keys `E`.
 ///
-/// The key is a field, a computed value, or a tuple of such keys:
+/// The key is a `Field`, an `ItsKey`, a `Computed` value, a `HashKey` of your own, or a tuple of keys:
 /// `HashMapBy<Artifact, (Field<Name, String>, Field<Version, String>)>`.
 pub type HashMapBy<T, E, S = DefaultHashBuilder> = Map<T, ByHashOf<E>, S>;
 

@@ -393,7 +393,8 @@ pub trait Moves<T, S>: KeyIndex<T, S> {
         ensures cells { Self.cells self.new ≡ Self.cells self.old };
 }
 
-/// How a key index is made that has no indexes. It is a trait of its own since each map is made, and few are kept up.
+/// Makes a key index that has no indexes. It is a trait of its own, so that a caller who only makes a map pays neither for
+/// `Upkeep` nor for `IndexLaws`.
 pub trait Empty<T, S>: KeyIndex<T, S> {
     /// A key index of a store without items. It takes no memory.
     fn new(alloc: Global) -> Self
@@ -402,7 +403,8 @@ pub trait Empty<T, S>: KeyIndex<T, S> {
         ensures cells { Self.cells result ≡ 0 };
 }
 
-/// What concerns a key index as a whole: it is made with room, resized, cleared, renamed, copied and checked.
+/// What concerns a key index as a whole: it is made with room, resized, cleared, copied and checked, and its indexes are
+/// renamed.
 pub trait Upkeep<T, S>: IndexLaws<T, S> {
     /// How many indexes it can hold without more memory.
     fn capacity(&self) -> usize
@@ -555,7 +557,7 @@ pub trait TakesAt<P, Q, T, S>: UniqueAt<P, Q, T, S> {
         ensures cells { Self.KeyIndex.cells self.new ≡ Self.KeyIndex.cells self.old };
 }
 
-/// A key index that tells from a conflict which item shares the unique key at the place `P`.
+/// A key index that reads from a conflict which item shares the unique key at the place `P`.
 pub trait ReportsAt<P, T, S>: Changes<T, S> {
     ghost use Rattle.std.specs.Prelude.{Bool, true};
     ghost use Rattle.iddqd.specs.Store.{Store};

@@ -1,16 +1,19 @@
--- What callers say of an exchange, and of an item that takes over, follows from what a map promises.
-use Rattle.std.proofs.Common.{◌≡◌, ◌∙◌, inl, inr, ℕ, Bool, false, List, Option, Some, None, sym, ap, subst}
+-- What callers say of an item that is added, is exchanged or takes over follows from what a map promises.
+use Rattle.std.proofs.Common.{◌≡◌, ◌∙◌, inl, inr, ℕ, Bool, false, List, Option, Some, None, refl, sym, ap, subst}
 use Rattle.std.specs.Prelude.{Result, Ok, Err, IfOk, IfErr, OnErr}
-use Rattle.iddqd_maps.specs.Calls.{Changes, Overwrites, Replaces, ReplacesAt, ReplacesIfLive}
+use Rattle.iddqd_maps.specs.Calls.{Changes, Inserts, Overwrites, Replaces, ReplacesAt, ReplacesIfLive}
 use Rattle.iddqd_maps.specs.Map.{MapState}
 use Rattle.iddqd_maps.specs.OneKey.{OverwritesOne}
+use Rattle.iddqd_maps.specs.Scan.{AnswersScan}
 use Rattle.iddqd_maps.specs.Several.{HasNoOther}
 use Rattle.iddqd_maps.specs.Store.{Store, rebound}
+use Rattle.iddqd_maps.specs.declared.refusal.InsertRefusal.{InsertRefusal}
+use Rattle.iddqd_maps.specs.declared.refusal.InsertRefusal.TheVariants.{Duplicate as Shared, Full, Memory as NoBlock}
 use Rattle.iddqd_maps.specs.declared.refusal.OverwriteRefusal.{OverwriteRefusal}
 use Rattle.iddqd_maps.specs.declared.refusal.OverwriteRefusal.TheVariants.{Full as NoSlot, Memory as NoMemory}
 use Rattle.iddqd_maps.specs.declared.refusal.ReplaceRefusal.{ReplaceRefusal}
 use Rattle.iddqd_maps.specs.declared.refusal.ReplaceRefusal.TheVariants.{Missing, Duplicate, Memory}
-use Rattle.uses.specs.Exchanges.{Exchanges, ExchangesIfFound, IsWhyNot, IsWhyNotAt, IsWhyNotChanged, IsWhyNotTakenOver, TakesOver, TakesOverOne}
+use Rattle.uses.specs.Exchanges.{Exchanges, ExchangesIfFound, IsWhyNot, IsWhyNotAdded, IsWhyNotAt, IsWhyNotChanged, IsWhyNotTakenOver, TakesOver, TakesOverOne}
 
 module _ {T : Type 0} (alike : T → T → Bool) (most : ℕ → ℕ) (places : ℕ) (item : T) (old new : MapState T) where
   pub takes_over :
@@ -129,6 +132,15 @@ module _
 
 -- of items with one key
 module _ {T : Type 0} (alike : T → T → Bool) (most : ℕ → ℕ) (item : T) (old new : MapState T) where
+  pub not_added :
+      (result : Result ℕ (InsertRefusal T ℕ))
+      → Inserts alike most (λ s x at. AnswersScan s (alike x) (Some at)) old item result new
+      → IfErr result (IsWhyNotAdded alike item old)
+  not_added (Ok ix) out = tt
+  not_added (Err (Shared back at)) (given, scan, stays) = (given, (at, (scan at).1 refl))
+  not_added (Err (Full back)) out = (out.given_back, out.no_conflict, out.full)
+  not_added (Err (NoBlock back)) out = (out.given_back, out.no_conflict, out.no_room)
+
   pub sets :
       (result : Result (ℕ × Option T) (OverwriteRefusal T))
       → OverwritesOne alike most old item result new

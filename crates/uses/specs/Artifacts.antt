@@ -3,8 +3,6 @@ use Rattle.std.specs.Prelude.{◌&&◌, ℕ, Bool, List, String}
 use Rattle.std.specs.Str.{bytes_eq}
 use Rattle.std.specs.String.{string_bytes}
 use Rattle.std.specs.declared.alloc.Global.{Global}
-use Rattle.iddqd_maps.specs.Map.{IsOnly}
-use Rattle.iddqd_maps.specs.Several.{HitsOther}
 use Rattle.iddqd_maps.specs.Store.{Store}
 use Rattle.uses.specs.Updates.{UpdatesHit}
 use Rattle.uses.specs.declared.artifacts.Artifact.{Artifact}
@@ -25,11 +23,6 @@ with_size size artifact = record artifact { size = size }
 -- the artifact with this version
 abbrev pub with_version : String Global → Artifact → Artifact
 with_version version artifact = record artifact { version = version }
-
--- another artifact has the name and the new version of the one with this name and version
-abbrev pub IsReleased : Store Artifact → List ℕ → List ℕ → String Global → Type 0
-IsReleased s name version next = (ix : ℕ) × (was : Artifact) × IsOnly s (is_called name version) ix was
-    × HitsOther s (same_artifact (with_version next was)) ix
 
 -- the artifact with this name and version is at the index, and has the new version now
 abbrev pub Releases : Store Artifact → List ℕ → List ℕ → String Global → Store Artifact → ℕ → Type 0

@@ -4,9 +4,9 @@ ghost use Rattle.iddqd_maps.specs.Map.{FindsItem, Removes, RemovesHit};
 ghost use Rattle.iddqd_maps.specs.OneKey.{IsTaken};
 ghost use Rattle.iddqd_maps.specs.Scan.{AnswersScan, HasNoHit};
 ghost use Rattle.iddqd_maps.specs.Store.{get, inserted, next_index, removed};
-ghost use Rattle.uses.specs.Artifacts.{IsReleased, Releases, is_called, same_artifact, with_size, with_version};
+ghost use Rattle.uses.specs.Artifacts.{Releases, is_called, same_artifact, with_size, with_version};
 ghost use Rattle.uses.specs.declared.artifacts.Artifact.{Artifact};
-ghost use Rattle.uses.specs.Exchanges.{Exchanges, IsWhyGoneAt, IsWhyNot, IsWhyNotAdded};
+ghost use Rattle.uses.specs.Exchanges.{Exchanges, IsWhyGoneAt, IsWhyGoneBy, IsWhyNot, IsWhyNotAdded};
 ghost use Rattle.uses.specs.Updates.{Updates, UpdatesItem};
 
 use iddqd_maps::{Field, HashMapBy, Here, InsertRefusal, ItemIndex, KeyOf, ReplaceRefusal};
@@ -116,9 +116,8 @@ pub fn remove(artifacts: &mut Artifacts, name: &str, version: &str) -> Option<Ar
     artifacts.remove((name, version))
 }
 
-/// Gives an artifact another version, which it keeps under its index; `Ok(None)` if and only if there is no such
-/// artifact. If another artifact has its name and the new version, the released one is returned, and the map has it no
-/// longer.
+/// Gives an artifact another version, and its index stays; `Ok(None)` if and only if there is no such artifact. If
+/// another artifact has its name and the new version, the released one is returned, and the map has it no longer.
 pub fn release(
     artifacts: &mut Artifacts,
     name: &str,
@@ -130,7 +129,8 @@ pub fn release(
     ensures missing { let called = is_called name.now version.now in
         IfOk result (λ found. IfNone found (HasNoHit artifacts.old.store called)) }
     ensures unchanged { IfOk result (λ found. IfNone found (artifacts.new ≡ artifacts.old)) }
-    ensures refused { OnErr result (IsReleased artifacts.old.store name.now version.now next) }
+    ensures refused { let called = is_called name.now version.now in
+        IfErr result (IsWhyGoneBy same_artifact false called (with_version next) artifacts.old) }
     ensures gone { OnErr result ((was : Artifact)
         × RemovesHit artifacts.old (is_called name.now version.now) was artifacts.new) }
 {

@@ -12,10 +12,7 @@ use iddqd::index_remap::IndexRemap;
 use iddqd::item_set::ItemSet;
 use std::alloc::{AllocError, Global};
 
-impl<T, X> Map<T, X, DefaultHashBuilder>
-where
-    X: Empty<T, DefaultHashBuilder> + Upkeep<T, DefaultHashBuilder>,
-{
+impl<T, X: Upkeep<T, DefaultHashBuilder>> Map<T, X, DefaultHashBuilder> {
     /// Empty, with the default hasher, and memory for `wanted` items. With 0 it takes no memory.
     pub fn with_capacity(
         alloc: Global,
@@ -31,7 +28,12 @@ where
     {
         Map::with_capacity_and_hasher(alloc, DefaultHashBuilder::default(), wanted)
     }
+}
 
+impl<T, X> Map<T, X, DefaultHashBuilder>
+where
+    X: Empty<T, DefaultHashBuilder> + Upkeep<T, DefaultHashBuilder>,
+{
     /// Empty, with the default hasher, never with more slots than the limit, and with memory for `wanted` items or for
     /// as many as the limit allows.
     pub fn with_limit_and_capacity(
@@ -52,28 +54,6 @@ where
 }
 
 impl<T, X: Empty<T, S> + Upkeep<T, S>, S> Map<T, X, S> {
-    /// Empty, with memory for `wanted` items. With 0 it takes none.
-    pub fn with_capacity_and_hasher(
-        alloc: Global,
-        state: S,
-        wanted: usize,
-    ) -> Result<Map<T, X, S>, AllocError>
-    where
-        T: Drop,
-        S: Drop,
-        ensures contents { IfOk result (λ m. m.store ≡ empty) }
-        ensures room { IfOk result (λ m. min wanted slot_limit ≤ room m) }
-        ensures slots { IfOk result (λ m. m.memory.slots ≡ wanted) }
-        ensures cells { IfOk result (λ m. m.memory.cells ≤ X.most wanted) }
-        ensures none { wanted ≡ 0 → IsOk result }
-    {
-        Ok(Map {
-            items: ItemSet::with_capacity(alloc, wanted)?,
-            indexes: X::with_capacity(alloc, wanted)?,
-            state,
-        })
-    }
-
     /// Empty, never with more slots than the limit, and with memory for `wanted` items or for as many as the limit
     /// allows. If that is 0 it takes none.
     pub fn with_limit_capacity_and_hasher(
@@ -98,6 +78,28 @@ impl<T, X: Empty<T, S> + Upkeep<T, S>, S> Map<T, X, S> {
 }
 
 impl<T, X: Upkeep<T, S>, S> Map<T, X, S> {
+    /// Empty, with memory for `wanted` items. With 0 it takes none.
+    pub fn with_capacity_and_hasher(
+        alloc: Global,
+        state: S,
+        wanted: usize,
+    ) -> Result<Map<T, X, S>, AllocError>
+    where
+        T: Drop,
+        S: Drop,
+        ensures contents { IfOk result (λ m. m.store ≡ empty) }
+        ensures room { IfOk result (λ m. min wanted slot_limit ≤ room m) }
+        ensures slots { IfOk result (λ m. m.memory.slots ≡ wanted) }
+        ensures cells { IfOk result (λ m. m.memory.cells ≤ X.most wanted) }
+        ensures none { wanted ≡ 0 → IsOk result }
+    {
+        Ok(Map {
+            items: ItemSet::with_capacity(alloc, wanted)?,
+            indexes: X::with_capacity(alloc, wanted)?,
+            state,
+        })
+    }
+
     /// How many items the memory has room for. For an ordered key only reserved memory counts, so with such a key it
     /// may be less than `len`. Only calls that shrink lower it.
     pub fn capacity(&self) -> usize

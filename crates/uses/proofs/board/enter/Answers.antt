@@ -1,9 +1,9 @@
 use Rattle.std.proofs.Common.{◌≡◌, refl, rules}
 use Rattle.std.specs.Prelude.{Ok, Err, IfErr, IfOk, OnOk}
 use Rattle.iddqd_maps.specs.Store.{inserted, next_index}
-use Rattle.iddqd_maps.specs.declared.refusal.InsertRefusal.TheVariants.{Duplicate, Full, Memory}
 use Rattle.uses.specs.Exchanges.{IsWhyNotAdded}
 use Rattle.uses.specs.Scores.{same_hour, with_points}
+use Rattle.uses.proofs.ExchangeLemmas.{not_added}
 use Rattle.uses.proofs.UpdateLemmas.{merges_item, refused_none}
 use Rattle.uses.proofs.board.enter.Goals as goal
 
@@ -31,18 +31,9 @@ returns-clause-refused c =
     let score = c.args.score in
     elim did.result as (λ r. did.result ≡ r → IfErr r (IsWhyNotAdded same_hour score old)) [
       | Ok ix ↦ λ is. tt
-      | Err (Duplicate back at) ↦ λ is.
-          let none = refused_none old.store (same_hour score) _ did.result (Duplicate back at) did.ensures.modifies is in
-          let refused = rw is at (did.ensures.inserts none) in
-          (refused.0, (at, (refused.1 at).1 refl))
-      | Err (Full back) ↦ λ is.
-          let none = refused_none old.store (same_hour score) _ did.result (Full back) did.ensures.modifies is in
-          let refused = rw is at (did.ensures.inserts none) in
-          (refused.given_back, refused.no_conflict, refused.full)
-      | Err (Memory back) ↦ λ is.
-          let none = refused_none old.store (same_hour score) _ did.result (Memory back) did.ensures.modifies is in
-          let refused = rw is at (did.ensures.inserts none) in
-          (refused.given_back, refused.no_conflict, refused.no_room)
+      | Err refusal ↦ λ is.
+          let none = refused_none old.store (same_hour score) _ did.result refusal did.ensures.modifies is in
+          rw is at (not_added same_hour _ score old did.new.self did.result (did.ensures.inserts none))
     ] refl
 
 pub returns-clause-place : goal.returns-clause-place

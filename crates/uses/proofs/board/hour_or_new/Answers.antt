@@ -2,10 +2,10 @@ use Rattle.std.proofs.Common.{rules, ◌≡◌, ◌∙◌, ap, refl, subst}
 use Rattle.std.specs.Prelude.{Ok, Err, IfErr, OnOk}
 use Rattle.iddqd_maps.specs.Scan.{HasNoHit}
 use Rattle.iddqd_maps.specs.Store.{inserted}
-use Rattle.iddqd_maps.specs.declared.refusal.InsertRefusal.TheVariants.{Duplicate, Full, Memory}
 use Rattle.uses.specs.Exchanges.{IsWhyNotAdded}
 use Rattle.uses.specs.Scores.{has_hour, same_hour, unscored}
 use Rattle.uses.specs.declared.scores.Score.{Score}
+use Rattle.uses.proofs.ExchangeLemmas.{not_added}
 use Rattle.uses.proofs.UpdateLemmas.{refused_none}
 use Rattle.uses.proofs.board.hour_or_new.Goals as goal
 
@@ -31,12 +31,7 @@ returns-clause-refused c =
     let (score, made, did) = call.ensures.inserts none in
     let is : score ≡ blank = search rules in
     subst (λ (x : Score). IfErr call.result (IsWhyNotAdded same_hour x old)) is
-    (elim call.result as (λ r. call.result ≡ r → IfErr r (IsWhyNotAdded same_hour score old)) [
-      | Ok ix ↦ λ done. tt
-      | Err (Duplicate back at) ↦ λ done. let refused = rw done at did in (refused.0, (at, (refused.1 at).1 refl))
-      | Err (Full back) ↦ λ done. let refused = rw done at did in (refused.given_back, refused.no_conflict, refused.full)
-      | Err (Memory back) ↦ λ done. let refused = rw done at did in (refused.given_back, refused.no_conflict, refused.no_room)
-    ] refl) in
+    (not_added same_hour _ score old call.new.self call.result did) in
     elim call.result as (λ r. call.result ≡ r → IfErr r (IsWhyNotAdded same_hour blank old)) [
       | Ok ix ↦ λ done. tt
       | Err refusal ↦ λ done. rw done at (why (refused_none old.store test _ call.result refusal call.ensures.found done))
