@@ -1,8 +1,8 @@
 //! A hash table of a store's indexes, under the hashes of a key that is read in place.
 //!
 //! These are the calls of `hashed` for keys that need no value of their own: a query is compared with whole items.
-//! `hashed` stays beside them for `KeyedItems` and `TriItems`, whose queries are any `Equivalent` of a borrowed key, with
-//! no laws.
+//! `hashed` stays beside them for `KeyedItems` and `TriItems`, whose queries are any `Equivalent` of a borrowed key,
+//! with no laws.
 ghost use Rattle.std.specs.Prelude.{◌≡◌};
 ghost use Rattle.iddqd.specs.MapHash.{hash_one};
 ghost use Rattle.iddqd_hash.specs.{filed};

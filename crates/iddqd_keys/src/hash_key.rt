@@ -1,7 +1,7 @@
 //! Keys that go by their hash.
 //!
-//! No call hands such a key out: it is hashed and compared within its item. So a key of several fields needs no value of
-//! its own.
+//! No call hands such a key out: it is hashed and compared within its item. So a key of several fields needs no value
+//! of its own.
 ghost use Rattle.std.specs.Prelude.{◌≡◌, IsTrue};
 ghost use Rattle.std.specs.List.{fold};
 

@@ -393,8 +393,8 @@ pub trait Moves<T, S>: KeyIndex<T, S> {
         ensures cells { Self.cells self.new ≡ Self.cells self.old };
 }
 
-/// Makes a key index that has no indexes. It is a trait of its own, so that a caller who only makes a map pays neither for
-/// `Upkeep` nor for `IndexLaws`.
+/// Makes a key index that has no indexes. It is a trait of its own, so that a caller who only makes a map pays neither
+/// for `Upkeep` nor for `IndexLaws`.
 pub trait Empty<T, S>: KeyIndex<T, S> {
     /// A key index of a store without items. It takes no memory.
     fn new(alloc: Global) -> Self
@@ -403,8 +403,8 @@ pub trait Empty<T, S>: KeyIndex<T, S> {
         ensures cells { Self.cells result ≡ 0 };
 }
 
-/// What concerns a key index as a whole: it is made with room, resized, cleared, copied and checked, and its indexes are
-/// renamed.
+/// What concerns a key index as a whole: it is made with room, resized, cleared, copied and checked, and its indexes
+/// are renamed.
 pub trait Upkeep<T, S>: IndexLaws<T, S> {
     /// How many indexes it can hold without more memory.
     fn capacity(&self) -> usize

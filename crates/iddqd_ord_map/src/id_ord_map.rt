@@ -60,8 +60,8 @@ pub use values::Values;
 /// A map of items that say themselves what their key is.
 pub type IdOrdMap<T> = OrdMapBy<T, ItsKey<<T as IdOrdItem>::Key>>;
 
-/// Items under stable indexes, which all have different keys. The key `E` is a `Field`, an `ItsKey`, a `Computed` value,
-/// a `Reversed` key, a tuple of keys, or an `OrdKey` of your own.
+/// Items under stable indexes, which all have different keys. The key `E` is a `Field`, an `ItsKey`, a `Computed`
+/// value, a `Reversed` key, a tuple of keys, or an `OrdKey` of your own.
 ///
 /// A contract sees it as the store of its items, and its memory beside that.
 #[derive(Drop)]
