@@ -100,7 +100,8 @@ module _
           → IfOk result (λ found. IfSome found (λ ix. UpdatesHit old.store test ix becomes new.store))
       remade (Ok None) done makes = tt
       remade (Ok (Some at)) (ix, scan, (was, made, live, met, (here, placed))) makes =
-          rw here (was, record { live = live; only = scan }, placed.left ∙ ap (rebound old.store ix) (makes was made met))
+          let left = placed.left ∙ ap (rebound old.store ix) (makes was made met) in
+          rw here (was, record { live = live; only = scan }, left)
       remade (Err refusal) done makes = tt
 
       pub missing :
