@@ -1,5 +1,5 @@
-/* A proved table for C and C++ whose items may share a key. docs/FROM_C.md says what is proved of these functions, and
- * what a caller owes.
+/* A proved table for C and C++ whose items may share a key. docs/FROM_C.md says what is proved of these functions.
+ * iddqd_codes.h has the codes that they return, what they report of an item, and what a caller owes.
  *
  * Each item has a key of bytes, which no other item has and which is looked up by its hash, a second key, which any
  * number of items may have and which is looked up by its order, and a value. The table has copies of the byte keys. An
@@ -10,27 +10,27 @@
  * and `iddqd_multi_free` closes it. Every other function on a handle that is closed returns IDDQD_HANDLE and does
  * nothing. So does a function of this header on an open `iddqd_table`, and one of iddqd.h on an open `iddqd_multi`, if
  * the pointer was cast.
- *
- * A function writes through a pointer that it got for an answer only where its comment says so; with any other code the
- * memory there stays as it was. A caller owes what the head of iddqd.h lists. The codes are those of iddqd.h.
  */
 #ifndef IDDQD_MULTI_H
 #define IDDQD_MULTI_H
 
-#include "iddqd.h"
+#include "iddqd_codes.h"
 
 #ifdef __cplusplus
 extern "C" {
 #endif
 
-/* A table, or none. Never copy one, and write neither field. */
+/* A table, or none. Write neither field; iddqd_codes.h says when a handle may be moved. */
 typedef struct iddqd_multi {
     void *at;
     uint64_t state;
 } iddqd_multi;
 
-/* Makes an empty table, where the handle is zero: OK, MEMORY, or HANDLE where it isn't. Of the seed it holds what
- * iddqd.h says at iddqd_keyed_new. */
+/* Makes an empty table, where the handle is zero: OK, MEMORY, or HANDLE where it isn't.
+ *
+ * The seed decides how byte keys are hashed, and nothing but time depends on it. Where keys come from strangers, give
+ * it 16 bytes that they can't know, as getentropy makes them. With a seed that they know, they can choose keys that
+ * make each look-up pass all of them. */
 uint32_t iddqd_multi_new(iddqd_multi *table, uint64_t seed1, uint64_t seed2);
 
 /* Frees the table, and makes the handle zero. Of a handle without a table it does nothing. */

@@ -11,6 +11,8 @@ fn main() {
     if !folder.join("libiddqd.a").exists() {
         panic!("set IDDQD_LIB to a folder that `tools/c-library FOLDER` made: {} has no libiddqd.a", folder.display());
     }
+    // Cargo copies the archive into the crate's own library, so a new archive needs a new build.
+    println!("cargo:rerun-if-changed={}", folder.join("libiddqd.a").display());
     println!("cargo:rustc-link-search=native={}", folder.display());
     println!("cargo:rustc-link-lib=static=iddqd");
 }

@@ -6,6 +6,9 @@
    A row ends with the first child in which no allocation is left to fail. The test itself then runs on with all of its
    memory, and reports how many failed allocations its children stood.
 
+   With -DUNMARKED no test makes a mark: no allocation fails, and each test has to free all of its memory. The tests of
+   the functions for C run so.
+
    A request of COUNTED bytes notes how many blocks are allocated. A later one of COUNTED + N bytes, N below 1000, fails
    if fewer than N of these were freed since. So a test can tell that a call gave blocks back. */
 #include <errno.h>
@@ -22,6 +25,11 @@
 enum { ROWS = 2 };
 #else
 enum { ROWS = 1 };
+#endif
+#ifdef UNMARKED
+enum { MARKS = 0 };
+#else
+enum { MARKS = 2 };
 #endif
 
 /* Where a program defines the first of each pair, the address sanitizer calls it in place of its own, the second. */
@@ -65,12 +73,12 @@ __attribute__((constructor)) static void begin(void) {
 }
 
 __attribute__((destructor)) static void end(void) {
-    if (!marks) return;
-    if (marks != 2 || blocks) {
+    if (!marks && MARKS) return;
+    if (marks != MARKS || blocks) {
         dprintf(2, "memory: %u marks, %ld blocks not freed\n", marks, blocks);
         _exit(1);
     }
-    if (!first) dprintf(2, "memory: %u refusals stood\n", stood);
+    if (MARKS && !first) dprintf(2, "memory: %u refusals stood\n", stood);
 }
 
 static int is_refused(size_t size) {

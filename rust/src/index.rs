@@ -1,7 +1,7 @@
 //! Numbers of records under the hashes of their keys.
 
 use crate::raw::{self, Handle, OK};
-use crate::OutOfMemory;
+use crate::{NewError, OutOfMemory};
 use std::fmt;
 use std::hash::{BuildHasher, Hash, RandomState};
 use std::marker::PhantomData;
@@ -22,9 +22,9 @@ const CANDIDATES: usize = 8;
 /// for at in 0..people.len() as u32 {
 ///     by_name.insert(&people, at)?;
 /// }
-/// assert_eq!(by_name.find(&people, &"alan"), Some(1));
-/// assert_eq!(by_name.find(&people, &"bo"), None);
-/// # Ok::<(), iddqd_proved::OutOfMemory>(())
+/// assert_eq!(by_name.find(&people, &"alan"), Ok(Some(1)));
+/// assert_eq!(by_name.find(&people, &"bo"), Ok(None));
+/// # Ok::<(), Box<dyn std::error::Error>>(())
 /// ```
 pub struct Index<T, K, F = fn(&T) -> K, S = RandomState> {
     handle: Handle,
@@ -35,20 +35,17 @@ pub struct Index<T, K, F = fn(&T) -> K, S = RandomState> {
 
 impl<T, K: Hash + Eq, F: Fn(&T) -> K> Index<T, K, F> {
     /// Empty, with a hasher of its own seed.
-    pub fn new(key_of: F) -> Result<Self, OutOfMemory> {
+    pub fn new(key_of: F) -> Result<Self, NewError> {
         Index::with_hasher(key_of, RandomState::new())
     }
 }
 
 impl<T, K: Hash + Eq, F: Fn(&T) -> K, S: BuildHasher> Index<T, K, F, S> {
     /// Empty, with this hasher.
-    pub fn with_hasher(key_of: F, hasher: S) -> Result<Self, OutOfMemory> {
-        let handle = Handle::zero();
+    pub fn with_hasher(key_of: F, hasher: S) -> Result<Self, NewError> {
         // SAFETY: the handle is zero.
-        match unsafe { raw::iddqd_index_new(handle.get()) } {
-            OK => Ok(Index { handle, key_of, hasher, kinds: PhantomData }),
-            _ => Err(OutOfMemory),
-        }
+        let handle = Handle::open(|handle| unsafe { raw::iddqd_index_new(handle) })?;
+        Ok(Index { handle, key_of, hasher, kinds: PhantomData })
     }
 
     /// Files the record of this number, if no filed record has its key: whether none had.
@@ -58,7 +55,7 @@ impl<T, K: Hash + Eq, F: Fn(&T) -> K, S: BuildHasher> Index<T, K, F, S> {
     /// If there is no record of this number.
     pub fn insert(&mut self, records: &[T], number: u32) -> Result<bool, OutOfMemory> {
         let key = (self.key_of)(&records[number as usize]);
-        if self.find(records, &key).is_some() {
+        if self.find(records, &key)?.is_some() {
             return Ok(false);
         }
         let hash = self.hasher.hash_one(&key);
@@ -69,8 +66,9 @@ impl<T, K: Hash + Eq, F: Fn(&T) -> K, S: BuildHasher> Index<T, K, F, S> {
         }
     }
 
-    /// The number of the filed record that has the key.
-    pub fn find(&self, records: &[T], key: &K) -> Option<u32> {
+    /// The number of the filed record that has the key. It takes memory if more than eight records are filed under the
+    /// key's hash.
+    pub fn find(&self, records: &[T], key: &K) -> Result<Option<u32>, OutOfMemory> {
         let mut some = [0; CANDIDATES];
         let mut all = Vec::new();
         let hash = self.hasher.hash_one(key);
@@ -78,20 +76,23 @@ impl<T, K: Hash + Eq, F: Fn(&T) -> K, S: BuildHasher> Index<T, K, F, S> {
         let candidates = if count <= CANDIDATES {
             &some[..count]
         } else {
+            all.try_reserve_exact(count).map_err(|_| OutOfMemory)?;
             all.resize(count, 0);
             self.under(hash, &mut all);
             &all[..]
         };
         let key_at = |number: u32| records.get(number as usize).map(&self.key_of);
-        candidates.iter().copied().find(|number| key_at(*number).is_some_and(|filed| filed == *key))
+        Ok(candidates.iter().copied().find(|number| key_at(*number).is_some_and(|filed| filed == *key)))
     }
 
-    /// Takes the record that has the key out of the index, and returns its number.
-    pub fn remove(&mut self, records: &[T], key: &K) -> Option<u32> {
-        let number = self.find(records, key)?;
-        // SAFETY: the handle is open.
-        unsafe { raw::iddqd_index_remove(self.handle.get(), self.hasher.hash_one(key), number) };
-        Some(number)
+    /// Takes the record that has the key out of the index, and returns its number. It takes memory where `find` does.
+    pub fn remove(&mut self, records: &[T], key: &K) -> Result<Option<u32>, OutOfMemory> {
+        let found = self.find(records, key)?;
+        if let Some(number) = found {
+            // SAFETY: the handle is open.
+            unsafe { raw::iddqd_index_remove(self.handle.get(), self.hasher.hash_one(key), number) };
+        }
+        Ok(found)
     }
 
     // Writes the numbers under a hash as far as the buffer goes, and returns how many there are.

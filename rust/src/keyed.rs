@@ -1,7 +1,7 @@
 //! Items under two keys.
 
 use crate::raw::{self, Conflict, Handle, Row, DUPLICATE, FULL, MISSING, OK, SENTINEL, SMALL, UNSOUND};
-use crate::OutOfMemory;
+use crate::{NewError, OutOfMemory};
 use std::error::Error;
 use std::fmt;
 
@@ -74,13 +74,9 @@ pub struct Keyed(Handle);
 
 impl Keyed {
     /// Empty. Where strangers choose first keys, the seed is 16 bytes that they can't know; no answer depends on it.
-    pub fn new(seed1: u64, seed2: u64) -> Result<Keyed, OutOfMemory> {
-        let handle = Handle::zero();
+    pub fn new(seed1: u64, seed2: u64) -> Result<Keyed, NewError> {
         // SAFETY: the handle is zero.
-        match unsafe { raw::iddqd_keyed_new(handle.get(), seed1, seed2) } {
-            OK => Ok(Keyed(handle)),
-            _ => Err(OutOfMemory),
-        }
+        Handle::open(|handle| unsafe { raw::iddqd_keyed_new(handle, seed1, seed2) }).map(Keyed)
     }
 
     /// Inserts an item with a copy of the key, and returns its index.
@@ -108,19 +104,23 @@ impl Keyed {
         row_of(|row| unsafe { raw::iddqd_keyed_find2(self.0.get(), second, row) })
     }
 
-    /// The item with each of these first keys, looked up in one call. It copies the keys into one buffer.
-    pub fn find_many1<K: AsRef<[u8]>>(&self, firsts: &[K]) -> Vec<Option<Row>> {
-        let (mut bytes, mut ends) = (Vec::new(), Vec::with_capacity(firsts.len()));
-        for first in firsts {
-            bytes.extend_from_slice(first.as_ref());
+    /// The item with each of these first keys, looked up in one call. It takes memory for a copy of the keys and for
+    /// the rows.
+    pub fn find_many1<K: AsRef<[u8]>>(&self, firsts: &[K]) -> Result<Vec<Option<Row>>, OutOfMemory> {
+        let (mut bytes, mut ends) = (Vec::new(), with_room(firsts.len())?);
+        for first in firsts.iter().map(AsRef::as_ref) {
+            bytes.try_reserve(first.len()).map_err(|_| OutOfMemory)?;
+            bytes.extend_from_slice(first);
             ends.push(bytes.len());
         }
-        let mut rows = vec![Row { index: SENTINEL, ..Row::default() }; ends.len()];
+        let (mut rows, mut found) = (with_room(ends.len())?, with_room(ends.len())?);
+        rows.resize(ends.len(), Row { index: SENTINEL, ..Row::default() });
         let (keys, total, to, size) = (bytes.as_ptr(), bytes.len(), rows.as_mut_ptr(), rows.len());
         // SAFETY: the pointers are to `total` bytes, to as many ends as there are keys, and to `size` rows that nothing
         // else uses.
         unsafe { raw::iddqd_keyed_find_many1(self.0.get(), keys, total, ends.as_ptr(), ends.len(), to, size) };
-        rows.into_iter().map(|row| index_of(row.index).map(|_| row)).collect()
+        found.extend(rows.into_iter().map(|row| index_of(row.index).map(|_| row)));
+        Ok(found)
     }
 
     /// The item at an index.
@@ -130,7 +130,7 @@ impl Keyed {
     }
 
     /// The first key of the item at an index.
-    pub fn key(&self, index: u32) -> Option<Vec<u8>> {
+    pub fn key(&self, index: u32) -> Result<Option<Vec<u8>>, OutOfMemory> {
         let (mut key, mut len) = (Vec::new(), 0);
         let mut read = |key: &mut Vec<u8>| {
             let (to, size) = (key.as_mut_ptr(), key.len());
@@ -140,10 +140,11 @@ impl Keyed {
         };
         let (mut answer, len) = read(&mut key);
         if answer == SMALL {
+            key.try_reserve_exact(len).map_err(|_| OutOfMemory)?;
             key.resize(len, 0);
             (answer, _) = read(&mut key);
         }
-        (answer == OK).then_some(key)
+        Ok((answer == OK).then_some(key))
     }
 
     /// Makes room in the table for so many more items, or for as many as there can be. Memory for their first keys
@@ -236,14 +237,13 @@ impl Keyed {
         self.len() == 0
     }
 
-    /// Moves the items down in the order of their indexes, so that these are 0, 1 and so on. Returns the new index of each
-    /// old one, `None` for one that no item had. If memory runs out, nothing changes.
+    /// Moves the items down in the order of their indexes, so that these are 0, 1 and so on. Returns the new index of
+    /// each old one, `None` for one that no item had. If memory runs out, nothing changes.
     pub fn compact(&mut self) -> Result<Vec<Option<u32>>, OutOfMemory> {
         let (mut indexes, mut new) = (Vec::new(), Vec::new());
         let mut count = 0;
         if self.compact_into(&mut indexes, &mut count) == SMALL {
-            indexes.try_reserve_exact(count).map_err(|_| OutOfMemory)?;
-            new.try_reserve_exact(count).map_err(|_| OutOfMemory)?;
+            (indexes, new) = (with_room(count)?, with_room(count)?);
             indexes.resize(count, SENTINEL);
             if self.compact_into(&mut indexes, &mut count) != OK {
                 return Err(OutOfMemory);
@@ -323,6 +323,13 @@ impl Iterator for Range<'_> {
 fn row_of(function: impl FnOnce(*mut Row) -> u32) -> Option<Row> {
     let mut row = Row::default();
     (function(&mut row) == OK).then_some(row)
+}
+
+// An empty list with room for so many.
+fn with_room<T>(count: usize) -> Result<Vec<T>, OutOfMemory> {
+    let mut list = Vec::new();
+    list.try_reserve_exact(count).map_err(|_| OutOfMemory)?;
+    Ok(list)
 }
 
 fn index_of(number: u32) -> Option<u32> {

@@ -2,7 +2,8 @@
 //!
 //! [`Keyed`] has items under a key of bytes and a number. [`Index`] finds records of any type, in memory of the
 //! caller's own, by the hash of their keys. Both are safe wrappers over the functions of `iddqd.h`, and their own code
-//! isn't proved: it keeps the duties that the header lists. Neither type is `Send` nor `Sync`.
+//! isn't proved: it keeps the duties that `iddqd_codes.h` lists. Neither type is `Send` nor `Sync`. A call that runs
+//! out of memory returns an error and doesn't abort.
 //!
 //! ```
 //! use iddqd_proved::{InsertError, Keyed};
@@ -29,6 +30,30 @@ pub use raw::Row;
 
 use std::error::Error;
 use std::fmt;
+
+/// Why no table was made.
+#[derive(Clone, Copy, Debug, PartialEq, Eq)]
+pub enum NewError {
+    /// Memory ran out.
+    Memory,
+    /// The library that is linked has this version, and the crate was written for another one.
+    Version(u32),
+}
+
+impl fmt::Display for NewError {
+    fn fmt(&self, f: &mut fmt::Formatter<'_>) -> fmt::Result {
+        match self {
+            NewError::Memory => f.write_str("no memory"),
+            NewError::Version(linked) => write!(
+                f,
+                "libiddqd has the version {linked}, and iddqd-proved is for {}: take both from one run of tools/c-library",
+                raw::VERSION
+            ),
+        }
+    }
+}
+
+impl Error for NewError {}
 
 /// Memory ran out. What was there stayed.
 #[derive(Clone, Copy, Debug, PartialEq, Eq)]

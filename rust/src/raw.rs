@@ -1,7 +1,11 @@
 //! The functions of `iddqd.h`.
 
+use crate::NewError;
 use std::cell::UnsafeCell;
 use std::ptr::null_mut;
+
+/// The version of `iddqd.h` whose functions this file declares: its `IDDQD_VERSION`.
+pub(crate) const VERSION: u32 = 1;
 
 /// What the functions return.
 pub(crate) const OK: u32 = 0;
@@ -39,14 +43,28 @@ pub(crate) struct Table {
     state: u64,
 }
 
+/// The version of the library that is linked.
+pub(crate) fn version() -> u32 {
+    // SAFETY: of all versions this function takes nothing and returns a number.
+    unsafe { iddqd_version() }
+}
+
 /// A handle. Its pointer makes what holds it neither `Send` nor `Sync`, and no function calls back: so of a shared
 /// reference too there is one call at a time.
 pub(crate) struct Handle(UnsafeCell<Table>);
 
 impl Handle {
-    /// A handle that is zero.
-    pub(crate) fn zero() -> Handle {
-        Handle(UnsafeCell::new(Table { at: null_mut(), state: 0 }))
+    /// A handle that a function opened: the first call on each table, so no other one is made of a library of another
+    /// version.
+    pub(crate) fn open(function: impl FnOnce(*mut Table) -> u32) -> Result<Handle, NewError> {
+        if version() != VERSION {
+            return Err(NewError::Version(version()));
+        }
+        let handle = Handle(UnsafeCell::new(Table { at: null_mut(), state: 0 }));
+        match function(handle.get()) {
+            OK => Ok(handle),
+            _ => Err(NewError::Memory),
+        }
     }
 
     /// For one call.
@@ -57,12 +75,13 @@ impl Handle {
 
 impl Drop for Handle {
     fn drop(&mut self) {
-        // SAFETY: the handle was made by `zero`, and only these functions write it.
+        // SAFETY: the handle was zero when `open` made it, and only these functions write it.
         unsafe { iddqd_free(self.get()) }
     }
 }
 
 unsafe extern "C" {
+    fn iddqd_version() -> u32;
     fn iddqd_free(table: *mut Table);
 
     pub(crate) fn iddqd_keyed_new(table: *mut Table, seed1: u64, seed2: u64) -> u32;

@@ -2,6 +2,8 @@
 
 use iddqd_proved::{Index, InsertError, Keyed, ReplaceError, Row};
 use std::collections::{BTreeMap, HashMap};
+use std::hash::{BuildHasherDefault, Hasher};
+use std::time::{Duration, Instant};
 
 const ITEMS: u64 = 100_000;
 
@@ -66,9 +68,9 @@ fn a_key_comes_back_and_room_is_made() {
     assert!(items.room() >= 100);
     for key in [&b""[..], b"a", &[0; 10_000]] {
         let index = items.insert(key, key.len() as u64, 0).unwrap();
-        assert_eq!(items.key(index).as_deref(), Some(key));
+        assert_eq!(items.key(index).unwrap().as_deref(), Some(key));
     }
-    assert_eq!(items.key(3), None);
+    assert_eq!(items.key(3), Ok(None));
 }
 
 #[test]
@@ -94,10 +96,10 @@ fn first_keys_are_found_in_one_call() {
         items.insert(&b"x".repeat(number as usize), number, number).unwrap();
     }
     let firsts: Vec<_> = (0..200).rev().map(|number| b"x".repeat(number)).collect();
-    let rows = items.find_many1(&firsts);
+    let rows = items.find_many1(&firsts).unwrap();
     assert_eq!(rows, firsts.iter().map(|first| items.find1(first)).collect::<Vec<_>>());
     assert_eq!(rows.iter().flatten().count(), 100);
-    assert_eq!(items.find_many1::<&[u8]>(&[]), []);
+    assert_eq!(items.find_many1::<&[u8]>(&[]), Ok(vec![]));
 }
 
 #[test]
@@ -132,9 +134,44 @@ fn an_index_finds_records_by_keys_of_any_type() {
         assert_eq!(by_name.insert(&people, at), Ok(false));
     }
     for (at, person) in people.iter().enumerate() {
-        assert_eq!(by_name.find(&people, &person.0), Some(at as u32));
+        assert_eq!(by_name.find(&people, &person.0), Ok(Some(at as u32)));
     }
-    assert_eq!(by_name.remove(&people, &people[7].0), Some(7));
-    assert_eq!(by_name.find(&people, &people[7].0), None);
+    assert_eq!(by_name.remove(&people, &people[7].0), Ok(Some(7)));
+    assert_eq!(by_name.remove(&people, &people[7].0), Ok(None));
+    assert_eq!(by_name.find(&people, &people[7].0), Ok(None));
     assert_eq!(by_name.len(), people.len() - 1);
+}
+
+/// The hash of a number is the number itself.
+#[derive(Default)]
+struct Identity(u64);
+
+impl Hasher for Identity {
+    fn finish(&self) -> u64 {
+        self.0
+    }
+
+    fn write(&mut self, _: &[u8]) {
+        unreachable!("only u64 is hashed");
+    }
+
+    fn write_u64(&mut self, number: u64) {
+        self.0 = number;
+    }
+}
+
+// If ids beside each other got places beside each other, this would take a minute.
+#[test]
+fn ids_without_a_gap_are_found_fast_under_their_own_hash() {
+    let began = Instant::now();
+    let ids: Vec<u64> = (0..ITEMS).collect();
+    let mut by_id = Index::with_hasher(|id: &u64| *id, BuildHasherDefault::<Identity>::default()).unwrap();
+    for at in 0..ids.len() as u32 {
+        assert_eq!(by_id.insert(&ids, at), Ok(true));
+    }
+    for (at, id) in ids.iter().enumerate() {
+        assert_eq!(by_id.find(&ids, id), Ok(Some(at as u32)));
+        assert_eq!(by_id.find(&ids, &(id + ITEMS)), Ok(None));
+    }
+    assert!(began.elapsed() < Duration::from_secs(20));
 }

@@ -1,4 +1,5 @@
 /* Both libraries in one program: a handle of one that is cast to the other's is refused and stays as it was. */
+#include "iddqd.h"
 #include "iddqd_multi.h"
 
 #include <stdio.h>

@@ -5,6 +5,7 @@
 #include <stdio.h>
 #include <stdlib.h>
 #include <string.h>
+#include <time.h>
 
 #define CHECK(holds) \
     do { \
@@ -14,7 +15,7 @@
         } \
     } while (0)
 
-enum { PERSONS = 20000, SAME = 1000 };
+enum { PERSONS = 20000, SAME = 1000, DENSE = 100000 };
 
 static char names[PERSONS][16];
 
@@ -85,6 +86,29 @@ static void check_group(void) {
     iddqd_free(&table);
 }
 
+/* Ids without a gap, each its own hash, as libstdc++ hashes integers: a call takes no longer than under other hashes. If
+ * ids beside each other got places beside each other, the calls here would take some 30 seconds of the processor. */
+static void check_dense(void) {
+    const clock_t began = clock();
+    iddqd_table by_id = IDDQD_NONE;
+    uint32_t at;
+    size_t count;
+    CHECK(iddqd_index_new(&by_id) == IDDQD_OK);
+    for (uint32_t id = 0; id < DENSE; id++) {
+        CHECK(iddqd_index_insert(&by_id, id, ~id) == IDDQD_OK);
+    }
+    for (uint32_t id = 0; id < DENSE; id++) {
+        CHECK(iddqd_index_under(&by_id, id, &at, 1, &count) == IDDQD_OK && count == 1 && at == ~id);
+        CHECK(iddqd_index_under(&by_id, (uint64_t)id + DENSE, &at, 1, &count) == IDDQD_OK && count == 0);
+    }
+    for (uint32_t id = 0; id < DENSE; id++) {
+        CHECK(iddqd_index_remove(&by_id, id, ~id) == IDDQD_OK);
+    }
+    CHECK(iddqd_index_len(&by_id, &count) == IDDQD_OK && count == 0);
+    CHECK((clock() - began) / CLOCKS_PER_SEC < 10);
+    iddqd_free(&by_id);
+}
+
 /* Every function returns HANDLE on a handle without an index, and writes nothing. */
 static void check_no_index(iddqd_table *table) {
     uint32_t at = 77;
@@ -115,6 +139,7 @@ int main(void) {
     check_handles();
     check_group();
     check_persons();
+    check_dense();
     puts("index: ok");
     return 0;
 }

@@ -18,6 +18,8 @@
 enum { RECORDS = 100000, LONG_KEY = 1000000 };
 
 static const iddqd_row NO_ROW = { 77, 77, 77 };
+/* The row of a key that is looked up with others and missing. */
+static const iddqd_row MISSED = { 0, 0, IDDQD_SENTINEL };
 static const iddqd_conflict NO_CONFLICT = { 77, 77 };
 
 static int same_row(const iddqd_row *left, const iddqd_row *right) {
@@ -81,6 +83,18 @@ static void check_handles(void) {
     iddqd_free(&table);
     check_no_table(&table);
     iddqd_free(&table);
+    /* A handle may be moved, if its old place is forgotten. */
+    CHECK(iddqd_keyed_new(&table, 1, 2) == IDDQD_OK);
+    CHECK(iddqd_keyed_insert(&table, bytes("a"), 1, 1, 1, &index, &conflict) == IDDQD_OK);
+    iddqd_table *moved = malloc(sizeof *moved);
+    CHECK(moved != NULL);
+    memcpy(moved, &table, sizeof table);
+    memset(&table, 0, sizeof table);
+    CHECK(iddqd_keyed_insert(moved, bytes("b"), 1, 2, 2, &index, &conflict) == IDDQD_OK && index == 1);
+    CHECK(iddqd_keyed_len(moved, &count) == IDDQD_OK && count == 2);
+    iddqd_free(moved);
+    check_no_table(moved);
+    free(moved);
     /* A closed handle can be opened again. */
     CHECK(iddqd_keyed_new(&table, 1, 2) == IDDQD_OK);
     CHECK(iddqd_keyed_len(&table, &count) == IDDQD_OK && count == 0);
@@ -187,7 +201,7 @@ static void check_keys_at_once(void) {
     CHECK(iddqd_keyed_find_many(&table, seconds, 3, rows, 2) == IDDQD_SMALL && same_row(&rows[0], &NO_ROW));
     CHECK(iddqd_keyed_find_many(&table, seconds, 3, rows, 4) == IDDQD_OK);
     CHECK(rows[0].index == 4 && rows[0].second == 40 && rows[0].value == 4);
-    CHECK(rows[1].index == IDDQD_SENTINEL);
+    CHECK(same_row(&rows[1], &MISSED));
     CHECK(rows[2].index == 1 && rows[2].second == 10 && rows[2].value == 1 && same_row(&rows[3], &NO_ROW));
     CHECK(iddqd_keyed_find_many(&table, seconds, 0, rows, 0) == IDDQD_OK);
     iddqd_free(&table);
@@ -210,8 +224,8 @@ static void check_first_keys_at_once(void) {
     CHECK(iddqd_keyed_find_many1(&table, keys, 6, ends, 7, rows, 6) == IDDQD_SMALL && same_row(&rows[0], &NO_ROW));
     CHECK(iddqd_keyed_find_many1(&table, keys, 6, ends, 7, rows, 8) == IDDQD_OK && same_row(&rows[7], &NO_ROW));
     for (size_t i = 0; i < 7; i++) {
-        CHECK(rows[i].index == found[i]);
-        CHECK(found[i] == IDDQD_SENTINEL || (rows[i].second == 70 + found[i] && rows[i].value == 100 + found[i]));
+        const iddqd_row row = { 70 + (uint64_t)found[i], 100 + (uint64_t)found[i], found[i] };
+        CHECK(same_row(&rows[i], found[i] == IDDQD_SENTINEL ? &MISSED : &row));
     }
     CHECK(iddqd_keyed_find_many1(&table, keys, 0, ends, 0, rows, 0) == IDDQD_OK);
     iddqd_free(&table);

@@ -112,11 +112,50 @@ static int is_refused_at(long at) {
     return refused;
 }
 
+/* The same of an index. After a removal or a clear an insert takes no memory, and neither does any other call. */
+static int is_index_refused_at(long at) {
+    iddqd_table table = IDDQD_NONE;
+    int refused = 0;
+    size_t count;
+    before_refusal = at;
+    uint32_t answer = iddqd_index_new(&table);
+    if (answer != IDDQD_OK) {
+        CHECK(answer == IDDQD_MEMORY && table.at == NULL && table.state == 0);
+        refused++;
+        CHECK(iddqd_index_new(&table) == IDDQD_OK);
+    }
+    for (uint32_t i = 0; i < ITEMS; i++) {
+        answer = iddqd_index_insert(&table, i, i);
+        if (answer != IDDQD_OK) {
+            CHECK(answer == IDDQD_MEMORY && iddqd_index_len(&table, &count) == IDDQD_OK && count == i);
+            refused++;
+            CHECK(iddqd_index_insert(&table, i, i) == IDDQD_OK);
+        }
+    }
+    before_refusal = 0;
+    for (uint32_t i = 0; i < ITEMS; i++) {
+        CHECK(iddqd_index_remove(&table, i, i) == IDDQD_OK && iddqd_index_remove(&table, i, i) == IDDQD_MISSING);
+        CHECK(iddqd_index_insert(&table, ITEMS + i, i) == IDDQD_OK);
+    }
+    CHECK(iddqd_index_clear(&table) == IDDQD_OK);
+    for (uint32_t i = 0; i < ITEMS; i++) {
+        CHECK(iddqd_index_insert(&table, 2 * i, i) == IDDQD_OK);
+    }
+    CHECK(before_refusal == 0);
+    iddqd_free(&table);
+    CHECK(held == 0);
+    CHECK(refused <= 1);
+    return refused;
+}
+
 int main(void) {
-    long refusals = 0;
+    long refusals = 0, of_index = 0;
     while (is_refused_at(refusals)) {
         refusals++;
     }
-    printf("refused: ok, %ld allocations\n", refusals);
-    return refusals > ITEMS ? 0 : 1;
+    while (is_index_refused_at(of_index)) {
+        of_index++;
+    }
+    printf("refused: ok, %ld allocations, %ld of an index\n", refusals, of_index);
+    return refusals > ITEMS && of_index > 1 ? 0 : 1;
 }

@@ -131,8 +131,7 @@ where
 /// The indexes whose items are between two bounds, in the order of the keys: none if the lower bound is above the upper
 /// one. If the list isn't sorted, the result is some consecutive part of it, whatever the keys there are.
 ///
-/// It is one search of the table for each bound that there is, of 4 + 2d comparisons at most, as `find`. It takes no
-/// memory.
+/// It is one search of the table for each bound that there is, as `find` is one. It takes no memory.
 pub fn range<'t, T, E, Q>(
     table: &'t MapBTreeTable,
     items: &ItemSet<T>,

@@ -29,8 +29,8 @@ use std::ops::Bound;
 
 /// The first index whose item's key is within the bounds, by key and then by index, with its spot.
 ///
-/// It is one search of the table by the lower bound, of 4 + 2d comparisons at most, as `ordered::find`, and one
-/// comparison by the upper bound. It takes no memory.
+/// It is one search of the table by the lower bound, as `ordered::find` is one, and one comparison by the upper bound.
+/// It takes no memory.
 pub fn first_between<T, E, Q>(
     table: &MapBTreeTable,
     items: &ItemSet<T>,

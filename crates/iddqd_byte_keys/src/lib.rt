@@ -10,7 +10,10 @@ ghost use Rattle.std.specs.Cmp.{on_equiv, partial_equiv_from_equiv};
 ghost use Rattle.std.specs.Cmp.Lexicographic.{bytes_decides, nat_list_eq_equiv};
 ghost use Rattle.std.specs.Str.{bytes_eq};
 
+mod seed;
+
 use iddqd_keys::hash_query::HashQuery;
+pub use seed::Seed;
 use std::hash::{Hash, Hasher};
 
 /// A key: any bytes.

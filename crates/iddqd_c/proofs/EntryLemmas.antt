@@ -1,6 +1,6 @@
 -- What the functions on entries answer, from what the calls that they make answer.
 use Rattle.std.proofs.Common.{◌≡◌, ◌∙◌, ℕ, Bool, true, false, Option, Some, None, Err, inl, inr, List, IfSome, IsSome, is_some, true≢false, refl, sym, subst, arith}
-use Rattle.iddqd.specs.Store.{Store}
+use Rattle.iddqd.specs.Store.{IsFull, Store}
 use Rattle.iddqd_keys.specs.Scan.{AnswersScan, IsHit, IsLive}
 use Rattle.iddqd_driver.specs.Keys.{Keys}
 use Rattle.iddqd_driver.specs.State.{State, IsPaired}
@@ -61,15 +61,25 @@ module _ {S K1 : Type 0} (keys : Keys Entry K1 ℕ S) where
         (subst (λ (r : Option ℕ × Option ℕ). IsInSync (second_key_index keys) s → AnswersScan s.store (has (second_key_index keys) (keys.second entry)) r.1) (sym (reports entry)) second_looked.as_scan)
         (refuses entry)
 
-    -- both look-ups missed, and memory ran out
+    -- both look-ups missed, and the store is full
+    pub finds_full :
+        LooksUpBy (first_key_index keys) s test None
+        → LooksUp (second_key_index keys) s second None
+        → IsFull s.store
+        → RefusesEntry keys bytes second value Full s s
+    finds_full looked1 looked2 full = refuses_each None None Full looked1 looked2 (λ _. refl) (λ _. (refl, full))
+
+    -- both look-ups missed, the store isn't full, and memory ran out
     pub runs_out :
         LooksUpBy (first_key_index keys) s test None
         → LooksUp (second_key_index keys) s second None
+        → (IsFull s.store → ⊥)
         → RunsOut keys bytes second value s s
-    runs_out looked1 looked2 = record {
+    runs_out looked1 looked2 room = record {
+      not_full = room;
       first_missed = λ entry has. looked1.as_key (keys.first entry) (stands.passes entry has);
       second_missed = looked2.found;
-      step = λ room. refuses_each None None Memory looked1 looked2 (λ _. refl) (λ _. (refl, room));
+      step = refuses_each None None Memory looked1 looked2 (λ _. refl) (λ _. (refl, room));
       contents = refl;
     }
 
@@ -95,10 +105,16 @@ module _ {S K1 : Type 0} (keys : Keys Entry K1 ℕ S) where
           let each = refuses_each first other (λ e. Duplicate e first other) looked_first looked (λ _. refl) (λ _. (refl, inserts.refused.1)) in
           inr (inl (says.0, (first, other, says.1, says.2, each), λ i. record { state = s; memory = stays (λ out. out) i }))
       refused memory memory' code index conflict (Full back) says inserts reports stays =
-          let each = refuses_each None None Full looked1 looked2 (λ _. refl) (λ _. (refl, inserts.refused.1)) in
-          inr (inr (inl (says, each, λ i. record { state = s; memory = stays (λ out. out) i })))
+          let full = inserts.refused.1 in
+          inr (inr (inl (
+            says,
+            full,
+            finds_full looked1 looked2 full,
+            λ i. record
+                { state = s; memory = stays (λ out. out) i },
+          )))
       refused memory memory' code index conflict (Memory back) says inserts reports stays =
-          inr (inr (inr (says, runs_out looked1 looked2)))
+          inr (inr (inr (says, runs_out looked1 looked2 inserts.refused.1)))
 
       -- the same of the state that is seen
       pub refused_by :

@@ -6,3 +6,5 @@ pub mod CallLemmas
 pub mod ManyLemmas
 pub mod ReplacingLemmas
 pub mod CompactingLemmas
+mod MixingLemmas
+mod FilingLemmas

@@ -12,10 +12,9 @@ use Rattle.iddqd_driver.specs.Keys.{Keys, keys_of}
 use Rattle.iddqd_byte_keys.specs.contracts.ByteKeyHash.TheImpl as hash
 use Rattle.iddqd_byte_keys.specs.contracts.ByteKeyPartialEq.TheImpl as equality
 use Rattle.iddqd_byte_keys.specs.declared.ByteKey.{ByteKey}
-use Rattle.iddqd.specs.Store.{sentinel}
 use Rattle.iddqd_codes.specs.declared.TheConstants.{OK}
 use Rattle.iddqd_c.specs.Entries.{spans}
-use Rattle.iddqd_c.specs.Rows.{AreAlike, ReportsRow, SaysRow}
+use Rattle.iddqd_c.specs.Rows.{AreAlike, ReportsRow, SaysRow, no_row}
 use Rattle.iddqd_c.specs.contracts.entry.EntryKeyedItem.TheImpl as entry
 use Rattle.iddqd_c.specs.declared.entry.Entry.{Entry}
 use Rattle.iddqd_c.specs.declared.entry.Row.{Row}
@@ -28,10 +27,10 @@ entry_keys =
 -- the code of a report and what it writes say in a row alone which entry was found, if the row said none before
 pub reported :
     (code : ℕ) (row was : Row) (found : Option (ℕ × Entry)) → SaysRow code row found → (code ≢ OK → row ≡ was)
-    → was.index ≡ sentinel → ReportsRow row found
+    → was ≡ no_row → ReportsRow row found
 reported code row was (Some (ix, entry)) says kept none = says.1
 reported code row was None says kept none =
-    ap (λ (r : Row). r.index) (kept (λ ok. absurd (omega (arith, ok, says)))) ∙ none
+    kept (λ ok. absurd (omega (arith, ok, says))) ∙ none
 
 pub length-spans : (ends : List ℕ) → length (spans ends) ≡ length ends
 length-spans ends = omega (arith, length-zip (0 ∷ ends) ends)

@@ -4,7 +4,7 @@ use Rattle.std.specs.List.{slice_range, zip}
 use Rattle.std.specs.Ordering.{nat_cmp}
 use Rattle.std.specs.declared.ops.Bound.TheVariants.{Included, Unbounded}
 use Rattle.std.specs.declared.alloc.AllocError.{AllocError}
-use Rattle.iddqd.specs.Store.{get, live_count, sentinel, IsFull}
+use Rattle.iddqd.specs.Store.{get, live_count, IsFull}
 use Rattle.iddqd_keys.specs.OrderedQuery.{is_within}
 use Rattle.iddqd_keys.specs.Scan.{IsLive}
 use Rattle.iddqd_driver.specs.Keys.{Keys}
@@ -24,7 +24,7 @@ use Rattle.iddqd_codes.specs.declared.TheConstants.{OK, MISSING, DUPLICATE, FULL
 use Rattle.iddqd_c.specs.declared.entry.Conflict.{Conflict}
 use Rattle.iddqd_c.specs.declared.entry.Entry.{Entry}
 use Rattle.iddqd_c.specs.declared.entry.Row.{Row}
-use Rattle.iddqd_c.specs.Rows.{AreAlike, CopiesBytes, SaysRow, ReportsRow, entry_at, entry_found, number_of, FillsRows}
+use Rattle.iddqd_c.specs.Rows.{AreAlike, CopiesBytes, SaysRow, ReportsRow, entry_at, entry_found, no_row, number_of, FillsRows}
 
 -- the entry's first key has these bytes
 abbrev pub HasBytes : List ℕ → Entry → Type 0
@@ -112,7 +112,7 @@ module _ {S K1 : Type 0} (keys : Keys Entry K1 ℕ S) where
   abbrev pub AnswersSpan : SizedState Entry S → List ℕ → ℕ × ℕ → Row → Type 0
   AnswersSpan k bytes (start, end) row =
       (HasSpan bytes start end × AnswersFirst k (slice_range bytes start end) row)
-      ⊎ ((HasSpan bytes start end → ⊥) × (row.index ≡ sentinel))
+      ⊎ ((HasSpan bytes start end → ⊥) × (row ≡ no_row))
 
   -- What a look-up of many first keys answers, whose bytes stand one after the other and end at these offsets: `SMALL`,
   -- if the buffer has fewer places than there are keys.
@@ -190,21 +190,23 @@ module _ {S K1 : Type 0} (keys : Keys Entry K1 ℕ S) where
         × (conflict.second ≡ number_of other)
         × RefusesEntry (λ entry. Duplicate entry first other) old new
 
-    -- Memory ran out: no item has one of the keys, as far as look-ups find it. Where the store isn't full, that is a
-    -- step of the machine. Where it is full, the copy of the first key was refused before the store was asked.
+    -- Memory ran out: the store isn't full, and no item has one of the keys, as far as look-ups find it. That is a step
+    -- of the machine.
     pub record RunsOut (old new : State Entry S) : Type 0 where
       pub first_missed :
           (entry : Entry) → HasBytes bytes entry → (first_key_index keys).Finds old (keys.first entry) None
       pub second_missed : (second_key_index keys).Finds old second None
-      pub step : (IsFull old.store → ⊥) → RefusesEntry Memory old new
+      pub not_full : IsFull old.store → ⊥
+      pub step : RefusesEntry Memory old new
       pub contents : new ≡ old
 
-    -- what an insert answers and leaves, by its code
+    -- What an insert answers and leaves, by its code. A duplicate is reported before a full table, and both before
+    -- memory is asked for.
     abbrev pub InsertsAt : ℕ → ℕ → Conflict → SizedState Entry S → SizedState Entry S → Type 0
     InsertsAt code at conflict old new =
         ((code ≡ OK) × StoresEntry at old.state new.state)
         ⊎ ((code ≡ DUPLICATE) × ReportsConflict conflict old.state new.state × (new ≡ old))
-        ⊎ ((code ≡ FULL) × RefusesEntry Full old.state new.state × (new ≡ old))
+        ⊎ ((code ≡ FULL) × IsFull old.state.store × RefusesEntry Full old.state new.state × (new ≡ old))
         ⊎ ((code ≡ MEMORY) × RunsOut old.state new.state)
 
     -- What an insert that is done and a look-up of its first key answer and leave: a run of the machine over these two

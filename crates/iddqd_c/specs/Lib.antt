@@ -5,3 +5,4 @@ pub mod Entries
 pub mod Replacing
 pub mod Compacting
 pub mod Numbers
+pub mod Mixing

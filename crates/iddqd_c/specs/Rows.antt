@@ -24,10 +24,14 @@ abbrev pub SaysRow : ℕ → Row → Option (ℕ × Entry) → Type 0
 SaysRow code row (Some (ix, entry)) = (code ≡ OK) × (row ≡ row_of ix entry)
 SaysRow code row None = code ≡ MISSING
 
--- the row says which entry it is: its row, or one whose index is `SENTINEL` for none
+-- the row for no entry: its index is `SENTINEL`
+abbrev pub no_row : Row
+no_row = record { second = 0; value = 0; index = sentinel }
+
+-- the row says which entry it is: its row, or the one for none
 abbrev pub ReportsRow : Row → Option (ℕ × Entry) → Type 0
 ReportsRow row (Some (ix, entry)) = row ≡ row_of ix entry
-ReportsRow row None = row.index ≡ sentinel
+ReportsRow row None = row ≡ no_row
 
 -- an index that may be none, as a number: `SENTINEL` is none
 abbrev pub number_of : Option ℕ → ℕ

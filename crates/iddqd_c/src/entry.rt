@@ -1,6 +1,6 @@
 //! What keyed items are, and how they cross to C.
 ghost use Rattle.std.specs.Prelude.{◌≡◌};
-ghost use Rattle.iddqd_c.specs.Rows.{row_of};
+ghost use Rattle.iddqd_c.specs.Rows.{no_row, row_of};
 
 use iddqd::item_index::ItemIndex;
 use iddqd_byte_keys::ByteKey;
@@ -56,6 +56,17 @@ impl Row {
             second: entry.second,
             value: entry.value,
             index: ix.as_u32(),
+        }
+    }
+
+    /// The row for no entry: its index is `SENTINEL`.
+    pub fn none() -> Row
+        ensures { result ≡ no_row }
+    {
+        Row {
+            second: 0,
+            value: 0,
+            index: ItemIndex::SENTINEL.as_u32(),
         }
     }
 }

@@ -1,8 +1,9 @@
 //! A table behind a pointer that C keeps.
 //!
 //! `seal`, `unseal`, `empty` and `close` are the only functions that touch the pointer; the first three have proofs by
-//! hand. A handle isn't `Drop`, so no function can forget a table: only `close` drops a handle, and requires that it
-//! is empty.
+//! hand. A handle isn't `Drop`, so none is dropped with a table in it: only `close` drops a handle, and requires that
+//! it is empty. The box that `take` hands out can be forgotten, which no clause refuses: the tests of `tests/exports`
+//! count blocks.
 //!
 //! What always holds:
 //! 1. `fits`: the state is `OPEN` if and only if the handle owns a table. A handle of another library has another

@@ -2,16 +2,15 @@
 //!
 //! A caller keeps records of any type in memory of its own, and computes their hashes. It gets the numbers under a hash
 //! and compares their records itself, so no function here calls back.
-ghost use Rattle.std.specs.Prelude.{◌≡◌, ◌≢◌, ◌⊎◌, ◌↔◌, ◌<◌, ◌≤◌, [], Some, length, slice_set};
-ghost use Rattle.iddqd_hash.specs.HashTable.{entries};
+ghost use Rattle.std.specs.Prelude.{◌≡◌, ◌≢◌, ◌⊎◌, ◌↔◌, ◌<◌, ◌≤◌, Some, length, slice_set};
 ghost use Rattle.iddqd_codes.specs.declared.TheConstants.{OK, MEMORY, HANDLE};
 ghost use Rattle.iddqd_c.specs.Held.{ReadsIndex, ChangesIndex, HoldsIndex};
-ghost use Rattle.iddqd_c.specs.Numbers.{Files, Unfiles, ListsUnder, CountsPairs, ClearsPairs};
+ghost use Rattle.iddqd_c.specs.Numbers.{IsNew, Files, Unfiles, ListsUnder, CountsPairs, ClearsPairs};
 
 use crate::handle::{CTable, make, put, take};
+use crate::numbers::Numbers;
 use crate::table::Table;
-use iddqd_codes::{HANDLE, MEMORY, MISSING, OK};
-use iddqd_hash::open_table::OpenHashTable;
+use iddqd_codes::{HANDLE, OK};
 use std::alloc::Global;
 
 /// Makes an empty index, where the handle is zero.
@@ -19,11 +18,11 @@ use std::alloc::Global;
 pub extern "C" fn iddqd_index_new(t: &mut CTable, alloc: Global) -> u32
     ensures codes { (result ≡ OK) ⊎ (result ≡ MEMORY) ⊎ (result ≡ HANDLE) }
     ensures handle { (result ≡ HANDLE) ↔ (t.old.state ≢ 0) }
-    ensures made { result ≡ OK → HoldsIndex (λ table. entries table ≡ []) t.new.handle.value }
+    ensures made { result ≡ OK → HoldsIndex IsNew t.new.handle.value }
     ensures open { result ≡ OK → t.new.state ≡ 1 }
     ensures kept { result ≢ OK → t.new ≡ t.old }
 {
-    make(t, alloc, Table::Index(OpenHashTable::new(alloc)))
+    make(t, alloc, Table::Index(Numbers::new(alloc)))
 }
 
 /// Files a number under a hash. It doesn't ask whether it is filed there already.
@@ -46,19 +45,9 @@ fn insert(table: &mut Table, hash: u64, number: u32) -> u32
     ensures files { ChangesIndex (Files hash number result) (Some table.old) result (Some table.new) }
 {
     match table {
-        Table::Index(numbers) => file(numbers, hash, number),
+        Table::Index(numbers) => numbers.file(hash, number),
         Table::Keyed(_) => HANDLE,
     }
-}
-
-fn file(numbers: &mut OpenHashTable<u32>, hash: u64, number: u32) -> u32
-    ensures { Files hash number result numbers.old numbers.new }
-{
-    if numbers.try_reserve(1).is_err() {
-        return MEMORY;
-    }
-    numbers.insert_unique(hash, number);
-    OK
 }
 
 /// Removes a number that is filed under a hash, once.
@@ -81,20 +70,8 @@ fn remove(table: &mut Table, hash: u64, number: u32) -> u32
     ensures unfiles { ChangesIndex (Unfiles hash number result) (Some table.old) result (Some table.new) }
 {
     match table {
-        Table::Index(numbers) => unfile(numbers, hash, number),
+        Table::Index(numbers) => numbers.unfile(hash, number),
         Table::Keyed(_) => HANDLE,
-    }
-}
-
-fn unfile(numbers: &mut OpenHashTable<u32>, hash: u64, number: u32) -> u32
-    ensures { Unfiles hash number result numbers.old numbers.new }
-{
-    match numbers.find_entry(hash, |filed| *filed == number) {
-        Ok(entry) => {
-            entry.remove();
-            OK
-        }
-        Err(()) => MISSING,
     }
 }
 
@@ -138,10 +115,10 @@ fn under(table: &Table, hash: u64, numbers: &mut [u32], count: &mut usize) -> u3
 }
 
 // Writes the numbers under a hash as far as the buffer goes, and returns how many there are.
-fn list(filed: &OpenHashTable<u32>, hash: u64, numbers: &mut [u32]) -> usize
+fn list(filed: &Numbers, hash: u64, numbers: &mut [u32]) -> usize
     ensures { ListsUnder hash OK result numbers.old numbers.new filed.now }
 {
-    let mut found = filed.iter_hash(hash);
+    let mut found = filed.under(hash);
     for at in 0..filed.len() {
         match found.next() {
             Some(number) => write(numbers, at, *number),

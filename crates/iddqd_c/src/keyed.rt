@@ -26,12 +26,11 @@ mod values;
 use crate::entry::Entries;
 use crate::handle::{CTable, make, put, take};
 use crate::table::Table;
+use iddqd_byte_keys::Seed;
 use iddqd_codes::{HANDLE, MEMORY, OK};
 use iddqd_driver::keyed_items::{Keyed, KeyedItems};
 use std::alloc::Global;
 use std::hash::RandomState;
-use std::io;
-use std::random::RandomSource;
 
 /// Makes an empty table of keyed items, where the handle is zero.
 ///
@@ -50,23 +49,6 @@ pub extern "C" fn iddqd_keyed_new(t: &mut CTable, alloc: Global, seed1: u64, see
         return if t.state == 0 { MEMORY } else { HANDLE };
     };
     make(t, alloc, Table::Keyed(KeyedItems::new(alloc, hasher)))
-}
-
-// The seed as the source of random bytes that a `RandomState` asks for.
-#[derive(Clone, Copy)]
-struct Seed {
-    seed1: u64,
-    seed2: u64,
-}
-
-impl RandomSource for Seed {
-    fn fill_bytes(&self, buf: &mut [u8]) -> io::Result<()> {
-        let seed = (self.seed1 as u128) << 64 | self.seed2 as u128;
-        for (place, byte) in buf.iter_mut().zip(seed.to_le_bytes()) {
-            *place = byte;
-        }
-        Ok(())
-    }
 }
 
 /// The number of items.

@@ -16,5 +16,6 @@ mod entry;
 mod handle;
 mod index;
 mod keyed;
+mod numbers;
 mod table;
 mod version;

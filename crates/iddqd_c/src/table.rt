@@ -1,6 +1,6 @@
 //! What a handle may hold.
 use crate::entry::Entries;
-use iddqd_hash::open_table::OpenHashTable;
+use crate::numbers::Numbers;
 
 /// A table of one of these kinds.
 #[derive(Drop)]
@@ -8,5 +8,5 @@ pub enum Table {
     /// Items under two keys.
     Keyed(Entries),
     /// Numbers under hashes: of the caller's own records, say.
-    Index(OpenHashTable<u32>),
+    Index(Numbers),
 }

@@ -1,4 +1,4 @@
-//! Items with two unique keys: a store, a hash table for the first keys, an ordered one for the second.
+//! Items with two keys each: a store, a hash table for the first keys, an ordered one for the second.
 //!
 //! Only the store has the items, and so the keys: both tables hold indexes, and read the key of an index from the store
 //! when they need it. So one item is stored once. An index stays valid until its item is removed, or until `compact`
@@ -145,7 +145,9 @@ impl<T: KeyedItem, S: BuildHasher> Keyed for KeyedItems<T, S> {
 }
 
 impl<T: KeyedItem, S: BuildHasher> KeyedItems<T, S> {
-    /// Empty. It may grow to `u32::MAX` items, one for each index but `SENTINEL`. It takes no memory.
+    /// Empty. It may grow to `u32::MAX` items, one for each index but `SENTINEL`.
+    ///
+    /// Cost: a few steps; takes no memory.
     pub fn new(alloc: Global, state: S) -> KeyedItems<T, S>
         ensures state { result.state ≡ empty_state state }
         ensures memory { result.memory ≡ no_memory }
@@ -153,9 +155,11 @@ impl<T: KeyedItem, S: BuildHasher> KeyedItems<T, S> {
         KeyedItems::with_limit(alloc, state, u32::MAX)
     }
 
-    /// Empty, and never with more slots than the limit. It takes no memory.
+    /// Empty, and never with more slots than the limit.
     ///
     /// No command changes the limit: `clear` and `compact` keep it.
+    ///
+    /// Cost: a few steps; takes no memory.
     pub fn with_limit(alloc: Global, state: S, limit: u32) -> KeyedItems<T, S>
         ensures state { result.state ≡ empty_state_within limit state }
         ensures memory { result.memory ≡ no_memory }
@@ -170,6 +174,8 @@ impl<T: KeyedItem, S: BuildHasher> KeyedItems<T, S> {
     }
 
     /// The number of items.
+    ///
+    /// Cost: a few steps; takes no memory.
     pub fn len(&self) -> usize
         ensures value { result ≡ live_count self.now.state.store }
 
@@ -180,6 +186,8 @@ impl<T: KeyedItem, S: BuildHasher> KeyedItems<T, S> {
     }
 
     /// Whether there is no item.
+    ///
+    /// Cost: a few steps; takes no memory.
     pub fn is_empty(&self) -> bool
         ensures { IsTrue result ↔ (live_count self.now.state.store ≡ 0) }
     {
@@ -188,13 +196,26 @@ impl<T: KeyedItem, S: BuildHasher> KeyedItems<T, S> {
 
     /// The number of slots, live and vacant. Every live index is below it. If a slot is vacant, `compact` lists a new
     /// index for each of them.
+    ///
+    /// Cost: a few steps; takes no memory.
     pub fn slot_count(&self) -> usize
         ensures { result ≡ slot_count self.now.state.store }
     {
         self.items.slot_count()
     }
 
+    /// How many slots there can be at most. With as many items, an insert is refused as `Full`.
+    ///
+    /// Cost: a few steps; takes no memory.
+    pub fn limit(&self) -> usize
+        ensures { result ≡ self.now.state.store.limit }
+    {
+        self.items.limit()
+    }
+
     /// The item at an index, if it is live.
+    ///
+    /// Cost: a few steps; takes no memory.
     pub fn get(&self, ix: ItemIndex) -> Option<&T>
         ensures { option_copied result ≡ get self.now.state.store ix }
     {
@@ -202,6 +223,8 @@ impl<T: KeyedItem, S: BuildHasher> KeyedItems<T, S> {
     }
 
     /// The state of the hasher, by which first keys are hashed.
+    ///
+    /// Cost: a few steps; takes no memory.
     pub fn hasher(&self) -> &S
         ensures { result.now ≡ self.now.state.hasher }
     {
@@ -209,6 +232,8 @@ impl<T: KeyedItem, S: BuildHasher> KeyedItems<T, S> {
     }
 
     /// The index of the item with this first key. Only keys of the same hash are compared with it.
+    ///
+    /// Cost: one look-up by the first key; takes no memory.
     pub fn find1(&self, key: &T::Key1) -> Option<ItemIndex>
         ensures paired { IsPaired self.now.state }
         ensures found { LooksUp (first_key_index ⟦<Self as Keyed>⟧.keys) self.now.state key.now result }
@@ -220,6 +245,8 @@ impl<T: KeyedItem, S: BuildHasher> KeyedItems<T, S> {
     ///
     /// It is one search of the ordered table, whose contract allows at most 4 + 2d comparisons, where the number of
     /// items has d binary digits. The contract here doesn't count them; tests do.
+    ///
+    /// Cost: one search by the second key; takes no memory.
     #[tactic(auto, using(crate::proofs::KeepsLemmas::order_has_live_indexes))]
     pub fn find2(&self, key: &T::Key2) -> Option<ItemIndex>
         ensures paired { IsPaired self.now.state }
@@ -233,6 +260,8 @@ impl<T: KeyedItem, S: BuildHasher> KeyedItems<T, S> {
     /// A duplicate is reported even if the store is full or no memory is left, and a full store even if
     /// no memory is left. With room, an item is refused only as a duplicate. A refusal returns the item and
     /// changes nothing.
+    ///
+    /// Cost: one look-up by the first key and one search by the second; takes memory only without `room`.
     pub fn insert(&mut self, item: T) -> Result<ItemIndex, InsertRefusal<T>>
         ensures inserts { Inserts ⟦<Self as Keyed>⟧.keys self.old.state item result self.new.state }
         ensures tells { ReportsAsScan ⟦<Self as Keyed>⟧.keys self.old.state item result }
@@ -249,7 +278,10 @@ impl<T: KeyedItem, S: BuildHasher> KeyedItems<T, S> {
         insert_item(items, filed, order, item, hash, first)
     }
 
-    /// Removes the item at an index, if it is live, whatever its keys are now. It takes no memory.
+    /// Removes the item at an index, if it is live, whatever its keys are now.
+    ///
+    /// Cost: one hash of the first key, and one search by the second, unless a key was overwritten, and then a scan of
+    /// that table; takes no memory.
     pub fn remove(&mut self, ix: ItemIndex) -> Option<T>
         ensures removes { Removes self.old.state ix result self.new.state }
         ensures live { IsSome result ↔ IsLive self.old.state.store ix }
@@ -267,7 +299,9 @@ impl<T: KeyedItem, S: BuildHasher> KeyedItems<T, S> {
         Some(remove_item(&mut self.order, &mut self.items, ix))
     }
 
-    /// Removes the item with this first key. It takes no memory.
+    /// Removes the item with this first key.
+    ///
+    /// Cost: one look-up by the first key, and one search by the second, as of `remove`; takes no memory.
     pub fn remove1(&mut self, key: &T::Key1) -> Option<(ItemIndex, T)>
         ensures removes { RemovesBy (first_key_index ⟦<Self as Keyed>⟧.keys) self.old.state key.now result
             self.new.state }
@@ -280,7 +314,9 @@ impl<T: KeyedItem, S: BuildHasher> KeyedItems<T, S> {
         self.remove1_by(key)
     }
 
-    /// Removes the item with this second key. It takes no memory.
+    /// Removes the item with this second key.
+    ///
+    /// Cost: one search by the second key, and one hash of the first, as of `remove`; takes no memory.
     pub fn remove2(&mut self, key: &T::Key2) -> Option<(ItemIndex, T)>
         ensures removes { RemovesBy (second_key_index ⟦<Self as Keyed>⟧.keys) self.old.state key.now result
             self.new.state }
@@ -297,7 +333,9 @@ impl<T: KeyedItem, S: BuildHasher> KeyedItems<T, S> {
     ///
     /// Neither table is updated, whatever the keys of both items: the index stays filed under the hash that it has, and
     /// in its place in the order. Look-ups may then miss the new keys, and look-ups by second key any other, but none
-    /// hits a wrong one, and the index can still be removed. It takes no memory.
+    /// hits a wrong one, and the index can still be removed.
+    ///
+    /// Cost: a few steps; takes no memory.
     pub fn overwrite(&mut self, ix: ItemIndex, item: T) -> Result<T, T>
         ensures overwrites { Overwrites self.old.state ix item result self.new.state }
         ensures keeps { KeepsUnlessChanged ⟦<Self as Keyed>⟧.keys self.old.state ix item self.new.state }
@@ -315,6 +353,9 @@ impl<T: KeyedItem, S: BuildHasher> KeyedItems<T, S> {
     /// Both tables keep their order and hashes, and no key is hashed or compared. If no slot is vacant, it returns
     /// `Identity` and takes no memory. Otherwise it allocates a list of one index for each slot before any item moves;
     /// if memory runs out, nothing changes.
+    ///
+    /// Cost: a step for each slot and each entry of the tables; takes memory for a list of one index for each slot, if
+    /// one is vacant.
     pub fn compact(&mut self) -> Result<IndexRemap, AllocError>
         ensures compacts { IfOk result
             (λ remap. IsRemapOf self.old.state.store remap × Compacts self.old.state self.new.state) }
@@ -332,7 +373,9 @@ impl<T: KeyedItem, S: BuildHasher> KeyedItems<T, S> {
         Ok(remap)
     }
 
-    /// Forgets all items and all slots, so that the next index is 0. It takes no memory.
+    /// Forgets all items and all slots, so that the next index is 0.
+    ///
+    /// Cost: drops the items, and clears both tables; takes no memory.
     pub fn clear(&mut self)
         ensures cleared { self.new.state ≡ cleared_state self.old.state }
         ensures keeps { Keeps ⟦<Self as Keyed>⟧.keys self.old.state self.new.state }
@@ -344,6 +387,8 @@ impl<T: KeyedItem, S: BuildHasher> KeyedItems<T, S> {
     }
 
     /// Obeys one command.
+    ///
+    /// Cost: what the command's own call costs; takes memory as that does, and `Walk` for a list of all indexes.
     pub fn step(&mut self, command: Command<T>) -> Reply<T>
         ensures step { Step ⟦<Self as Keyed>⟧.keys self.old.state command result self.new.state }
         ensures memory { StepsInMemory self.old command result self.new }
@@ -381,6 +426,8 @@ impl<T: KeyedItem, S: BuildHasher> KeyedItems<T, S> {
     ///
     /// The memory of the vector of replies is taken first. If it runs out, or no vector can hold that many replies,
     /// nothing is done and the commands come back; without commands that can't happen.
+    ///
+    /// Cost: a `step` for each command; takes memory for the replies, and as each step does.
     pub fn run(&mut self, commands: Vec<Command<T>>) -> Result<Vec<Reply<T>>, Vec<Command<T>>>
         ensures run { let keys = ⟦<Self as Keyed>⟧.keys in
             IfOk result (λ replies. Run keys self.old.state commands.items replies.items self.new.state) }

@@ -1,4 +1,4 @@
-//! Items with two unique keys each, and commands over them.
+//! Items with two keys each, and commands over them.
 //!
 //! [`keyed_items::KeyedItems`] keeps items that contain their two keys, and obeys one command at a time
 //! or a list of them.

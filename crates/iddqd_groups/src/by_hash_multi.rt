@@ -67,6 +67,9 @@ impl<E> ByHashMultiOf<E> {
     /// on, in the parts of a map that has this key: `ByHashMultiOf::group(map.parts().left(), &customer)`.
     ///
     /// It hashes the query once, and compares it with keys of the same hash alone, with none twice. It takes no memory.
+    ///
+    /// Cost: one look-up, which compares only keys of the same hash, each once, as the indexes are read; takes no
+    /// memory.
     pub fn group<'a, T, S, Q>(
         parts: Parts<'a, T, ByHashMultiOf<E>, S>,
         query: Q,
@@ -109,6 +112,8 @@ where
 
     ghost indexes = { λ x state s. FilesWithin E.key_of (hashing_of E.eq E.hash_input S.BuildHasher
         S.Hasher.Hasher state) s x.table };
+
+    ghost are_known = { λ state item known. Unit {0} };
 
     ghost capacity = { λ x. x.table.capacity };
 

@@ -167,6 +167,8 @@ pub trait InGroups<T, X: KeyIndex<T, S>, S> {
 
     /// The items that have the key for which the query stands with their indexes, each once, in no order that a caller
     /// can rely on. It hashes the query once, and compares it with keys of the same hash alone.
+    ///
+    /// Cost: one look-up, which compares only keys of the same hash, each once, as the items are read; takes no memory.
     fn hashed_group_by<P, Q>(&self, query: Q) -> GroupItems<'_, T, X::Marker, Q>
     where
         X: GroupsAt<P, T, S>,
@@ -174,6 +176,8 @@ pub trait InGroups<T, X: KeyIndex<T, S>, S> {
         ensures { ListsHits (Q.stands_for_item query) (store self.now) result };
 
     /// How many items have the key for which the query stands. It costs a step for each of them.
+    ///
+    /// Cost: one look-up, which compares only keys of the same hash, each once; takes no memory.
     fn count_hashed_group_by<P, Q>(&self, query: Q) -> usize
     where
         X: GroupsAt<P, T, S>,

@@ -1,4 +1,4 @@
-//! Items with two or three unique keys, commands over them, and the line protocol.
+//! Items with two or three keys, commands over them, and the line protocol.
 //!
 //! [`keyed_items::KeyedItems`] keeps items with two keys, which may change without its tables being updated, and obeys
 //! commands. [`tri_items::TriItems`] keeps items with three keys. [`serve::serve`] reads commands from lines and

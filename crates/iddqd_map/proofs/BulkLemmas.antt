@@ -1,18 +1,20 @@
 -- What calls that empty a map or insert many items leave.
 use Rattle.std.proofs.Common.{◌≡◌, ◌≢◌, ◌∙◌, ◌+◌, ◌-◌, ◌<◌, ◌≤◌, ℕ, Bool, true, List, [], ◌∷◌, ◌++◌, length, drop, Option, Some, None, refl, sym, ap, subst, arith}
-use Rattle.std.specs.Prelude.{Err}
+use Rattle.std.specs.Prelude.{Err, Result}
 use Rattle.std.specs.Fn.{Mut}
 use Rattle.std.specs.Iterator.{Count, IsFinite, IsNearerEnd, MakesProgress, UpTo, YieldsThen, size}
 use Rattle.std.specs.List.{FoldsTo}
+use Rattle.std.specs.declared.alloc.AllocError.{AllocError}
 use Rattle.std.proofs.lemmas.List.{at_drop_more, drop_all}
 use Rattle.iddqd.specs.Store.{Store, IsValid, empty, get, live_count, next_index, removed, slot_limit}
 use Rattle.iddqd.specs.LiveItems.{items_in, live_items}
 use Rattle.iddqd.proofs.LiveCountLemmas.{live_count-inserted}
 use Rattle.iddqd.proofs.LiveLemmas.{get-inserted_other, get-removed_other, next_vacant}
 use Rattle.iddqd.proofs.StoreLemmas.{IsValid-empty, IsValid-inserted}
-use Rattle.iddqd_map.specs.Bulk.{InsertsItems, InsertsUntil, RefusesOneOf, inserted_all}
+use Rattle.iddqd_map.specs.Bulk.{InsertsItems, InsertsUntil, MakesOf, RefusesOneOf, inserted_all}
 use Rattle.iddqd_map.specs.Calls.{Inserts, InsertsAt}
-use Rattle.iddqd_map.specs.Map.{MapState, room}
+use Rattle.iddqd_map.specs.Map.{MapState, empty_map, room}
+use Rattle.iddqd_map.specs.Memory.{ReservesItems}
 use Rattle.iddqd_map.specs.Ranges.{TakesItem, GivesItem}
 use Rattle.iddqd_map.specs.Retain.{AsksInTurn}
 use Rattle.iddqd_map.specs.declared.refusal.InsertRefusal.{InsertRefusal}
@@ -328,6 +330,23 @@ module _
               did.stored ∙ ap (λ s. inserted_all s taken) none ∙ ap (inserted_all empty) same,
               omega (arith, count, ap live_count none, ap length same),
             )
+
+        -- where memory was reserved for all of them in an empty map
+        pub made_with :
+            {most : ℕ → ℕ} {count : ℕ} (start : MapState T) (answer : Result (Unit {0}) AllocError)
+            → start ≡ empty_map slot_limit
+            → count ≡ length items
+            → ReservesItems most count start answer old
+            → InsertsUntil gives alike grown conflicts it old taken None u new
+            → MakesOf alike grown most items new
+        made_with {most} {count} start answer none all reserves did =
+            let same : taken ≡ items = sym (gave_all taken it u did.given) ∙ are in
+            let for_all = subst (λ n. ReservesItems most n start answer old) all reserves in
+            record {
+              roomy = old;
+              reserved = (answer, subst (λ m. ReservesItems most (length items) m answer old) none for_all);
+              in_turn = subst (λ l. FoldsTo (InsertsOne alike grown) old l new) same did.in_turn;
+            }
 
         pub made_refused :
             (refusal : InsertRefusal T C)

@@ -45,18 +45,6 @@ Contains-passing test (y ∷ xs) x here is =
           (λ rest. Contains-passing test xs x rest is) (contains_cases y x xs here)
     ] refl
 
--- and each of these is a member
-passing_there : {X : Type 0} (test : X → Bool) (xs : List X) (x : X) → Contains (filter test xs) x → Contains xs x
-passing_there test [] x here = absurd (contains_none x here)
-passing_there test (y ∷ xs) x here =
-    elim (test y) as (λ b. Contains (cond b (y ∷ filter test xs) (filter test xs)) x → Contains (y ∷ xs) x) [
-      | true ↦ λ listed. elim (contains_cases y x (filter test xs) listed) [
-        | inl same ↦ subst (λ z. Contains (y ∷ xs) z) same (contains_head y xs)
-        | inr there ↦ contains_tail y x xs (passing_there test xs x there)
-      ]
-      | false ↦ λ listed. contains_tail y x xs (passing_there test xs x listed)
-    ] here
-
 module _ {F T : Type 0} (ask : F → T → Bool → F → Type 0) where
   -- the same as `RetainsHits`, of the items at these indexes
   pub record RetainsAlong (f : F) (s : Store T) (indexes : List ℕ) (new : Store T) (last : F) : Type 0 where
@@ -221,15 +209,6 @@ module _
         → ask f item b after
         → CanAsk takes ask after (filter test (live_items old))
     CanAsk-hit f b after can asked = CanAsk-asked takes ask f (filter test (live_items old)) item b after can passing asked
-
--- a closure that may be called at all items may be at those that pass
-pub CanAsk-filter :
-    {F T : Type 0} (takes : F → T → Type 0) (ask : F → T → Bool → F → Type 0) (f : F) (test : T → Bool)
-    (items : List T)
-    → CanAsk takes ask f items
-    → CanAsk takes ask f (filter test items)
-CanAsk-filter takes ask f test items can =
-    CanAsk-among takes ask f items (filter test items) (λ x here. passing_there test items x here) can
 
 module _ {G T : Type 0} (g : Mut G (T × Unit {0}) (Unit {0})) (can : G → Type 0) where
   -- what holds of the second closure after each call of it holds where it isn't called, too

@@ -1,21 +1,22 @@
 -- What a hash table that indexes a store by one key keeps, and what it plans for an item.
-use Rattle.std.proofs.Common.{◌≡◌, ◌≢◌, ◌∙◌, ◌+◌, ◌≤◌, ℕ, Bool, true, false, not, cond, List, [], ◌∷◌, map, length, Option, Some, None, Result, Ok, Err, OnOk, refl, sym, ap, arith}
+use Rattle.std.proofs.Common.{◌≡◌, ◌≢◌, ◌∙◌, ◌+◌, ◌≤◌, ℕ, Bool, IsTrue, true, false, not, cond, List, [], ◌∷◌, map, length, Option, Some, None, Result, Ok, Err, OnOk, refl, sym, ap, arith}
 use Rattle.std.specs.Cmp.{nat_cmp_total}
 use Rattle.std.specs.Ordering.{nat_cmp}
 use Rattle.std.specs.FinMap as finite
 use Rattle.std.specs.FinMap.{FinMap}
+use Rattle.std.specs.Option.{IfSome}
 use Rattle.std.proofs.lemmas.List.{length-map}
 use Rattle.iddqd.specs.Store.{Store, get}
 use Rattle.iddqd_hash.specs.HashTable.{Table, entries, room, capacity}
 use Rattle.iddqd_hash.specs.MapHashTable.{filed, swapped}
 use Rattle.iddqd_hash.proofs.MemberLemmas.{get-insert_at}
 use Rattle.iddqd_keys.specs.Scan.{AnswersScan}
-use Rattle.iddqd_by_hash.specs.Hashed.{Hashing, IsLawful, Takes}
+use Rattle.iddqd_by_hash.specs.Hashed.{Hashing, IsInPlace, IsLawful, Takes}
 use Rattle.iddqd_by_hash.specs.declared.hashed_move.Move.{Move}
 use Rattle.iddqd_by_hash.specs.declared.hashed_move.Move.TheVariants.{Stays, To}
 use Rattle.iddqd_map.specs.Hashed.{moves}
-use Rattle.iddqd_map.specs.Indexing.{Indexes, Plans, PlansOrConflicts}
-use Rattle.iddqd_map.specs.KeyIndex.{PlansMove, TakesFound}
+use Rattle.iddqd_map.specs.Indexing.{Indexes, IsKnownHash, Plans, PlansOrConflicts}
+use Rattle.iddqd_map.specs.KeyIndex.{AreKnownAt, PlansMove, TakesFound}
 use Rattle.iddqd_map.specs.Map.{shares}
 use Rattle.iddqd_map.specs.Several.{HasNoOther}
 use Rattle.iddqd_map.proofs.IndexingLemmas.{Indexes-removed}
@@ -125,3 +126,46 @@ TakesFound-taken key_of hashing state s m new o test None scan same = rw same o
 TakesFound-taken key_of hashing state s m new o test (Some ix) scan same =
     let (item, live, passed) = (scan ix).1 refl in
     rw same (Indexes-removed key_of (hashing state) s m o ix item live)
+
+-- the hash of a query is that of the item which a scan by the query found
+pub hash_found :
+    {T K : Type 0} (key_of : T → K) (hashing : Hashing K) (s : Store T) (test : T → Bool) (hash : ℕ)
+    → ((x : T) → IsTrue (test x) → hash ≡ hashing.hash_of (key_of x))
+    → (found : Option ℕ)
+    → AnswersScan s test found
+    → IfSome found (λ ix. AreKnownAt (IsKnownHash key_of hashing) s ix (Some hash))
+hash_found key_of hashing s test hash hashed None scan = tt
+hash_found key_of hashing s test hash hashed (Some ix) scan = λ item live.
+    let (x, stands, passed) = (scan ix).1 refl in
+    let same : x ≡ item = cc (stands, live) in
+    rw (← same) (hashed x passed)
+
+-- what is known of an item by one key is known of it beside what isn't by the others
+module _ {T H G : Type 0} (one : T → H → Type 0) (rest : T → G → Type 0) (s : Store T) where
+  pub known_first :
+      (known : H) (none : G)
+      → ((item : T) → rest item none)
+      → (found : Option ℕ)
+      → IfSome found (λ ix. AreKnownAt one s ix known)
+      → IfSome found (λ ix. AreKnownAt (λ item (both : H × G). one item both.0 × rest item both.1) s ix (known, none))
+  known_first known none unknown None is = tt
+  known_first known none unknown (Some ix) is = λ item live. (is item live, unknown item)
+
+  pub known_rest :
+      (none : H) (known : G)
+      → ((item : T) → one item none)
+      → (found : Option ℕ)
+      → IfSome found (λ ix. AreKnownAt rest s ix known)
+      → IfSome found (λ ix. AreKnownAt (λ item (both : H × G). one item both.0 × rest item both.1) s ix (none, known))
+  known_rest none known unknown None is = tt
+  known_rest none known unknown (Some ix) is = λ item live. (unknown item, is item live)
+
+-- a live index of a table that is in place is filed under the hash of its item's key
+pub filed_under :
+    {T K : Type 0} (key_of : T → K) (hashing : Hashing K) (s : Store T) (m : FinMap nat_cmp ℕ) (ix : ℕ) (item : T)
+    (hash : ℕ)
+    → IsInPlace key_of hashing s m
+    → get s ix ≡ Some item
+    → hash ≡ hashing.hash_of (key_of item)
+    → finite.get m ix ≡ Some hash
+filed_under key_of hashing s m ix item hash placed live is = placed ix item live ∙ ap Some (sym is)

@@ -6,10 +6,10 @@ use Rattle.std.specs.Iterator.SizeHint.{IsWithinCount}
 use Rattle.std.specs.List.{FoldsTo}
 use Rattle.std.specs.declared.alloc.AllocError.{AllocError}
 use Rattle.iddqd.specs.LiveItems.{live_pairs}
-use Rattle.iddqd.specs.Store.{Store, empty, inserted}
+use Rattle.iddqd.specs.Store.{Store, empty, inserted, slot_limit}
 use Rattle.iddqd_keys.specs.Removals.{removed_all}
 use Rattle.iddqd_map.specs.Calls.{Inserts, InsertsAt}
-use Rattle.iddqd_map.specs.Map.{MapState}
+use Rattle.iddqd_map.specs.Map.{MapState, empty_map}
 use Rattle.iddqd_map.specs.Memory.{ReservesItems}
 use Rattle.iddqd_map.specs.Ranges.{TakesItem, GivesItem}
 use Rattle.iddqd_map.specs.Retain.{MayAskInTurn, removed_of}
@@ -87,6 +87,17 @@ pub record RefusesOneOf
   pub holds : map.store ≡ inserted_all empty before
   pub left : MapState T
   pub refused : Inserts alike grown conflicts map item (Err refusal) left
+
+-- A map was made of these items: memory was reserved for all of them at once, in an empty map. If it ran out, the
+-- inserts went on with what there was. Each item was inserted before the next. `alike` and `grown` are as below, and
+-- `most n` is the most cells that are taken for n indexes.
+pub record MakesOf
+    {T : Type 0} (alike : T → T → Bool) (grown most : ℕ → ℕ) (items : List T) (new : MapState T)
+    : Type 0 where
+  pub roomy : MapState T
+  pub reserved : (answer : Result (Unit {0}) AllocError)
+      × ReservesItems most (length items) (empty_map slot_limit) answer roomy
+  pub in_turn : FoldsTo (λ m item n. (ix : ℕ) × InsertsAt alike grown m item ix n) roomy items new
 
 -- Of an iterator: `gives` says what a call of `next` gives. Of a map: `alike x y` says that the items share a unique
 -- key, and `grown n` is the most by which the cells grow in an insert that leaves n indexes.

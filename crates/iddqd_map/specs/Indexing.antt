@@ -1,5 +1,5 @@
 -- A table of indexes under hashes whose look-ups return what a scan of the store's items would.
-use Rattle.std.specs.Prelude.{◌≡◌, ◌≢◌, ℕ, Bool, Some, Result, Ok, Err}
+use Rattle.std.specs.Prelude.{◌≡◌, ◌≢◌, ℕ, Bool, Option, Some, IfSome, Result, Ok, Err}
 use Rattle.std.specs.Ordering.{nat_cmp}
 use Rattle.std.specs.FinMap.{FinMap}
 use Rattle.iddqd.specs.Store.{Store}
@@ -18,6 +18,10 @@ module _ {T K : Type 0} (key_of : T → K) (hashing : Hashing K) where
   pub record Indexes (s : Store T) (m : FinMap nat_cmp ℕ) : Type 0 where
     pub held : Holds s m
     pub in_sync : IsInSync key_of hashing s m
+
+  -- the hash, if it is known, is that of the item's key
+  abbrev pub IsKnownHash : T → Option ℕ → Type 0
+  IsKnownHash item known = IfSome known (λ hash. hash ≡ hashing.hash_of (key_of item))
 
   -- How a live index must move if its item is replaced by this one: it stays if the key stays; otherwise no item has
   -- the key, and it goes under the key's hash.

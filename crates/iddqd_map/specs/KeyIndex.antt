@@ -84,6 +84,10 @@ module _ {T : Type 0} where
   FindsMove alike same is_move moves taken s ix item =
       PlansMove (alike item) (same item) (is_move s ix item) moves (taken s ix item) s ix
 
+  -- the known hashes are those of the item at the index
+  abbrev pub AreKnownAt : {H : Type 0} → (T → H → Type 0) → Store T → ℕ → H → Type 0
+  AreKnownAt are_known s ix known = (item : T) → get s ix ≡ Some item → are_known item known
+
   -- the stores have equally many slots and the same live indexes, and their items at each index share all keys
   pub record HaveSameKeys (same : T → T → Bool) (s t : Store T) : Type 0 where
     pub items_of_t : (ix : ℕ) (y : T) → get t ix ≡ Some y → (x : T) × (get s ix ≡ Some x) × (same x y ≡ true)

@@ -22,6 +22,7 @@ pub mod OneKey
 pub mod OneKeyLaws
 pub mod Overwrite
 pub mod PairConflict
+pub mod PairHashes
 pub mod PairLaws
 pub mod RangeRetain
 pub mod Ranges

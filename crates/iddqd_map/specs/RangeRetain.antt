@@ -7,7 +7,7 @@ use Rattle.iddqd.specs.Store.{Store, get}
 use Rattle.iddqd_keys.specs.KeyWalk.{IsFirstHit, IsNextHit, SortsWithin, pairs_at}
 use Rattle.iddqd_keys.specs.Scan.{IsHit}
 use Rattle.iddqd_map.specs.Bulk.{GivesIfRefused, RetainsInto}
-use Rattle.iddqd_map.specs.Ranges.{TakesItem, itself}
+use Rattle.iddqd_map.specs.Ranges.{GivesItem, TakesItem, itself}
 use Rattle.iddqd_map.specs.Retain.{removed_of}
 use Rattle.iddqd_keys.specs.Removals.{removed_all}
 
@@ -55,6 +55,10 @@ module _ {F T : Type 0} (order : T → T → Ordering) (within : T → Bool) (as
     pub left : new ≡ removed_all old (removed_of asks)
 
 module _ {G T : Type 0} (order : T → T → Ordering) (within : T → Bool) (g : Mut G (T × Unit {0}) (Unit {0})) where
+  -- the closure may be called with each of the items within, in order and then by index
+  abbrev pub MayGiveWithin : G → Store T → Type 0
+  MayGiveWithin gone s = MayAskWithin order within (TakesItem g) (λ p x (b : Bool) q. GivesItem g p x q) gone s
+
   -- the closure may be called with some of the items within, in order and then by index, whichever they are
   abbrev pub MayGiveSomeWithin : G → Store T → Type 0
   MayGiveSomeWithin gone s = MayAskWithin order within (TakesItem g) (GivesIfRefused g) gone s

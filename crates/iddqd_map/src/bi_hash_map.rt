@@ -42,6 +42,9 @@ where
     /// If it removes an item, it takes no memory and isn't refused. If it removes none, it inserts as `insert_unique`
     /// does, and may be refused for the same reasons. Each key of the item is hashed once, and each key of an item that
     /// it removes.
+    ///
+    /// Cost: one look-up and one insertion by each key, of which each is hashed once; of each item that it removes a
+    /// removal from each table; takes memory only without `room`, and if it removes no item.
     pub fn insert_overwrite(
         &mut self,
         item: T,

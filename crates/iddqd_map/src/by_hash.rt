@@ -62,6 +62,7 @@ where
     ghost use Rattle.iddqd_hash.specs.OpenTableSizes.{least_cells};
     ghost use Rattle.iddqd_hash.specs.Sizes.{most_cells};
     ghost use Rattle.iddqd_hash.specs.MapHashTable.{filed};
+    ghost use Rattle.iddqd_map.specs.Indexing.{IsKnownHash};
     ghost use Rattle.iddqd_map.specs.Map.{shares};
 
     type KnownHashes = Option<MapHash>;
@@ -76,6 +77,9 @@ where
 
     ghost indexes = { λ x state s. Indexes E.key_of (hashing_of E.eq E.hash_input S.BuildHasher
         S.Hasher.Hasher state) s (filed x.table) };
+
+    ghost are_known = { λ state. IsKnownHash E.key_of (hashing_of E.eq E.hash_input S.BuildHasher
+        S.Hasher.Hasher state) };
 
     ghost capacity = { λ x. capacity x.table };
 
@@ -398,7 +402,11 @@ where
     S: BuildHasher,
     Q: ItemHashQuery<T, E>,
 {
+    ghost use Rattle.std.specs.Prelude.{IsSome};
+
     ghost stands_for = { Q.stands_for_item };
+
+    ghost has_hash = { λ known. IsSome known };
 
     fn find(
         &self,

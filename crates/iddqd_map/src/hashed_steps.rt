@@ -2,7 +2,7 @@
 //!
 //! Each works on a hash table that has exactly the live indexes. An index is under the hash of its item's key, so a
 //! removal computes that hash, unless a look-up has computed it before.
-ghost use Rattle.std.specs.Prelude.{◌≡◌, ◌+◌, ◌<◌, ◌≤◌, min, max, length, IsOk, IsSome, IfErr, OnOk, OnErr};
+ghost use Rattle.std.specs.Prelude.{◌≡◌, ◌+◌, ◌<◌, ◌≤◌, min, max, length, Some, IsOk, IsSome, IfErr, OnOk, OnErr};
 ghost use Rattle.std.specs.FinMap as finite;
 ghost use Rattle.iddqd.specs.{live_count, IsValid, Allows, Validates};
 ghost use Rattle.iddqd.specs.Compaction.{rank, IsRemapOf};
@@ -14,8 +14,10 @@ ghost use Rattle.iddqd_hash.specs.MapHashTable.{Renames};
 ghost use Rattle.iddqd_hash.specs.OpenTableSizes.{least_cells};
 ghost use Rattle.iddqd_hash.specs.Sizes.{most_cells};
 ghost use Rattle.iddqd_keys.specs.Scan.{IsLive};
-ghost use Rattle.iddqd_by_hash.specs.Hashed.{Holds};
+ghost use Rattle.iddqd_by_hash.specs.Hashed.{hashing_of, Holds, IsInPlace};
 ghost use Rattle.iddqd_by_hash.specs.HashedMove.{IfStays, moved};
+ghost use Rattle.iddqd_map.specs.Indexing.{IsKnownHash};
+ghost use Rattle.iddqd_map.specs.KeyIndex.{AreKnownAt};
 ghost use Rattle.iddqd_map.specs.Validation.{NamesTable};
 
 use iddqd::index_remap::IndexRemap;
@@ -121,7 +123,10 @@ where
     E: HashKey<T>,
     S: BuildHasher,
     requires live { IsLive items.now.store ix }
-    requires filed { IsSome (finite.get (filed table.old) ix) }
+    requires placed { IsInPlace E.key_of (hashing_of E.eq E.hash_input S.BuildHasher S.Hasher.Hasher state.now)
+        items.now.store (filed table.old) }
+    requires known { AreKnownAt (IsKnownHash E.key_of (hashing_of E.eq E.hash_input S.BuildHasher S.Hasher.Hasher
+        state.now)) items.now.store ix known }
     ensures moved { filed table.new ≡ moved (filed table.old) ix plan.now }
     ensures memory { KeepsMemory table.old table.new }
     ensures untouched { IfStays plan.now (table.new ≡ table.old) }
@@ -131,8 +136,18 @@ where
             Some(hash) => hash,
             None => hash_of::<T, E, S>(state, &items[ix]),
         };
-        hashed_move::commit_move(table, from, plan, ix);
+        move_from(table, from, plan, ix);
     }
+}
+
+// Files an index as planned, which is under the hash `from`: so the table isn't scanned for it. It takes no memory.
+fn move_from(table: &mut MapHashTable, from: MapHash, plan: &Move, ix: ItemIndex)
+    requires { finite.get (filed table.old) ix ≡ Some from }
+    ensures moved { filed table.new ≡ moved (filed table.old) ix plan.now }
+    ensures memory { KeepsMemory table.old table.new }
+    ensures untouched { IfStays plan.now (table.new ≡ table.old) }
+{
+    hashed_move::commit_move(table, from, plan, ix);
 }
 
 /// Replaces each index by its new one. It takes no memory.

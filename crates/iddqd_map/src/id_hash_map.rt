@@ -46,6 +46,8 @@ impl<T, E: HashKey<T>, S: BuildHasher> Map<T, ByHashOf<E>, S> {
     ///
     /// For a field the query is a `&K`, or another query that stands for such a key; for a tuple of keys it is the
     /// tuple of their queries. Only keys of the same hash are compared with it.
+    ///
+    /// Cost: one look-up; takes no memory.
     pub fn find<Q: ItemHashQuery<T, E>>(&self, query: Q) -> Option<ItemIndex>
         ensures { AnswersScan self.now.store (Q.stands_for_item query) result }
     {
@@ -53,6 +55,8 @@ impl<T, E: HashKey<T>, S: BuildHasher> Map<T, ByHashOf<E>, S> {
     }
 
     /// Whether an item has the key.
+    ///
+    /// Cost: one look-up; takes no memory.
     pub fn contains_key<Q: ItemHashQuery<T, E>>(&self, query: Q) -> bool
         ensures { (result ≡ false) ↔ HasNoHit self.now.store (Q.stands_for_item query) }
     {
@@ -60,13 +64,17 @@ impl<T, E: HashKey<T>, S: BuildHasher> Map<T, ByHashOf<E>, S> {
     }
 
     /// The item that has the key.
+    ///
+    /// Cost: one look-up; takes no memory.
     pub fn get<Q: ItemHashQuery<T, E>>(&self, query: Q) -> Option<&T>
         ensures { FindsItem self.now.store (Q.stands_for_item query) (option_copied result) }
     {
         self.get_by::<Here, Q>(query)
     }
 
-    /// Removes the item that has the key, and returns it. It takes no memory.
+    /// Removes the item that has the key, and returns it.
+    ///
+    /// Cost: one look-up, and a removal from each table; takes no memory.
     pub fn remove<Q: ItemHashQuery<T, E>>(&mut self, query: Q) -> Option<T>
         ensures removes { Removes self.old (Q.stands_for_item query) result self.new }
         ensures gone { HasNoHit self.new.store (Q.stands_for_item query) }
@@ -83,6 +91,9 @@ impl<T, E: HashKey<T>, S: BuildHasher> Map<T, ByHashOf<E>, S> {
     ///
     /// The new item may have another key. It gets the same index. If another item has its key, it comes back, and
     /// nothing changes. It takes no memory, and touches no table whose key stays.
+    ///
+    /// Cost: one look-up; then a look-up by each key of the new item, and of each key that changes a removal and an
+    /// insertion; takes memory only if a key in order changes and there are more items than the capacity.
     pub fn replace<Q: ItemHashQuery<T, E>>(
         &mut self,
         query: Q,
@@ -100,6 +111,11 @@ impl<T, E: HashKey<T>, S: BuildHasher> Map<T, ByHashOf<E>, S> {
     /// has the key.
     ///
     /// The closure is called at most once, and not at all if no item has the key. Otherwise it behaves as `replace`.
+    ///
+    /// Cost: one look-up; then a look-up by each key of the new item, and of each key that changes a removal and an
+    /// insertion; takes memory only if a key in order changes and there are more items than the capacity.
+    ///
+    /// Asks: the closure may be called on the item that has the key.
     pub fn change<Q: ItemHashQuery<T, E>, F: FnOnce(&T) -> T>(
         &mut self,
         query: Q,
@@ -116,6 +132,10 @@ impl<T, E: HashKey<T>, S: BuildHasher> Map<T, ByHashOf<E>, S> {
 
     /// Calls the closure with a `&mut` to the item that has the key, as `modify_at` does; if no item has the key, it
     /// returns `None` and doesn't call the closure. It is one look-up.
+    ///
+    /// Cost: one look-up; takes no memory.
+    ///
+    /// Asks: the closure may be called on the item, and leaves it its keys.
     pub fn modify<Q: ItemHashQuery<T, E>, R, F: FnOnce(&mut T) -> R>(
         &mut self,
         query: Q,
@@ -134,6 +154,9 @@ impl<T, E: HashKey<T>, S: BuildHasher> Map<T, ByHashOf<E>, S> {
     ///
     /// If an item has its key, it takes no memory and isn't refused. If none has, it inserts as `insert_unique` does,
     /// and may be refused for the same reasons.
+    ///
+    /// Cost: one look-up and one insertion by each key, of which each is hashed once; of each item that it removes a
+    /// removal from each table; takes memory only without `room`, and if it removes no item.
     pub fn insert_overwrite(
         &mut self,
         item: T,

@@ -39,7 +39,7 @@ ghost use Rattle.iddqd_keys.specs.KeyWalk.{IsFirstHit, IsNextHit};
 ghost use Rattle.iddqd_keys.specs.OrderedQuery.{is_up_to, is_within};
 ghost use Rattle.iddqd_keys.specs.Scan.{AnswersScan, IsLive, HasNoHit};
 ghost use Rattle.iddqd_map.specs.Ranges.{itself};
-ghost use Rattle.iddqd_map.specs.KeyIndex.{IndexesNone, IsNextOf, IsPlannedForOne, StaysPlanned, IndexesOneMore, IsRemapOfSome, IndexesCompacted, IndexesAllOf, IsNextReported, FindsPosition, FindsMove, TakesFound};
+ghost use Rattle.iddqd_map.specs.KeyIndex.{AreKnownAt, IndexesNone, IsNextOf, IsPlannedForOne, StaysPlanned, IndexesOneMore, IsRemapOfSome, IndexesCompacted, IndexesAllOf, IsNextReported, FindsPosition, FindsMove, TakesFound};
 
 use iddqd::index_remap::IndexRemap;
 use iddqd::internal::{ValidateCompact, ValidateRefusal, ValidationError};
@@ -75,6 +75,9 @@ pub trait KeyIndex<T, S>: Sized + Drop {
 
     // It indexes the store, under the state of a hasher.
     ghost indexes: { Self → S → Store T → Type 0 };
+
+    // Each hash that is known is that of the item's key in its table, under the state of a hasher.
+    ghost are_known: { S → T → Self.KnownHashes → Type 0 };
 
     // How many indexes it can hold without more memory, and how much it holds.
     ghost capacity: { Self → ℕ };
@@ -340,7 +343,8 @@ pub trait Moves<T, S>: KeyIndex<T, S> {
     ghost are_enough_for: { Self → Self.MovePlan → Self.MoveBlocks → Type 0 };
 
     /// The value for no hash: no look-up computed one.
-    fn no_hashes() -> Self::KnownHashes;
+    fn no_hashes() -> Self::KnownHashes
+        ensures { (state : S) (item : T) → Self.are_known state item result };
 
     /// How a live index must move if its item is replaced by this one; or the other items that share a key with it.
     fn plan_move(
@@ -372,8 +376,8 @@ pub trait Moves<T, S>: KeyIndex<T, S> {
 
     /// Moves a live index as planned, while the store still has its old item. It takes no memory.
     ///
-    /// `known` has the hashes of old keys that a look-up computed, so that they aren't computed again. If one of them
-    /// isn't the hash of the old key, its table is scanned.
+    /// `known` has the hashes of old keys that a look-up computed, so that they aren't computed again. Under a wrong
+    /// hash the old entry would be missed, and its table scanned.
     fn commit_move(
         &mut self,
         items: &ItemSet<T>,
@@ -386,6 +390,7 @@ pub trait Moves<T, S>: KeyIndex<T, S> {
     )
         requires live { IsLive items.now.store ix }
         requires indexed { Self.indexes self.old state.now items.now.store }
+        requires known { AreKnownAt (Self.are_known state.now) items.now.store ix known }
         requires planned { Self.is_move state.now items.now.store ix item.now plan.now }
         requires enough { Self.are_enough_for self.old plan.now blocks }
         ensures indexed { Self.indexes self.new state.now (rebound items.now.store ix item.now) }
@@ -533,9 +538,11 @@ pub trait UniqueAt<P, Q, T, S>: KeyIndex<T, S> {
     // The query stands for the key of the item.
     ghost stands_for: { Q → T → Bool };
 
-    /// The index of the item that has the key for which the query stands, and the hashes that were computed for that.
-    ///
-    /// No clause speaks of the hashes: a move that is given a wrong one scans its table.
+    // The hash of the key at the place is known, if that key has one.
+    ghost has_hash: { Self.KnownHashes → Type 0 };
+
+    /// The index of the item that has the key for which the query stands, and the hashes that were computed for that:
+    /// each is one of that item, and a move of the item takes them.
     fn find(
         &self,
         items: &ItemSet<T>,
@@ -543,7 +550,10 @@ pub trait UniqueAt<P, Q, T, S>: KeyIndex<T, S> {
         query: Q,
     ) -> (Option<ItemIndex>, Self::KnownHashes)
         requires indexed { Self.KeyIndex.indexes self.now state.now items.now.store }
-        ensures { AnswersScan items.now.store (stands_for query) result.0 };
+        ensures found { AnswersScan items.now.store (stands_for query) result.0 }
+        ensures known { IfSome result.0 (λ ix. AreKnownAt (Self.KeyIndex.are_known state.now) items.now.store ix
+            result.1) }
+        ensures hashed { has_hash result.1 };
 }
 
 /// A key index that removes an index by a unique key at the place `P`.

@@ -79,16 +79,20 @@ impl<T, X: KeyIndex<T, S>, S> Model for Map<T, X, S> {
 
 impl<T, X: Empty<T, DefaultHashBuilder>> Map<T, X, DefaultHashBuilder> {
     /// An empty map with the default hasher, whose seed is fixed. It may grow to `u32::MAX` items, one for each index
-    /// but `SENTINEL`. It takes no memory.
+    /// but `SENTINEL`.
+    ///
+    /// Cost: a few steps; takes no memory.
     pub fn new(alloc: Global) -> Map<T, X, DefaultHashBuilder>
         ensures { result ≡ empty_map u32.MAX }
     {
         Map::with_hasher(alloc, DefaultHashBuilder::default())
     }
 
-    /// An empty map with the default hasher, which never has more slots than the limit. It takes no memory.
+    /// An empty map with the default hasher, which never has more slots than the limit.
     ///
     /// No call changes the limit.
+    ///
+    /// Cost: a few steps; takes no memory.
     pub fn with_limit(alloc: Global, limit: u32) -> Map<T, X, DefaultHashBuilder>
         ensures { result ≡ empty_map limit }
     {
@@ -97,16 +101,20 @@ impl<T, X: Empty<T, DefaultHashBuilder>> Map<T, X, DefaultHashBuilder> {
 }
 
 impl<T, X: Empty<T, S>, S> Map<T, X, S> {
-    /// An empty map that may grow to `u32::MAX` items, one for each index but `SENTINEL`. It takes no memory.
+    /// An empty map that may grow to `u32::MAX` items, one for each index but `SENTINEL`.
+    ///
+    /// Cost: a few steps; takes no memory.
     pub fn with_hasher(alloc: Global, state: S) -> Map<T, X, S>
         ensures { result ≡ empty_map u32.MAX }
     {
         Map::with_limit_and_hasher(alloc, state, u32::MAX)
     }
 
-    /// An empty map that never has more slots than the limit. It takes no memory.
+    /// An empty map that never has more slots than the limit.
     ///
     /// No call changes the limit.
+    ///
+    /// Cost: a few steps; takes no memory.
     pub fn with_limit_and_hasher(alloc: Global, state: S, limit: u32) -> Map<T, X, S>
         ensures { result ≡ empty_map limit }
     {
@@ -120,6 +128,8 @@ impl<T, X: Empty<T, S>, S> Map<T, X, S> {
 
 impl<T, X: IndexLaws<T, S>, S> Map<T, X, S> {
     /// The number of items.
+    ///
+    /// Cost: a few steps; takes no memory.
     pub fn len(&self) -> usize
         ensures value { result ≡ live_count self.now.store }
 
@@ -132,6 +142,8 @@ impl<T, X: IndexLaws<T, S>, S> Map<T, X, S> {
 
 impl<T, X: KeyIndex<T, S>, S> Map<T, X, S> {
     /// Whether there is no item.
+    ///
+    /// Cost: a few steps; takes no memory.
     pub fn is_empty(&self) -> bool
         ensures { IsTrue result ↔ (live_count self.now.store ≡ 0) }
     {
@@ -139,6 +151,8 @@ impl<T, X: KeyIndex<T, S>, S> Map<T, X, S> {
     }
 
     /// The item at an index, if there is one.
+    ///
+    /// Cost: a few steps; takes no memory.
     pub fn get_at(&self, ix: ItemIndex) -> Option<&T>
         ensures { option_copied result ≡ get self.now.store ix }
     {
@@ -146,6 +160,8 @@ impl<T, X: KeyIndex<T, S>, S> Map<T, X, S> {
     }
 
     /// Borrows the parts, for look-ups of indexes by one key index.
+    ///
+    /// Cost: a few steps; takes no memory.
     pub fn parts(&self) -> Parts<'_, T, X, S>
         ensures { result ≡ self.now.store }
     {

@@ -49,6 +49,7 @@ where
     B: KeyIndex<T, S>,
 {
     ghost use Rattle.std.specs.Prelude.{◌||◌, ◌+◌, min};
+    ghost use Rattle.iddqd_map.specs.PairHashes.{AreKnownToPair};
     ghost use Rattle.iddqd_map.specs.Several.{either_key, both_keys};
 
     type KnownHashes = PairHashes<A::KnownHashes, B::KnownHashes>;
@@ -62,6 +63,8 @@ where
     ghost same_keys = { both_keys A.same_keys B.same_keys };
 
     ghost indexes = { λ x state s. A.indexes x.first state s × B.indexes x.second state s };
+
+    ghost are_known = { λ state item. AreKnownToPair (A.are_known state item) (B.are_known state item) };
 
     ghost capacity = { λ x. min (A.capacity x.first) (B.capacity x.second) };
 
@@ -501,7 +504,11 @@ where
     A: UniqueAt<P, Q, T, S>,
     B: KeyIndex<T, S>,
 {
+    ghost use Rattle.iddqd_map.specs.PairHashes.{IsFirst};
+
     ghost stands_for = { A.UniqueAt.stands_for };
+
+    ghost has_hash = { IsFirst A.UniqueAt.has_hash };
 
     fn find(
         &self,
@@ -534,7 +541,11 @@ where
     A: KeyIndex<T, S>,
     B: UniqueAt<P, Q, T, S>,
 {
+    ghost use Rattle.iddqd_map.specs.PairHashes.{IsSecond};
+
     ghost stands_for = { B.UniqueAt.stands_for };
+
+    ghost has_hash = { IsSecond B.UniqueAt.has_hash };
 
     fn find(
         &self,

@@ -1,4 +1,5 @@
 //! Hashes that a look-up in a pair of key indexes computed.
+ghost use Rattle.iddqd_map.specs.PairHashes.{AreKnownToPair, KeepsFirst, KeepsSecond};
 
 use crate::key_index::Moves;
 
@@ -16,7 +17,11 @@ pub enum PairHashes<A, B> {
 /// The hashes that the first key index computed.
 pub(crate) fn first_known<T, S, A: Moves<T, S>, B: Moves<T, S>>(
     known: PairHashes<A::KnownHashes, B::KnownHashes>,
-) -> A::KnownHashes {
+) -> A::KnownHashes
+    ensures known { (state : S) (item : T) → AreKnownToPair (A.are_known state item) (B.are_known state item) known
+        → A.are_known state item result }
+    ensures kept { KeepsFirst known result }
+{
     match known {
         PairHashes::First(known) => known,
         _ => A::no_hashes(),
@@ -26,7 +31,11 @@ pub(crate) fn first_known<T, S, A: Moves<T, S>, B: Moves<T, S>>(
 /// The hashes that the second key index computed.
 pub(crate) fn second_known<T, S, A: Moves<T, S>, B: Moves<T, S>>(
     known: PairHashes<A::KnownHashes, B::KnownHashes>,
-) -> B::KnownHashes {
+) -> B::KnownHashes
+    ensures known { (state : S) (item : T) → AreKnownToPair (A.are_known state item) (B.are_known state item) known
+        → B.are_known state item result }
+    ensures kept { KeepsSecond known result }
+{
     match known {
         PairHashes::Second(known) => known,
         _ => B::no_hashes(),

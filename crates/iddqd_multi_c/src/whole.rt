@@ -8,12 +8,11 @@ ghost use Rattle.iddqd_multi_c.specs.Held.{Changes, Holds, Reads};
 use crate::entry::Entries;
 use crate::handle::{CTable, make, put, take};
 use crate::table::Table;
+use iddqd_byte_keys::Seed;
 use iddqd_codes::{HANDLE, MEMORY, OK};
 use iddqd_map::map::Map;
 use std::alloc::{AllocError, Global};
 use std::hash::RandomState;
-use std::io;
-use std::random::RandomSource;
 
 /// Makes an empty table, where the handle is zero.
 ///
@@ -32,23 +31,6 @@ pub extern "C" fn iddqd_multi_new(t: &mut CTable, alloc: Global, seed1: u64, see
     };
     let entries = Map::with_hasher(alloc, hasher);
     make(t, alloc, Table::of(entries))
-}
-
-// The seed as the source of random bytes that a `RandomState` asks for.
-#[derive(Clone, Copy)]
-struct Seed {
-    seed1: u64,
-    seed2: u64,
-}
-
-impl RandomSource for Seed {
-    fn fill_bytes(&self, buf: &mut [u8]) -> io::Result<()> {
-        let seed = (self.seed1 as u128) << 64 | self.seed2 as u128;
-        for (place, byte) in buf.iter_mut().zip(seed.to_le_bytes()) {
-            *place = byte;
-        }
-        Ok(())
-    }
 }
 
 /// The number of items.

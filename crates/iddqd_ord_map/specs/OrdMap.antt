@@ -4,7 +4,7 @@ use Rattle.std.specs.Fn.{Once}
 use Rattle.std.specs.Iterator.{Count}
 use Rattle.std.specs.declared.cmp.Ordering.{Ordering}
 use Rattle.iddqd_map.specs.Append.{Appends}
-use Rattle.iddqd_map.specs.Bulk.{InsertsFrom, RefusesOneOf}
+use Rattle.iddqd_map.specs.Bulk.{InsertsFrom, MakesOf, RefusesOneOf}
 use Rattle.iddqd_map.specs.BulkOverwrite.{OverwritesFrom}
 use Rattle.iddqd_map.specs.Calls.{Inserts, ReplacesIfLive, Replaces, Changes}
 use Rattle.iddqd_map.specs.Map.{MapState}
@@ -70,6 +70,10 @@ module _ {T K : Type 0} (key_of : T → K) (compare : K → K → Ordering) wher
   abbrev pub AppendsInOrder : (into from : MapState T) → Appended → (new_into new_from : MapState T) → Type 0
   AppendsInOrder into from answer new_into new_from =
       Appends (alike_in_order key_of compare) (λ count. 0) into from answer new_into new_from
+
+  -- a map was made of these items
+  abbrev pub MakesOfInOrder : List T → MapState T → Type 0
+  MakesOfInOrder items new = MakesOf (alike_in_order key_of compare) (λ count. 0) most_cells items new
 
   -- why no map is made of these items
   abbrev pub RefusesOneInOrder : List T → InsertRefusal T ℕ → Type 0

@@ -8,8 +8,9 @@
 //! 2. It is sorted by the keys of their items, and no two items have equal keys.
 //!
 //! It is one file, since it is an impl of each trait of key indexes, and no impl can be split.
-ghost use Rattle.std.specs.Prelude.{◌≡◌, ℕ, IfSome};
-ghost use Rattle.iddqd.specs.{removed};
+ghost use Rattle.std.specs.Prelude.{◌≡◌, ◌<◌, ◌≤◌, ℕ, IfSome, IsOk, IfOk, OnErr};
+ghost use Rattle.iddqd.specs.{live_count, removed};
+ghost use Rattle.iddqd_order.specs.Gap.{gap_blocks};
 ghost use Rattle.iddqd_order.specs.Spot.{StandsAt};
 ghost use Rattle.iddqd_order.specs.declared.btree_table.spot.Spot.{Spot as SpotInTable};
 ghost use Rattle.iddqd_order.specs.MapBTreeTable.{order_of};
@@ -98,6 +99,8 @@ where
 
     ghost indexes = { λ x state s. Sorts E.key_of E.cmp s (order_of x.table) };
 
+    ghost are_known = { λ state item known. Unit {0} };
+
     ghost capacity = { λ x. reserved_for x.table };
 
     ghost cells = { λ x. reserved_for x.table };
@@ -179,12 +182,16 @@ where
         position
     }
 
-    fn make_room(
-        &mut self,
-        items: &ItemSet<T>,
-        state: &S,
-        plan: &Gap,
-    ) -> Result<Blocks, AllocError> {
+    // It takes no more blocks than the insert needs. The trait doesn't say so, since other key indexes have no blocks.
+    fn make_room(&mut self, items: &ItemSet<T>, state: &S, plan: &Gap) -> Result<Blocks, AllocError>
+        requires indexed { Sorts E.key_of E.cmp items.now.store (order_of self.old.table) }
+        ensures same { self.new ≡ self.old }
+        ensures ready { IfOk result (λ blocks. HasBlocksAt self.new.table blocks plan.now) }
+        ensures few_blocks { IfOk result (λ blocks. blocks ≤ gap_blocks self.old.table plan.now) }
+        ensures needed { OnErr result (0 < gap_blocks self.old.table plan.now) }
+        ensures had_room { live_count items.now.store < reserved_for self.old.table → IsOk result }
+        ensures none { live_count items.now.store < reserved_for self.old.table → IfOk result (λ blocks. blocks ≡ 0) }
+    {
         ordered_steps::blocks_at(&self.table, items, plan)
     }
 
@@ -423,6 +430,8 @@ where
     Q: ItemOrdQuery<T, E>,
 {
     ghost stands_for = { λ query. is_equal (Q.compare_item query) };
+
+    ghost has_hash = { λ known. Unit {0} };
 
     fn find(&self, items: &ItemSet<T>, state: &S, query: Q) -> (Option<ItemIndex>, ()) {
         (find_by::<T, E, Q>(&self.table, items, query), ())

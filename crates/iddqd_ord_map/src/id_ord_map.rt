@@ -82,16 +82,20 @@ impl<T: Drop, E: OrdKey<T>> Model for OrdMapBy<T, E> {
 }
 
 impl<T: Drop, E: OrdKey<T>> OrdMapBy<T, E> {
-    /// Empty. It may grow to `u32::MAX` items, one for each index but `SENTINEL`. It takes no memory.
+    /// Empty. It may grow to `u32::MAX` items, one for each index but `SENTINEL`.
+    ///
+    /// Cost: a few steps; takes no memory.
     pub fn new(alloc: Global) -> OrdMapBy<T, E>
         ensures { result ≡ empty_map u32.MAX }
     {
         OrdMapBy::with_limit(alloc, u32::MAX)
     }
 
-    /// Empty, and never with more slots than the limit. It takes no memory.
+    /// Empty, and never with more slots than the limit.
     ///
     /// No call changes the limit.
+    ///
+    /// Cost: a few steps; takes no memory.
     pub fn with_limit(alloc: Global, limit: u32) -> OrdMapBy<T, E>
         ensures { result ≡ empty_map limit }
     {
@@ -101,6 +105,8 @@ impl<T: Drop, E: OrdKey<T>> OrdMapBy<T, E> {
     }
 
     /// Empty, with memory for `wanted` items. With 0 it takes none.
+    ///
+    /// Cost: a few steps; takes memory for so many items.
     pub fn with_capacity(alloc: Global, wanted: usize) -> Result<OrdMapBy<T, E>, AllocError>
         ensures contents { IfOk result (λ m. m.store ≡ empty) }
         ensures room { IfOk result (λ m. min wanted slot_limit ≤ room m) }
@@ -115,6 +121,8 @@ impl<T: Drop, E: OrdKey<T>> OrdMapBy<T, E> {
 
     /// Empty, never with more slots than the limit, and with memory for `wanted` items or for as many as the limit
     /// allows. If that is 0 it takes none.
+    ///
+    /// Cost: a few steps; takes memory for so many items.
     pub fn with_limit_and_capacity(
         alloc: Global,
         limit: u32,
@@ -141,6 +149,8 @@ impl<T: Drop, E: OrdKey<T>> OrdMapBy<T, E> {
     }
 
     /// The number of items.
+    ///
+    /// Cost: a few steps; takes no memory.
     pub fn len(&self) -> usize
         ensures value { result ≡ live_count self.now.store }
 
@@ -151,6 +161,8 @@ impl<T: Drop, E: OrdKey<T>> OrdMapBy<T, E> {
     }
 
     /// Whether there is no item.
+    ///
+    /// Cost: a few steps; takes no memory.
     pub fn is_empty(&self) -> bool
         ensures { IsTrue result ↔ (live_count self.now.store ≡ 0) }
     {
@@ -162,6 +174,8 @@ impl<T: Drop, E: OrdKey<T>> OrdMapBy<T, E> {
     /// The query is a `&K` for a field `K`, a tuple of queries for a tuple of keys, or another query that stands for
     /// one key. It is one search of the ordered table, whose contract allows at most 4 + 2d comparisons, where the
     /// number of items has d binary digits. The contract here doesn't count them; tests do.
+    ///
+    /// Cost: one search; takes no memory.
     pub fn find<Q: ItemOrdQuery<T, E>>(&self, query: Q) -> Option<ItemIndex>
         ensures { AnswersScan self.now.store (is_equal (Q.compare_item query)) result }
     {
@@ -170,6 +184,8 @@ impl<T: Drop, E: OrdKey<T>> OrdMapBy<T, E> {
     }
 
     /// Whether an item has the key.
+    ///
+    /// Cost: one search; takes no memory.
     pub fn contains_key<Q: ItemOrdQuery<T, E>>(&self, query: Q) -> bool
         ensures { (result ≡ false) ↔ HasNoHit self.now.store (is_equal (Q.compare_item query)) }
     {
@@ -177,6 +193,8 @@ impl<T: Drop, E: OrdKey<T>> OrdMapBy<T, E> {
     }
 
     /// The item that has the key.
+    ///
+    /// Cost: one search; takes no memory.
     pub fn get<Q: ItemOrdQuery<T, E>>(&self, query: Q) -> Option<&T>
         ensures { FindsItem self.now.store (is_equal (Q.compare_item query)) (option_copied result) }
     {
@@ -184,6 +202,8 @@ impl<T: Drop, E: OrdKey<T>> OrdMapBy<T, E> {
     }
 
     /// The item at an index, if there is one.
+    ///
+    /// Cost: a few steps; takes no memory.
     pub fn get_at(&self, ix: ItemIndex) -> Option<&T>
         ensures { option_copied result ≡ get self.now.store ix }
     {
@@ -195,6 +215,8 @@ impl<T: Drop, E: OrdKey<T>> OrdMapBy<T, E> {
     /// If there are several reasons for a refusal, the first of these is reported: duplicate, full, out of memory. A
     /// refusal returns the item, and the contents stay. If there is `room`, only a duplicate is refused. The table is
     /// searched once.
+    ///
+    /// Cost: one search; takes memory only without `room`.
     pub fn insert_unique(&mut self, item: T) -> Result<ItemIndex, InsertRefusal<T, ItemIndex>>
         ensures inserts { let alike = shares E.key_of (eq_by_cmp E.cmp) in
             Inserts alike (λ count. 0) (IsReported alike) self.old item result self.new }
@@ -214,6 +236,8 @@ impl<T: Drop, E: OrdKey<T>> OrdMapBy<T, E> {
     ///
     /// If an item has its key, it takes no memory and isn't refused. If none has, it inserts as `insert_unique` does,
     /// and may be refused for the same reasons.
+    ///
+    /// Cost: two searches at most; takes memory only without `room`, and if it removes no item.
     pub fn insert_overwrite(
         &mut self,
         item: T,
@@ -239,7 +263,9 @@ impl<T: Drop, E: OrdKey<T>> OrdMapBy<T, E> {
         }
     }
 
-    /// Removes the item that has the key, and returns it. The table is searched once. It takes no memory.
+    /// Removes the item that has the key, and returns it. The table is searched once.
+    ///
+    /// Cost: one search; takes no memory.
     pub fn remove<Q: ItemOrdQuery<T, E>>(&mut self, query: Q) -> Option<T>
         ensures removes { Removes self.old (is_equal (Q.compare_item query)) result self.new }
         ensures gone { HasNoHit self.new.store (is_equal (Q.compare_item query)) }
@@ -252,7 +278,9 @@ impl<T: Drop, E: OrdKey<T>> OrdMapBy<T, E> {
         self.map.remove_by::<Here, Q>(query)
     }
 
-    /// Removes the item at an index, if there is one, and returns it. It takes no memory.
+    /// Removes the item at an index, if there is one, and returns it.
+    ///
+    /// Cost: one search; takes no memory.
     pub fn remove_at(&mut self, ix: ItemIndex) -> Option<T>
         ensures removes { RemovesAt self.old ix result self.new }
         ensures value { result ≡ get self.old.store ix }
@@ -268,6 +296,8 @@ impl<T: Drop, E: OrdKey<T>> OrdMapBy<T, E> {
 
     /// How many items the reserved memory has room for: 0 if none was reserved, whatever the map holds. Only calls that
     /// shrink lower it.
+    ///
+    /// Cost: a few steps; takes no memory.
     pub fn capacity(&self) -> usize
         ensures { result ≡ capacity self.now }
     {
@@ -275,6 +305,8 @@ impl<T: Drop, E: OrdKey<T>> OrdMapBy<T, E> {
     }
 
     /// How many inserts need no memory.
+    ///
+    /// Cost: a few steps; takes no memory.
     pub fn room(&self) -> usize
         ensures { result ≡ room self.now }
     {
@@ -284,6 +316,8 @@ impl<T: Drop, E: OrdKey<T>> OrdMapBy<T, E> {
     /// Makes room for `additional` more inserts, or for as many as the limit allows.
     ///
     /// If there is room already it takes no memory. If memory runs out the items stay, and what was taken is kept.
+    ///
+    /// Cost: moves what grows; takes memory only if there is less room.
     pub fn reserve(&mut self, additional: usize) -> Result<(), AllocError>
         ensures { ReservesItems most_cells additional self.old result self.new }
     {
@@ -291,6 +325,8 @@ impl<T: Drop, E: OrdKey<T>> OrdMapBy<T, E> {
     }
 
     /// The same as `reserve`, under the name that it has in libraries whose `reserve` can't fail.
+    ///
+    /// Cost: moves what grows; takes memory only if there is less room.
     pub fn try_reserve(&mut self, additional: usize) -> Result<(), AllocError>
         ensures { ReservesItems most_cells additional self.old result self.new }
     {
@@ -299,6 +335,8 @@ impl<T: Drop, E: OrdKey<T>> OrdMapBy<T, E> {
 
     /// Gives back the memory that the slots and the table don't need. If a smaller block can't be allocated, the items
     /// stay.
+    ///
+    /// Cost: moves what shrinks; takes memory for the smaller blocks before it gives the greater ones back.
     pub fn shrink_to_fit(&mut self) -> Result<(), AllocError>
         ensures shrinks { ShrinksItems (λ slots count. most_cells count) 0 self.old result self.new }
         ensures needed { OnErr result (HasMoreThanNeeded (λ slots count. count) 0 self.old self.new) }
@@ -308,6 +346,8 @@ impl<T: Drop, E: OrdKey<T>> OrdMapBy<T, E> {
 
     /// Gives back the memory beyond what `least` items need, or the slots and items that there are if these are more.
     /// It fails only if more slots are left than are needed for that, or more is reserved.
+    ///
+    /// Cost: moves what shrinks; takes memory for the smaller blocks before it gives the greater ones back.
     pub fn shrink_to(&mut self, least: usize) -> Result<(), AllocError>
         ensures shrinks { ShrinksItems (λ slots count. most_cells count) least self.old result self.new }
         ensures needed { OnErr result (HasMoreThanNeeded (λ slots count. count) least self.old self.new) }
@@ -316,6 +356,8 @@ impl<T: Drop, E: OrdKey<T>> OrdMapBy<T, E> {
     }
 
     /// Forgets all items and all slots, so that the next index is 0. It keeps the memory.
+    ///
+    /// Cost: drops the items, and clears the table; takes no memory.
     pub fn clear(&mut self)
         ensures store { self.new.store ≡ cleared self.old.store }
         ensures memory { self.new.memory ≡ self.old.memory }
@@ -328,6 +370,9 @@ impl<T: Drop, E: OrdKey<T>> OrdMapBy<T, E> {
     ///
     /// No key is compared. If no slot is vacant it returns `Identity` and takes no memory. Otherwise it allocates a
     /// list of one index for each slot before any item moves; if memory runs out, nothing changes.
+    ///
+    /// Cost: a step for each slot and each entry of the table; takes memory for a list of one index for each slot, if
+    /// one is vacant.
     pub fn compact(&mut self) -> Result<IndexRemap, AllocError>
         ensures remap { IfOk result (IsRemapOf self.old.store) }
         ensures compacted { OnOk result (Compacts self.old self.new) }

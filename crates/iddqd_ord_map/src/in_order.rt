@@ -27,6 +27,8 @@ pub trait InOrder<T, X: KeyIndex<T, S>, S> {
     ghost state: { Self → MapState T };
 
     /// All items with their indexes, in order, from both ends.
+    ///
+    /// Cost: a step for each item; takes no memory.
     fn iter_by<P>(&self) -> Iter<'_, T>
     where
         X: SortedAt<P, T, S>,
@@ -34,18 +36,24 @@ pub trait InOrder<T, X: KeyIndex<T, S>, S> {
         ensures len { length result ≡ live_count (state self.now).store };
 
     /// The first item in order, with its index.
+    ///
+    /// Cost: a few steps; takes no memory.
     fn first_by<P>(&self) -> Option<(ItemIndex, &T)>
     where
         X: SortedAt<P, T, S>,
         ensures { FindsFirst X.sorts_by (state self.now).store (option_map shown result) };
 
     /// The last item in order, with its index.
+    ///
+    /// Cost: a few steps; takes no memory.
     fn last_by<P>(&self) -> Option<(ItemIndex, &T)>
     where
         X: SortedAt<P, T, S>,
         ensures { FindsLast X.sorts_by (state self.now).store (option_map shown result) };
 
     /// Removes the first item in order, and returns it. It is a removal from each table, and takes no memory.
+    ///
+    /// Cost: a removal from each table; takes no memory.
     fn pop_first_by<P>(&mut self) -> Option<T>
     where
         X: SortedAt<P, T, S> + Changes<T, S>,
@@ -55,6 +63,8 @@ pub trait InOrder<T, X: KeyIndex<T, S>, S> {
             → room (state self.new) ≡ room (state self.old) + 1) };
 
     /// Removes the last item in order, and returns it. It is a removal from each table, and takes no memory.
+    ///
+    /// Cost: a removal from each table; takes no memory.
     fn pop_last_by<P>(&mut self) -> Option<T>
     where
         X: SortedAt<P, T, S> + Changes<T, S>,
@@ -67,6 +77,8 @@ pub trait InOrder<T, X: KeyIndex<T, S>, S> {
     /// is above the upper one.
     ///
     /// It is one search for each bound that there is.
+    ///
+    /// Cost: one search for each bound that there is, then a step for each item; takes no memory.
     fn range_by<P, Q>(&self, lower: Bound<Q>, upper: Bound<Q>) -> Range<'_, T>
     where
         X: RangesAt<P, Q, T, S>,
@@ -76,6 +88,8 @@ pub trait InOrder<T, X: KeyIndex<T, S>, S> {
     /// `range_by`, with both bounds as one range of queries: `ledger.range_in::<ByDay, &u32, _>(&from..=&to)`.
     ///
     /// Of a `RangeInclusive` that was iterated to its end nothing is said.
+    ///
+    /// Cost: one search for each bound that there is, then a step for each item; takes no memory.
     fn range_in<P, Q, R>(&self, bounds: R) -> Range<'_, T>
     where
         X: RangesAt<P, Q, T, S>,
@@ -87,6 +101,8 @@ pub trait InOrder<T, X: KeyIndex<T, S>, S> {
     /// The items that have the key for which the query stands with their indexes, in order, from both ends.
     ///
     /// It is two searches.
+    ///
+    /// Cost: two searches, then a step for each item; takes no memory.
     fn group_by<P, Q>(&self, query: Q) -> Range<'_, T>
     where
         X: RangesAt<P, Q, T, S>,
@@ -94,6 +110,8 @@ pub trait InOrder<T, X: KeyIndex<T, S>, S> {
         ensures { IteratesInOrder X.order (is_equal (X.compare query)) (state self.now).store result };
 
     /// How many items have the key for which the query stands. It costs one step for each of them more than `group_by`.
+    ///
+    /// Cost: two searches, and a step for each item; takes no memory.
     fn count_by<P, Q>(&self, query: Q) -> usize
     where
         X: RangesAt<P, Q, T, S>,

@@ -23,6 +23,8 @@ pub trait OrderedParts<'a, T, X: KeyIndex<T, S>, S>: Sized {
     ghost store: { Self → Store T };
 
     /// All live indexes, in order, from both ends.
+    ///
+    /// Cost: a step for each index; takes no memory.
     fn iter(self) -> Iter<'a>
     where
         X: SortedAt<Here, T, S>,
@@ -32,6 +34,8 @@ pub trait OrderedParts<'a, T, X: KeyIndex<T, S>, S>: Sized {
     /// the upper one.
     ///
     /// It is one search for each bound that there is.
+    ///
+    /// Cost: one search for each bound that there is, then a step for each index; takes no memory.
     fn range<Q>(self, lower: Bound<Q>, upper: Bound<Q>) -> Range<'a>
     where
         X: RangesAt<Here, Q, T, S>,
@@ -42,12 +46,16 @@ pub trait OrderedParts<'a, T, X: KeyIndex<T, S>, S>: Sized {
     /// of several keys, as a `Prefix`, gives all items with that first key, by key and then by index.
     ///
     /// It is two searches.
+    ///
+    /// Cost: two searches, then a step for each index; takes no memory.
     fn group<Q: Copy>(self, query: Q) -> Range<'a>
     where
         X: RangesAt<Here, Q, T, S>,
         ensures { ListsInOrder X.order (is_equal (X.compare query)) (store self) (indexes_ahead result) };
 
     /// Whether an item has the key for which the query stands, by one search.
+    ///
+    /// Cost: one search; takes no memory.
     fn contains_key<Q: Copy>(self, query: Q) -> bool
     where
         X: StepsAt<Here, Q, T, S>,

@@ -23,8 +23,8 @@ use std::ops::Bound;
 
 /// The index of the item that has the key for which the query stands.
 ///
-/// It is one search of the table, of 4 + 2d comparisons at most, where the length has d binary digits: `ordered::find`
-/// says where this is proved.
+/// It is one search of the table. `ordered::find` says how many comparisons the table's contract allows; the contract
+/// here doesn't count them.
 pub fn find_by<T, E, Q>(table: &MapBTreeTable, items: &ItemSet<T>, query: Q) -> Option<ItemIndex>
 where
     E: OrdKey<T>,

@@ -85,7 +85,8 @@ pub fn shrink_to<T>(table: &mut MapBTreeTable, items: &ItemSet<T>, least: usize)
     }
 }
 
-/// Takes the blocks of an insert at a place. If there is room it takes no memory.
+/// Takes the blocks of an insert at a place: those that it needs beyond the spare ones, and no more. If there is room
+/// it takes no memory.
 pub fn blocks_at<T>(
     table: &MapBTreeTable,
     items: &ItemSet<T>,
@@ -93,6 +94,8 @@ pub fn blocks_at<T>(
 ) -> Result<Blocks, AllocError>
     requires { Holds items.now.store (order_of table.now) }
     ensures ready { IfOk result (λ blocks. HasBlocksAt table.now blocks gap.now) }
+    ensures few { IfOk result (λ blocks. blocks ≤ gap_blocks table.now gap.now) }
+    ensures needed { OnErr result (0 < gap_blocks table.now gap.now) }
     ensures had_room { live_count items.now.store < reserved_for table.now → IsOk result }
     ensures none { live_count items.now.store < reserved_for table.now → IfOk result (λ blocks. blocks ≡ 0) }
 {
@@ -106,6 +109,7 @@ pub fn blocks_at<T>(
 pub fn blocks_anywhere<T>(table: &MapBTreeTable, items: &ItemSet<T>) -> Result<Blocks, AllocError>
     requires { Holds items.now.store (order_of table.now) }
     ensures enough { IfOk result (HasBlocksAnywhere table.now) }
+    ensures few { IfOk result (λ blocks. blocks ≤ move_blocks table.now) }
     ensures none { live_count items.now.store ≤ reserved_for table.now → IfOk result (λ blocks. blocks ≡ 0) }
     ensures past { OnErr result (reserved_for table.now < live_count items.now.store) }
 {
@@ -120,6 +124,7 @@ pub fn blocks_for<T>(
 ) -> Result<Blocks, AllocError>
     requires { Holds items.now.store (order_of table.now) }
     ensures enough { IfOk result (λ blocks. HasBlocksFor table.now blocks plan.now) }
+    ensures few { IfOk result (λ blocks. blocks ≤ move_blocks table.now) }
     ensures none { live_count items.now.store ≤ reserved_for table.now → IfOk result (λ blocks. blocks ≡ 0) }
     ensures stays { moves plan.now ≡ false → IfOk result (λ blocks. blocks ≡ 0) }
     ensures moves { OnErr result (moves plan.now ≡ true) }

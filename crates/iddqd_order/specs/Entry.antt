@@ -6,7 +6,7 @@ use Rattle.std.specs.declared.cmp.Ordering.{Ordering}
 use Rattle.std.specs.declared.cmp.Ordering.TheVariants.{Equal}
 use Rattle.iddqd_order.specs.Gap.{gap_place}
 use Rattle.iddqd_order.specs.MapBTreeTable.{Order, order_of, spot_place}
-use Rattle.iddqd_order.specs.PreparedBTreeInsert.{Prepared, table_of, index_of, place_of, blocks_of}
+use Rattle.iddqd_order.specs.PreparedBTreeInsert.{Prepared, table_of, index_of, place_of, blocks_of, needed_of}
 use Rattle.iddqd_order.specs.Search.{SearchAsks, IsSteady, IsSteadyRising, IsPlace}
 use Rattle.iddqd_order.specs.declared.btree_table.asking.Asking.{Asking}
 use Rattle.iddqd_order.specs.declared.btree_table.entry.Entry.{Entry}
@@ -61,9 +61,11 @@ module _ {F R : Type 0} (g : Mut F (ℕ × Unit {0}) R) (read : R → Ordering) 
     pub miss : (answer : ℕ → Ordering) → IsSteadyRising g xs None read answer old →
         IfVacant e (λ v. All (λ ix. answer ix ≢ Equal) xs)
 
--- the insert of ix at the gap of a vacant entry is prepared, and nothing is added yet
+-- the insert of ix at the gap of a vacant entry is prepared, with exactly the blocks that it needs, and nothing is
+-- added yet
 pub record PreparesFill (v : VacantEntry) (ix : ℕ) (p : Prepared) : Type 0 where
   pub table : order_of (table_of p).now ≡ order_of (vacant_table v).now
   pub index : index_of p ≡ ix
   pub place : place_of p ≡ vacant_place v
+  pub needed : blocks_of p ≡ needed_of p
   pub few_blocks : blocks_of p ≤ most_levels

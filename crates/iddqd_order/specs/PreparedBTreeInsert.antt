@@ -3,7 +3,7 @@ use Rattle.std.specs.Prelude.{◌≡◌, ◌≤◌, ℕ, List, Result}
 use Rattle.std.specs.Borrow.{RestsIfErr, Fml, MutBor}
 use Rattle.std.specs.Fn.{Mut}
 use Rattle.std.specs.declared.cmp.Ordering.{Ordering}
-use Rattle.iddqd_order.specs.Gap.{gap_place}
+use Rattle.iddqd_order.specs.Gap.{gap_place, gap_blocks}
 use Rattle.iddqd_order.specs.MapBTreeTable.{Order, order_of}
 use Rattle.iddqd_order.specs.Prepares.{PreparesInsertAt}
 use Rattle.iddqd_order.specs.contracts.btree_table.blocks.BlocksHoldsBlocks.TheImpl.{ghosts}
@@ -32,13 +32,18 @@ place_of p = gap_place p.table.now p.gap
 unfoldable pub blocks_of : Prepared → ℕ
 blocks_of p = p.blocks
 
+-- how many blocks its insert needs beyond the spare ones of the table
+unfoldable pub needed_of : Prepared → ℕ
+needed_of p = gap_blocks p.table.now p.gap
+
 -- if memory ran out, the table is as it was
 abbrev pub unchanged_if_out_of_memory : {E : Type 0} → MutBor Order → Result Prepared E → Fml
 unchanged_if_out_of_memory t r = RestsIfErr the_row t (λ p. p.table.ghost_name) r (λ n. n ≡ t.now)
 
--- an insert of ix among the indexes xs is prepared, with blocks for one path at most; `read` turns an answer into an
--- `Ordering`
+-- an insert of ix among the indexes xs is prepared, with exactly the blocks that it needs, which are for one path at
+-- most; `read` turns an answer into an `Ordering`
 module _ {F R : Type 0} (g : Mut F (ℕ × Unit {0}) R) (read : R → Ordering) (xs : List ℕ) (ix : ℕ) where
   pub record PreparesInsert (old : Asking F) (p : Prepared) : Type 0 where
     pub prepared : PreparesInsertAt g read xs ix old (order_of (table_of p).now) (index_of p) (place_of p)
+    pub needed : blocks_of p ≡ needed_of p
     pub few_blocks : blocks_of p ≤ most_levels

@@ -3,7 +3,7 @@ use Rattle.std.specs.Prelude.{◌≡◌, ◌≤◌, ℕ, List, Some, Result, len
 use Rattle.std.specs.Borrow.{RestsIfErr, Fml, MutBor}
 use Rattle.std.specs.Fn.{Mut}
 use Rattle.std.specs.declared.cmp.Ordering.{Ordering}
-use Rattle.iddqd_order.specs.MapBTreeTable.{Order, order_of, without}
+use Rattle.iddqd_order.specs.MapBTreeTable.{Order, order_of, move_blocks, without}
 use Rattle.iddqd_order.specs.Search.{IsSteadyRising, IsPlace, with_ties}
 use Rattle.iddqd_order.specs.contracts.btree_table.blocks.BlocksHoldsBlocks.TheImpl.{ghosts}
 use Rattle.iddqd_order.specs.contracts.btree_table.table.MapBTreeTable.{the_row}
@@ -35,10 +35,11 @@ blocks_of p = p.blocks
 abbrev pub unchanged_if_out_of_memory : {E : Type 0} → MutBor Order → Result PreparedMove E → Fml
 unchanged_if_out_of_memory t r = RestsIfErr the_row t (λ p. p.table.ghost_name) r (λ n. n ≡ t.now)
 
--- a move of ix among the indexes xs is prepared, and nothing is moved yet
+-- a move of ix among the indexes xs is prepared, with exactly the blocks that a move needs, and nothing is moved yet
 pub record PreparesMove (xs : List ℕ) (ix : ℕ) (p : PreparedMove) : Type 0 where
   pub table : order_of (table_of p).now ≡ xs
   pub index : index_of p ≡ ix
+  pub needed : blocks_of p ≡ move_blocks (table_of p).now
   pub few_blocks : blocks_of p ≤ most_levels
 
 -- ix is inserted among the indexes xs. If the answers are steady and, with ties broken, rise, it stands where Greater

@@ -91,7 +91,9 @@ impl<T: TriHashItem, S: BuildHasher> TriKeyed for TriItems<T, S> {
 }
 
 impl<T: TriHashItem, S: BuildHasher> TriItems<T, S> {
-    /// Empty. It may grow to `u32::MAX` items, one for each index but `SENTINEL`. It takes no memory.
+    /// Empty. It may grow to `u32::MAX` items, one for each index but `SENTINEL`.
+    ///
+    /// Cost: a few steps; takes no memory.
     pub fn new(alloc: Global, state: S) -> TriItems<T, S>
         ensures empty { result.state ≡ empty_tri_state u32.MAX state }
         ensures memory { result.memory ≡ no_memory }
@@ -100,7 +102,9 @@ impl<T: TriHashItem, S: BuildHasher> TriItems<T, S> {
         TriItems::with_limit(alloc, state, u32::MAX)
     }
 
-    /// Empty, and never with more slots than the limit. It takes no memory.
+    /// Empty, and never with more slots than the limit.
+    ///
+    /// Cost: a few steps; takes no memory.
     pub fn with_limit(alloc: Global, state: S, limit: u32) -> TriItems<T, S>
         ensures empty { result.state ≡ empty_tri_state limit state }
         ensures memory { result.memory ≡ no_memory }
@@ -114,6 +118,8 @@ impl<T: TriHashItem, S: BuildHasher> TriItems<T, S> {
     }
 
     /// The number of items.
+    ///
+    /// Cost: a few steps; takes no memory.
     pub fn len(&self) -> usize
         ensures value { result ≡ live_count self.now.state.store }
 
@@ -124,6 +130,8 @@ impl<T: TriHashItem, S: BuildHasher> TriItems<T, S> {
     }
 
     /// Whether there is no item.
+    ///
+    /// Cost: a few steps; takes no memory.
     pub fn is_empty(&self) -> bool
         ensures { IsTrue result ↔ (live_count self.now.state.store ≡ 0) }
     {
@@ -131,6 +139,8 @@ impl<T: TriHashItem, S: BuildHasher> TriItems<T, S> {
     }
 
     /// The item at an index, if it is live.
+    ///
+    /// Cost: a few steps; takes no memory.
     pub fn get(&self, ix: ItemIndex) -> Option<&T>
         ensures { option_copied result ≡ get self.now.state.store ix }
     {
@@ -138,6 +148,8 @@ impl<T: TriHashItem, S: BuildHasher> TriItems<T, S> {
     }
 
     /// The index of the item that has this first key.
+    ///
+    /// Cost: one look-up; takes no memory.
     pub fn find1(&self, key: &T::Key1) -> Option<ItemIndex>
         ensures { FindsKey ⟦<Self as TriKeyed>⟧.keys.first self.now.state key.now result }
     {
@@ -145,6 +157,8 @@ impl<T: TriHashItem, S: BuildHasher> TriItems<T, S> {
     }
 
     /// The index of the item that has this second key.
+    ///
+    /// Cost: one look-up; takes no memory.
     pub fn find2(&self, key: &T::Key2) -> Option<ItemIndex>
         ensures { FindsKey ⟦<Self as TriKeyed>⟧.keys.second self.now.state key.now result }
     {
@@ -152,6 +166,8 @@ impl<T: TriHashItem, S: BuildHasher> TriItems<T, S> {
     }
 
     /// The index of the item that has this third key.
+    ///
+    /// Cost: one look-up; takes no memory.
     pub fn find3(&self, key: &T::Key3) -> Option<ItemIndex>
         ensures { FindsKey ⟦<Self as TriKeyed>⟧.keys.third self.now.state key.now result }
     {
@@ -162,6 +178,8 @@ impl<T: TriHashItem, S: BuildHasher> TriItems<T, S> {
     ///
     /// If the keys that the query is equivalent to are equal to each other and hash as it does, the answer is that of a
     /// scan. Otherwise it may miss an item.
+    ///
+    /// Cost: one look-up; takes no memory.
     pub fn find1_by<Q: Hash + Equivalent<T::Key1>>(&self, query: &Q) -> Option<ItemIndex>
         ensures { FindsQuery S.BuildHasher S.Hasher.Hasher ⟦<Self as TriKeyed>⟧.keys.first self.now.state
             (Q.hash_input query.now) (Q.equivalent query.now) result }
@@ -171,6 +189,8 @@ impl<T: TriHashItem, S: BuildHasher> TriItems<T, S> {
     }
 
     /// The index of the item whose second key the query is equivalent to, as `find1_by`.
+    ///
+    /// Cost: one look-up; takes no memory.
     pub fn find2_by<Q: Hash + Equivalent<T::Key2>>(&self, query: &Q) -> Option<ItemIndex>
         ensures { FindsQuery S.BuildHasher S.Hasher.Hasher ⟦<Self as TriKeyed>⟧.keys.second self.now.state
             (Q.hash_input query.now) (Q.equivalent query.now) result }
@@ -180,6 +200,8 @@ impl<T: TriHashItem, S: BuildHasher> TriItems<T, S> {
     }
 
     /// The index of the item whose third key the query is equivalent to, as `find1_by`.
+    ///
+    /// Cost: one look-up; takes no memory.
     pub fn find3_by<Q: Hash + Equivalent<T::Key3>>(&self, query: &Q) -> Option<ItemIndex>
         ensures { FindsQuery S.BuildHasher S.Hasher.Hasher ⟦<Self as TriKeyed>⟧.keys.third self.now.state
             (Q.hash_input query.now) (Q.equivalent query.now) result }
@@ -188,7 +210,9 @@ impl<T: TriHashItem, S: BuildHasher> TriItems<T, S> {
         hashed::find::<T, Key3, Q>(&self.tables.third, &self.items, hash, query)
     }
 
-    /// Removes the item at an index, if it is live. It takes no memory.
+    /// Removes the item at an index, if it is live.
+    ///
+    /// Cost: a removal from each table; takes no memory.
     pub fn remove(&mut self, ix: ItemIndex) -> Option<T>
         ensures removes { RemovesItem self.old.state ix result self.new.state }
         ensures memory { self.new.memory ≡ self.old.memory }
@@ -207,6 +231,9 @@ impl<T: TriHashItem, S: BuildHasher> TriItems<T, S> {
     /// If it removes one, or if there is room, it takes no memory and doesn't refuse the item. Otherwise it refuses the
     /// item if the store is full, or if memory runs out. A refusal returns the item, leaves the others, and gives back
     /// no memory that was there.
+    ///
+    /// Cost: a look-up and an insertion by each key; of each item that it removes a removal from each table; takes
+    /// memory only without `room`, and if it removes no item.
     pub fn insert_overwrite(
         &mut self,
         item: T,
@@ -256,6 +283,8 @@ impl<T: TriHashItem, S: BuildHasher> TriItems<T, S> {
     /// Empty, with memory for `capacity` items, but at most for `u32::MAX`. With 0 it takes none.
     ///
     /// An `AllocError` means that memory ran out.
+    ///
+    /// Cost: clears the cells of the tables; takes memory for so many items.
     pub fn with_capacity(
         alloc: Global,
         state: S,
@@ -275,6 +304,8 @@ impl<T: TriHashItem, S: BuildHasher> TriItems<T, S> {
     }
 
     /// How many items there can be without more memory.
+    ///
+    /// Cost: a few steps; takes no memory.
     pub fn capacity(&self) -> usize
         ensures { result ≡ capacity self.now }
     {
@@ -283,6 +314,8 @@ impl<T: TriHashItem, S: BuildHasher> TriItems<T, S> {
     }
 
     /// How many inserts need no memory.
+    ///
+    /// Cost: a few steps; takes no memory.
     pub fn room(&self) -> usize
         ensures { result ≡ room self.now }
     {
@@ -293,6 +326,8 @@ impl<T: TriHashItem, S: BuildHasher> TriItems<T, S> {
     ///
     /// If there is room already, it takes no memory. If memory runs out, the items stay, and no part has less memory
     /// than before; parts that have grown stay so.
+    ///
+    /// Cost: moves what grows; takes memory only if there is less room.
     pub fn reserve(&mut self, additional: usize) -> Result<(), AllocError>
         ensures memory { ReservesItems additional self.old result self.new }
     {
@@ -303,6 +338,8 @@ impl<T: TriHashItem, S: BuildHasher> TriItems<T, S> {
     }
 
     /// The same as `reserve`, under the name that it has in libraries whose `reserve` can't fail.
+    ///
+    /// Cost: moves what grows; takes memory only if there is less room.
     pub fn try_reserve(&mut self, additional: usize) -> Result<(), AllocError>
         ensures memory { ReservesItems additional self.old result self.new }
     {
@@ -312,6 +349,8 @@ impl<T: TriHashItem, S: BuildHasher> TriItems<T, S> {
     /// Gives back the memory that the slots and the tables don't need. Vacant slots stay.
     ///
     /// If a part can't get smaller memory, the items stay, and no part keeps less than it needs.
+    ///
+    /// Cost: moves what shrinks; takes memory for the smaller blocks before it gives the greater ones back.
     pub fn shrink_to_fit(&mut self) -> Result<(), AllocError>
         ensures state { self.new.state ≡ self.old.state }
         ensures memory { let s = self.old.state.store in
@@ -324,6 +363,8 @@ impl<T: TriHashItem, S: BuildHasher> TriItems<T, S> {
     ///
     /// Vacant slots stay, and so does their memory. If a part can't get smaller memory, the items stay, and no part
     /// keeps less than was asked, unless it had less before.
+    ///
+    /// Cost: moves what shrinks; takes memory for the smaller blocks before it gives the greater ones back.
     pub fn shrink_to(&mut self, least: usize) -> Result<(), AllocError>
         ensures state { self.new.state ≡ self.old.state }
         ensures memory { let s = self.old.state.store in

@@ -1,4 +1,5 @@
 //! A board of scores: further calls of an `IdOrdMap`, beside those of `scores` and `words`, and what each promises.
+//! They stand in one file, longer than others, since all are of one map.
 ghost use Rattle.std.specs.Prelude.{◌≡◌, ◌⊎◌, ◌≤◌, ◌<◌, ◌+◌, ◌↔◌, ℕ, Ok, false, true, length, max, min, None, Some, IfOk, IfErr, IfSome, IfNone, OnOk, OnErr};
 ghost use Rattle.std.specs.Ordering.{nat_cmp, eq_by_cmp};
 ghost use Rattle.std.specs.declared.cmp.Ordering.TheVariants.{Less, Greater};
@@ -445,4 +446,33 @@ pub fn shift_at(
             ..score
         },
     )
+}
+
+// Whether there is a score of an hour, how many points the last one has, whether one moved to another hour, and whether
+// a third was given points.
+fn changed(board: &mut Board) -> (bool, u32, bool, bool) {
+    for (hour, points) in [(3, 30), (1, 10), (2, 5)] {
+        let _ = set(board, Score { hour, points });
+    }
+    let last = latest(board).map_or(0, |score| score.points);
+    (
+        has_hour(board, 2),
+        last,
+        move_to(board, 2, 4).is_ok(),
+        mark(board, 1, 50).is_some(),
+    )
+}
+
+fn script(alloc: Global, board: &mut Board) -> Result<String, AllocError> {
+    let changed = changed(board);
+    let void = void_from(board, 4);
+    let low = forget_low(board, 4, 20);
+    let first = take_first(board).map_or(0, |score| score.points);
+    let left = board.len();
+    format!(in alloc; "board: {changed:?}, {void}, {low}, {first}, {left}")
+}
+
+/// What the calls answer.
+pub fn line(alloc: Global) -> Result<String, AllocError> {
+    script(alloc, &mut IdOrdMap::new(alloc))
 }

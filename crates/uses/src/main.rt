@@ -1,5 +1,5 @@
-//! Callers of the maps and of keyed items, a module each. All are proved. The program prints what those answer that
-//! have a `line`; `board` is proved only.
+//! Callers of the maps and of keyed items, a module each. All are proved. The program prints what the calls of each
+//! answer.
 #![tactic(auto)]
 
 mod appointments;
@@ -50,6 +50,7 @@ fn print_all(rt: &(impl Print + RandomSource), alloc: Global) -> io::Result<()> 
     print(rt, lockers::line(alloc))?;
     print(rt, guests::line(alloc))?;
     print(rt, scores::line(alloc))?;
+    print(rt, board::line(alloc))?;
     print(rt, words::line(alloc))?;
     print(rt, seats::line(alloc))?;
     print(rt, devices::line(alloc))?;

@@ -1,8 +1,9 @@
 //! The insert.
 //!
-//! It looks both keys up before it copies the first one, so a duplicate is reported without memory. The call that
-//! stores the item looks them up again.
-ghost use Rattle.std.specs.Prelude.{◌≡◌, ◌≢◌, Some};
+//! It looks both keys up, and asks whether there is an index left, before it copies the first key. So a duplicate and a
+//! full table are reported without memory. The call that stores the item looks the keys up again.
+ghost use Rattle.std.specs.Prelude.{◌≡◌, ◌≢◌, ◌↔◌, Some, true};
+ghost use Rattle.iddqd.specs.Store.{IsFull};
 ghost use Rattle.iddqd_codes.specs.declared.TheConstants.{OK, DUPLICATE};
 ghost use Rattle.iddqd_c.specs.Entries.{InsertsAt, SaysRefusal, TakesMemory};
 ghost use Rattle.iddqd_c.specs.Held.{ChangesKeyed};
@@ -91,6 +92,9 @@ fn store(
         *found = conflict_of(found1, found2);
         return DUPLICATE;
     }
+    if is_full(items) {
+        return FULL;
+    }
     let Ok(bytes) = Vec::from_slice(alloc, key) else {
         return MEMORY;
     };
@@ -105,6 +109,13 @@ fn store(
         }
         Err(refusal) => report(&refusal, found),
     }
+}
+
+// Whether no index is left.
+fn is_full(items: &Entries) -> bool
+    ensures { (result ≡ true) ↔ IsFull items.now.state.store }
+{
+    items.len() == items.limit()
 }
 
 // The code of a refusal; of a duplicate also the indexes that it reports.

@@ -8,13 +8,12 @@ use super::finds::report;
 use crate::entry::{Entries, Row};
 use crate::handle::{CTable, put, take};
 use crate::table::Table;
-use iddqd::item_index::ItemIndex;
 use iddqd_codes::{HANDLE, OK, SMALL};
 use iddqd_driver::keyed_items::Keyed;
 use std::alloc::Global;
 
-/// Writes for each of the second keys the row of its item, or a row whose index is `SENTINEL` if no item has it. If the
-/// buffer has fewer places than there are keys, nothing is done.
+/// Writes for each of the second keys the row of its item, or [`Row::none`] if no item has it. If the buffer has fewer
+/// places than there are keys, nothing is done.
 #[unsafe(no_mangle)]
 pub extern "C" fn iddqd_keyed_find_many(
     t: &mut CTable,
@@ -65,15 +64,11 @@ fn fill(items: &Entries, seconds: &[u64], rows: &mut [Row])
     }
 }
 
-// The row of the item with this second key, or one whose index is `SENTINEL`.
+// The row of the item with this second key, or the one for none.
 fn answer(items: &Entries, second: u64) -> Row
     ensures { AnswersSecond ⟦<Entries as Keyed>⟧.keys items.now second result }
 {
-    let mut row = Row {
-        second,
-        value: 0,
-        index: ItemIndex::SENTINEL.as_u32(),
-    };
+    let mut row = Row::none();
     let found = items.find2(&second);
     report(items, found, &mut row);
     row

@@ -1,6 +1,5 @@
 //! Look-ups of many first keys in one call. They copy no key and take no memory.
 ghost use Rattle.std.specs.Prelude.{◌≡◌, ◌≢◌, ◌≤◌, Some, length};
-ghost use Rattle.iddqd.specs.Store.{sentinel};
 ghost use Rattle.iddqd_codes.specs.declared.TheConstants.{OK};
 ghost use Rattle.iddqd_c.specs.Entries.{AnswersFirst, AnswersSpan, FindsManyFirst, FillsAnswers, spans};
 ghost use Rattle.iddqd_c.specs.Held.{ReadsKeyed};
@@ -9,16 +8,15 @@ use super::finds::report;
 use crate::entry::{Entries, Row};
 use crate::handle::{CTable, put, take};
 use crate::table::Table;
-use iddqd::item_index::ItemIndex;
 use iddqd_byte_keys::ByteKeyQuery;
 use iddqd_codes::{HANDLE, OK, SMALL};
 use iddqd_driver::keyed_items::Keyed;
 use std::alloc::Global;
 
-/// Writes for each of the first keys the row of its item, or a row whose index is `SENTINEL` if no item has it. The
-/// bytes of the keys stand one after the other: a key begins where the one before it ends, and the first at 0. A key
-/// whose end lies before its start or past the bytes is answered as missing. If the buffer has fewer places than there
-/// are keys, nothing is done.
+/// Writes for each of the first keys the row of its item, or [`Row::none`] if no item has it. The bytes of the keys
+/// stand one after the other: a key begins where the one before it ends, and the first at 0. A key whose end lies
+/// before its start or past the bytes is answered as missing. If the buffer has fewer places than there are keys,
+/// nothing is done.
 #[unsafe(no_mangle)]
 pub extern "C" fn iddqd_keyed_find_many1(
     t: &mut CTable,
@@ -74,35 +72,25 @@ fn fill(items: &Entries, bytes: &[u8], ends: &[usize], rows: &mut [Row])
     }
 }
 
-// The row of the item with the first key in this span, or one whose index is `SENTINEL`.
+// The row of the item with the first key in this span, or the one for none.
 fn answer(items: &Entries, bytes: &[u8], start: usize, end: usize) -> Row
     ensures { AnswersSpan ⟦<Entries as Keyed>⟧.keys items.now bytes.now (start, end) result }
 {
     if start <= end && end <= bytes.len() {
         find(items, &bytes[start..end])
     } else {
-        no_row()
+        Row::none()
     }
 }
 
-// The row of the item whose first key has these bytes, or one whose index is `SENTINEL`.
+// The row of the item whose first key has these bytes, or the one for none.
 fn find(items: &Entries, key: &[u8]) -> Row
     ensures { AnswersFirst ⟦<Entries as Keyed>⟧.keys items.now key.now result }
 {
     // Its contract has the invariant of the type, which that of the look-up lacks.
     let _count = items.len();
     let found = items.find1_by(ByteKeyQuery { bytes: key });
-    let mut row = no_row();
+    let mut row = Row::none();
     report(items, found, &mut row);
     row
-}
-
-fn no_row() -> Row
-    ensures { result.index ≡ sentinel }
-{
-    Row {
-        second: 0,
-        value: 0,
-        index: ItemIndex::SENTINEL.as_u32(),
-    }
 }

@@ -14,8 +14,9 @@ use iddqd::hash_builder::DefaultHashBuilder;
 use std::alloc::{AllocError, Global};
 
 impl<T: KeyedItem> KeyedItems<T, DefaultHashBuilder> {
-    /// Empty, with the default hasher. It may grow to `u32::MAX` items, one for each index but `SENTINEL`. It takes no
-    /// memory.
+    /// Empty, with the default hasher. It may grow to `u32::MAX` items, one for each index but `SENTINEL`.
+    ///
+    /// Cost: a few steps; takes no memory.
     pub fn with_default_hasher(alloc: Global) -> KeyedItems<T, DefaultHashBuilder>
         ensures hasher { IsDefaultHasher result.state.hasher }
         ensures state { result.state ≡ empty_state result.state.hasher }
@@ -24,7 +25,9 @@ impl<T: KeyedItem> KeyedItems<T, DefaultHashBuilder> {
         KeyedItems::new(alloc, DefaultHashBuilder::default())
     }
 
-    /// Empty, with the default hasher, and never with more slots than the limit. It takes no memory.
+    /// Empty, with the default hasher, and never with more slots than the limit.
+    ///
+    /// Cost: a few steps; takes no memory.
     pub fn with_limit_and_default_hasher(
         alloc: Global,
         limit: u32,
@@ -38,6 +41,8 @@ impl<T: KeyedItem> KeyedItems<T, DefaultHashBuilder> {
 
     /// Empty, with the default hasher, and memory for that many items, but at most for `u32::MAX`. With 0 it takes no
     /// memory.
+    ///
+    /// Cost: clears the cells of the tables; takes memory for so many items.
     pub fn with_capacity_and_default_hasher(
         alloc: Global,
         items: usize,
@@ -54,6 +59,8 @@ impl<T: KeyedItem> KeyedItems<T, DefaultHashBuilder> {
 
     /// Empty, with the default hasher, never with more slots than the limit, and with memory for that many items or for
     /// as many as the limit allows. If that is 0 it takes no memory.
+    ///
+    /// Cost: clears the cells of the tables; takes memory for so many items.
     pub fn with_limit_capacity_and_default_hasher(
         alloc: Global,
         limit: u32,

@@ -19,6 +19,8 @@ use std::hash::BuildHasher;
 
 impl<T: KeyedItem, S: BuildHasher> KeyedItems<T, S> {
     /// Empty, with memory for that many items, but at most for `u32::MAX`. With 0 it takes no memory.
+    ///
+    /// Cost: clears the cells of the tables; takes memory for so many items.
     pub fn with_capacity(
         alloc: Global,
         state: S,
@@ -37,6 +39,8 @@ impl<T: KeyedItem, S: BuildHasher> KeyedItems<T, S> {
 
     /// Empty, never with more slots than the limit, and with memory for that many items or for as many as the limit
     /// allows. If that is 0 it takes no memory.
+    ///
+    /// Cost: clears the cells of the tables; takes memory for so many items.
     pub fn with_limit_and_capacity(
         alloc: Global,
         state: S,
@@ -74,6 +78,8 @@ impl<T: KeyedItem, S: BuildHasher> KeyedItems<T, S> {
     ///
     /// There may be more items than that: an insert without room raises the capacity of the store and of the hash table
     /// only.
+    ///
+    /// Cost: a few steps; takes no memory.
     pub fn capacity(&self) -> usize
         ensures { result ≡ capacity self.now }
     {
@@ -82,6 +88,8 @@ impl<T: KeyedItem, S: BuildHasher> KeyedItems<T, S> {
     }
 
     /// How many inserts need no memory.
+    ///
+    /// Cost: a few steps; takes no memory.
     pub fn room(&self) -> usize
         ensures { result ≡ room self.now }
     {
@@ -92,6 +100,8 @@ impl<T: KeyedItem, S: BuildHasher> KeyedItems<T, S> {
     ///
     /// If there is that room already, nothing changes. `AllocError` means that memory ran out, or that no vector can
     /// hold that many; the items stay, and no part can hold less than before.
+    ///
+    /// Cost: moves what grows; takes memory only if there is less room.
     pub fn reserve(&mut self, additional: usize) -> Result<(), AllocError>
         ensures { ReservesInMemory additional self.old result self.new }
     {
@@ -110,6 +120,8 @@ impl<T: KeyedItem, S: BuildHasher> KeyedItems<T, S> {
     }
 
     /// The same as `reserve`, under the name that it has in libraries whose `reserve` can't fail.
+    ///
+    /// Cost: moves what grows; takes memory only if there is less room.
     pub fn try_reserve(&mut self, additional: usize) -> Result<(), AllocError>
         ensures { ReservesInMemory additional self.old result self.new }
     {
@@ -119,6 +131,8 @@ impl<T: KeyedItem, S: BuildHasher> KeyedItems<T, S> {
     /// Gives back the memory that the items don't need. Vacant slots stay, and so does their memory.
     ///
     /// `AllocError` means that the store or the hash table could not get smaller memory; the items stay.
+    ///
+    /// Cost: moves what shrinks; takes memory for the smaller blocks before it gives the greater ones back.
     pub fn shrink_to_fit(&mut self) -> Result<(), AllocError>
         ensures { ShrinksInMemory 0 self.old result self.new }
     {
@@ -129,6 +143,8 @@ impl<T: KeyedItem, S: BuildHasher> KeyedItems<T, S> {
     /// slots stay, and so does their memory.
     ///
     /// `AllocError` means that the store or the hash table could not get smaller memory; the items stay.
+    ///
+    /// Cost: moves what shrinks; takes memory for the smaller blocks before it gives the greater ones back.
     pub fn shrink_to(&mut self, least: usize) -> Result<(), AllocError>
         ensures { ShrinksInMemory least self.old result self.new }
     {

@@ -20,6 +20,10 @@ impl<T: KeyedItem, S: BuildHasher> KeyedItems<T, S> {
     ///
     /// The caller proves that the closure leaves the item both keys. So both tables stay as they are, in place or not:
     /// the call hashes and compares no key, and takes no memory. To change a key, use `replace_at`.
+    ///
+    /// Cost: a few steps; takes no memory.
+    ///
+    /// Asks: the closure may be called on the item, and leaves it its two keys.
     pub fn modify_at<R, F: FnOnce(&mut T) -> R>(&mut self, ix: ItemIndex, f: F) -> Option<R>
         requires { let keys = pair_keys T.first_key T.second_key in
             KeepsKey F.FnOnce f keys (λ item. get self.old.state.store ix ≡ Some item) }
@@ -32,6 +36,10 @@ impl<T: KeyedItem, S: BuildHasher> KeyedItems<T, S> {
 
     /// Calls the closure with a `&mut` to the item with this first key, found as `find1` finds its index; if the
     /// look-up misses, it returns `None` and doesn't call the closure. Otherwise it behaves as `modify_at`.
+    ///
+    /// Cost: one look-up by the first key; takes no memory.
+    ///
+    /// Asks: the closure may be called on the item, and leaves it its two keys.
     pub fn modify1<R, F: FnOnce(&mut T) -> R>(&mut self, key: &T::Key1, f: F) -> Option<R>
         requires { let keys = ⟦<Self as Keyed>⟧.keys in
             KeepsKeysOfFound F.FnOnce f keys (first_key_index keys) self.old.state key.now }
@@ -45,6 +53,10 @@ impl<T: KeyedItem, S: BuildHasher> KeyedItems<T, S> {
 
     /// Calls the closure with a `&mut` to the item with this second key, found as `find2` finds its index; if the
     /// look-up misses, it returns `None` and doesn't call the closure. Otherwise it behaves as `modify_at`.
+    ///
+    /// Cost: one search by the second key; takes no memory.
+    ///
+    /// Asks: the closure may be called on the item, and leaves it its two keys.
     pub fn modify2<R, F: FnOnce(&mut T) -> R>(&mut self, key: &T::Key2, f: F) -> Option<R>
         requires { let keys = ⟦<Self as Keyed>⟧.keys in
             KeepsKeysOfFound F.FnOnce f keys (second_key_index keys) self.old.state key.now }
@@ -58,6 +70,10 @@ impl<T: KeyedItem, S: BuildHasher> KeyedItems<T, S> {
 
     /// Calls the closure with a `&mut` to the item with the first key for which the query stands, found as `find1_by`
     /// finds its index. Otherwise it behaves as `modify1`.
+    ///
+    /// Cost: one look-up by the first key; takes no memory.
+    ///
+    /// Asks: the closure may be called on the item, and leaves it its two keys.
     pub fn modify1_by<Q: HashQuery<T::Key1>, R, F: FnOnce(&mut T) -> R>(
         &mut self,
         query: Q,
@@ -75,6 +91,10 @@ impl<T: KeyedItem, S: BuildHasher> KeyedItems<T, S> {
 
     /// Calls the closure with a `&mut` to the item with the second key for which the query stands, found as `find2_by`
     /// finds its index. Otherwise it behaves as `modify2`.
+    ///
+    /// Cost: one search by the second key; takes no memory.
+    ///
+    /// Asks: the closure may be called on the item, and leaves it its two keys.
     pub fn modify2_by<Q: OrdQuery<T::Key2>, R, F: FnOnce(&mut T) -> R>(
         &mut self,
         query: Q,

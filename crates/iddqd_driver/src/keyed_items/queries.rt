@@ -22,6 +22,8 @@ use std::hash::BuildHasher;
 
 impl<T: KeyedItem, S: BuildHasher> KeyedItems<T, S> {
     /// The item with this first key, found as `find1` finds its index.
+    ///
+    /// Cost: one look-up by the first key; takes no memory.
     pub fn get1(&self, key: &T::Key1) -> Option<&T>
         ensures { LooksUpItem (first_key_index ⟦<Self as Keyed>⟧.keys) self.now.state key.now (option_copied result) }
     {
@@ -32,6 +34,8 @@ impl<T: KeyedItem, S: BuildHasher> KeyedItems<T, S> {
     }
 
     /// The item with this second key, found as `find2` finds its index.
+    ///
+    /// Cost: one search by the second key; takes no memory.
     pub fn get2(&self, key: &T::Key2) -> Option<&T>
         ensures { LooksUpItem (second_key_index ⟦<Self as Keyed>⟧.keys) self.now.state key.now (option_copied result) }
     {
@@ -42,6 +46,8 @@ impl<T: KeyedItem, S: BuildHasher> KeyedItems<T, S> {
     }
 
     /// Whether an item with this first key is found, as `find1` finds its index.
+    ///
+    /// Cost: one look-up by the first key; takes no memory.
     pub fn contains_key1(&self, key: &T::Key1) -> bool
         ensures { ContainsKey (first_key_index ⟦<Self as Keyed>⟧.keys) self.now.state key.now result }
     {
@@ -49,6 +55,8 @@ impl<T: KeyedItem, S: BuildHasher> KeyedItems<T, S> {
     }
 
     /// Whether an item with this second key is found, as `find2` finds its index.
+    ///
+    /// Cost: one search by the second key; takes no memory.
     pub fn contains_key2(&self, key: &T::Key2) -> bool
         ensures { ContainsKey (second_key_index ⟦<Self as Keyed>⟧.keys) self.now.state key.now result }
     {
@@ -57,6 +65,8 @@ impl<T: KeyedItem, S: BuildHasher> KeyedItems<T, S> {
 
     /// The index of the item with the first key for which the query stands. Only keys of the same hash are compared
     /// with the query.
+    ///
+    /// Cost: one look-up by the first key; takes no memory.
     pub fn find1_by<Q: HashQuery<T::Key1>>(&self, query: Q) -> Option<ItemIndex>
         ensures { LooksUpBy (first_key_index ⟦<Self as Keyed>⟧.keys) self.now.state (Q.stands_for query) result }
     {
@@ -65,6 +75,8 @@ impl<T: KeyedItem, S: BuildHasher> KeyedItems<T, S> {
     }
 
     /// The index of the item with the second key for which the query stands. It searches as `find2` does.
+    ///
+    /// Cost: one search by the second key; takes no memory.
     #[tactic(auto, using(crate::proofs::KeepsLemmas::order_has_live_indexes))]
     pub fn find2_by<Q: OrdQuery<T::Key2>>(&self, query: Q) -> Option<ItemIndex>
         ensures { LooksUpBy (second_key_index ⟦<Self as Keyed>⟧.keys) self.now.state
@@ -74,6 +86,8 @@ impl<T: KeyedItem, S: BuildHasher> KeyedItems<T, S> {
     }
 
     /// The item with the first key for which the query stands, found as `find1_by` finds its index.
+    ///
+    /// Cost: one look-up by the first key; takes no memory.
     pub fn get1_by<Q: HashQuery<T::Key1>>(&self, query: Q) -> Option<&T>
         ensures { LooksUpItemBy (first_key_index ⟦<Self as Keyed>⟧.keys) self.now.state
             (Q.stands_for query) (option_copied result) }
@@ -85,6 +99,8 @@ impl<T: KeyedItem, S: BuildHasher> KeyedItems<T, S> {
     }
 
     /// The item with the second key for which the query stands, found as `find2_by` finds its index.
+    ///
+    /// Cost: one search by the second key; takes no memory.
     pub fn get2_by<Q: OrdQuery<T::Key2>>(&self, query: Q) -> Option<&T>
         ensures { LooksUpItemBy (second_key_index ⟦<Self as Keyed>⟧.keys) self.now.state
             (is_equal (Q.compare query)) (option_copied result) }
@@ -95,7 +111,9 @@ impl<T: KeyedItem, S: BuildHasher> KeyedItems<T, S> {
         }
     }
 
-    /// Removes the item with the first key for which the query stands. It takes no memory.
+    /// Removes the item with the first key for which the query stands.
+    ///
+    /// Cost: one look-up by the first key, and one search by the second, as of `remove`; takes no memory.
     pub fn remove1_by<Q: HashQuery<T::Key1>>(&mut self, query: Q) -> Option<(ItemIndex, T)>
         ensures removes { RemovesByQuery (first_key_index ⟦<Self as Keyed>⟧.keys) self.old.state
             (Q.stands_for query) result self.new.state }
@@ -114,7 +132,9 @@ impl<T: KeyedItem, S: BuildHasher> KeyedItems<T, S> {
         Some((ix, remove_item(&mut self.order, &mut self.items, ix)))
     }
 
-    /// Removes the item with the second key for which the query stands. It takes no memory.
+    /// Removes the item with the second key for which the query stands.
+    ///
+    /// Cost: one search by the second key, and one hash of the first, as of `remove`; takes no memory.
     #[tactic(auto, using(crate::proofs::KeepsLemmas::order_has_live_indexes))]
     pub fn remove2_by<Q: OrdQuery<T::Key2>>(&mut self, query: Q) -> Option<(ItemIndex, T)>
         ensures removes { RemovesByQuery (second_key_index ⟦<Self as Keyed>⟧.keys) self.old.state

@@ -76,6 +76,9 @@ impl<T: KeyedItem, S: BuildHasher> KeyedItems<T, S> {
     /// table while it holds no more indexes than its capacity; past that it may run out of memory for a new second key.
     ///
     /// `overwrite` updates neither table, and takes any item.
+    ///
+    /// Cost: a look-up by each key of the new item, and of each key that changes a removal and an insertion; takes
+    /// memory only if the second key changes and there are more items than the capacity.
     pub fn replace_at(&mut self, ix: ItemIndex, item: T) -> Result<T, ReplaceRefusal<T>>
         ensures replaces { Replaces ⟦<Self as Keyed>⟧.keys self.old.state ix item result self.new.state }
         ensures keeps { Keeps ⟦<Self as Keyed>⟧.keys self.old.state self.new.state }

@@ -31,6 +31,10 @@ impl<T: KeyedItem, S: BuildHasher> KeyedItems<T, S> {
     /// The closure is called once at each item, by rising index. The items at which it answers false are removed,
     /// whatever their keys are now. No memory is taken, no key is hashed or compared, and it costs a few steps for each
     /// slot of the store and at most one walk over the cells of the hash table, however few items there are.
+    ///
+    /// Cost: a few steps for each slot, and at most one scan of the hash table; takes no memory.
+    ///
+    /// Asks: the closure may be called on these items in turn, once each.
     pub fn retain<F: FnMut(&T) -> bool>(&mut self, mut f: F) -> usize
         requires { MayAskInTurn (TakesAt F.FnMut) (CalledAt F.FnMut) f (live_items self.old.state.store) }
         ensures retained { Retains (CalledAt F.FnMut) f self.old.state self.new.state }

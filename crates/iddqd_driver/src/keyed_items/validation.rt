@@ -44,6 +44,9 @@ impl<T: KeyedItem, S: BuildHasher> KeyedItems<T, S> {
     ///
     /// Memory is taken for two copies of the hash table's indexes, one of which is sorted, and for the text of a
     /// refusal. With `Yes` the cost grows as the square of the number of items, with `No` as sorting does.
+    ///
+    /// Cost: as sorting the indexes, and a look-up of each item; with `ValidateChaos::Yes` a scan for each; takes
+    /// memory for two lists of indexes, and for the text of a refusal.
     pub fn validate(
         &self,
         compactness: ValidateCompact,

@@ -26,6 +26,8 @@ use std::ops::Bound;
 
 impl<T: KeyedItem, S: BuildHasher> KeyedItems<T, S> {
     /// The live indexes with their items, by rising index.
+    ///
+    /// Cost: a step for each slot; takes no memory.
     pub fn iter(&self) -> item_set::Iter<'_, T>
         ensures pairs { result ≡ live_pairs self.now.state.store }
         ensures len { length result ≡ live_count self.now.state.store }
@@ -35,6 +37,8 @@ impl<T: KeyedItem, S: BuildHasher> KeyedItems<T, S> {
     }
 
     /// The items, by rising index.
+    ///
+    /// Cost: a step for each slot; takes no memory.
     pub fn values(&self) -> Values<'_, T>
         ensures items { result ≡ live_items self.now.state.store }
         ensures len { length result ≡ live_count self.now.state.store }
@@ -43,6 +47,8 @@ impl<T: KeyedItem, S: BuildHasher> KeyedItems<T, S> {
     }
 
     /// The items by value, by rising index. Both tables are dropped.
+    ///
+    /// Cost: a step for each slot; takes no memory.
     pub fn into_values(self) -> IntoValues<T>
     where
         S: Drop,
@@ -52,7 +58,9 @@ impl<T: KeyedItem, S: BuildHasher> KeyedItems<T, S> {
         self.items.into_values()
     }
 
-    /// The indexes in the order of the ordered table: by second key, if none was changed silently. It takes no memory.
+    /// The indexes in the order of the ordered table: by second key, if none was changed silently.
+    ///
+    /// Cost: a step for each index; takes no memory.
     pub fn walk(&self) -> btree_table::Iter<'_>
         ensures order { indexes_left result ≡ self.now.state.order }
         ensures paired { IsPaired self.now.state }
@@ -62,6 +70,8 @@ impl<T: KeyedItem, S: BuildHasher> KeyedItems<T, S> {
     }
 
     /// The items in the order of the ordered table: by second key, if none was changed silently.
+    ///
+    /// Cost: a step for each item; takes no memory.
     pub fn values2(&self) -> ValuesByKey2<'_, T>
         ensures items { result ≡ items_at self.now.state.store self.now.state.order }
         ensures len { length result ≡ live_count self.now.state.store }
@@ -78,6 +88,8 @@ impl<T: KeyedItem, S: BuildHasher> KeyedItems<T, S> {
     ///
     /// If a second key was changed silently, the result is some consecutive part of the ordered table, whatever the
     /// second keys there are. It is one search for each bound that there is, as `find2`, and takes no memory.
+    ///
+    /// Cost: one search for each bound that there is, then a step for each item; takes no memory.
     #[tactic(auto, using(crate::proofs::KeepsLemmas::order_has_live_indexes))]
     pub fn range2<Q: OrdQuery<T::Key2>>(&self, lower: Bound<Q>, upper: Bound<Q>) -> Range<'_, T>
         ensures { let within = is_within Q.compare lower upper in

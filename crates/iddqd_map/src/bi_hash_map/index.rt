@@ -49,7 +49,7 @@ where
     ghost use Rattle.iddqd_hash.specs.OpenTableSizes.{least_cells};
     ghost use Rattle.iddqd_hash.specs.Sizes.{most_cells};
     ghost use Rattle.iddqd_by_hash.specs.Hashed.{hashing_of};
-    ghost use Rattle.iddqd_map.specs.Indexing.{Indexes};
+    ghost use Rattle.iddqd_map.specs.Indexing.{Indexes, IsKnownHash};
     ghost use Rattle.iddqd_keys.specs.KeyKeeping.{pair_keys};
     ghost use Rattle.iddqd_map.specs.Map.{shares};
     ghost use Rattle.iddqd_map.specs.Several.{either_key, both_keys};
@@ -69,6 +69,10 @@ where
         (filed x.first.table)
         × Indexes B.key_of (hashing_of B.eq B.hash_input S.BuildHasher S.Hasher.Hasher state) s
         (filed x.second.table) };
+
+    ghost are_known = { λ state item known.
+        IsKnownHash A.key_of (hashing_of A.eq A.hash_input S.BuildHasher S.Hasher.Hasher state) item known.0
+        × IsKnownHash B.key_of (hashing_of B.eq B.hash_input S.BuildHasher S.Hasher.Hasher state) item known.1 };
 
     ghost capacity = { λ x. min (capacity x.first.table) (capacity x.second.table) };
 
@@ -458,7 +462,11 @@ where
     S: BuildHasher,
     Q: ItemHashQuery<T, A>,
 {
+    ghost use Rattle.std.specs.Prelude.{IsSome};
+
     ghost stands_for = { Q.stands_for_item };
+
+    ghost has_hash = { λ known. IsSome known.0 };
 
     fn find(
         &self,
@@ -510,7 +518,11 @@ where
     S: BuildHasher,
     Q: ItemHashQuery<T, B>,
 {
+    ghost use Rattle.std.specs.Prelude.{IsSome};
+
     ghost stands_for = { Q.stands_for_item };
+
+    ghost has_hash = { λ known. IsSome known.1 };
 
     fn find(
         &self,

@@ -26,6 +26,9 @@ impl<T, X: IndexLaws<T, S> + PlanLaws<T, S> + Changes<T, S>, S> Map<T, X, S> {
     ///
     /// Each key of an item is hashed once and looked up once in this map; an item that is moved costs a removal by its
     /// index in the other. It costs a step for each slot of the other map.
+    ///
+    /// Cost: a step for each slot of the other map; for each item an `insert_unique` here, and for each that is moved a
+    /// removal there; takes memory as each insert does.
     pub fn append(&mut self, other: &mut Map<T, X, S>) -> Appended
         ensures appends { Appends X.alike X.grown self.old other.old result self.new other.new }
         ensures count { live_count self.new.store ≡ live_count self.old.store + result.moved }

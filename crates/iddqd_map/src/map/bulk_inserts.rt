@@ -3,7 +3,7 @@ ghost use Rattle.std.specs.Prelude.{◌≡◌, ◌+◌, ℕ, List, Some, IfOk, I
 ghost use Rattle.std.specs.Array.Iter.{IntoIterFitsInMemory};
 ghost use Rattle.std.specs.Iterator.{IsFinite, IsNearerEnd, UpTo};
 ghost use Rattle.iddqd.specs.{IsValid, empty, get, live_count};
-ghost use Rattle.iddqd_map.specs.Bulk.{InsertsFrom, InsertsNext, InsertsUntil, RefusesOneOf, inserted_all, inserted_count};
+ghost use Rattle.iddqd_map.specs.Bulk.{InsertsFrom, InsertsNext, InsertsUntil, MakesOf, RefusesOneOf, inserted_all, inserted_count};
 ghost use Rattle.iddqd_map.specs.Calls.{IsDuplicate};
 ghost use Rattle.iddqd_map.specs.Map.{room};
 
@@ -22,8 +22,12 @@ where
 {
     /// A map of these items, with the default hasher, each inserted as by `insert_unique`, in turn.
     ///
-    /// The first refusal is returned, and then all other items are dropped. The condition is that the array's iterator
-    /// fits in memory, which the check finds at a given type and length.
+    /// The first refusal is returned, and then all other items are dropped.
+    ///
+    /// Cost: an `insert_unique` for each item. Memory is reserved at once for all of them; if it runs out, the items
+    /// are inserted all the same, as far as there is memory.
+    ///
+    /// Asks: an iterator over the array fits in memory, which the check finds at a given type and length.
     pub fn from_array<const N: usize>(
         alloc: Global,
         items: [T; N],
@@ -33,6 +37,7 @@ where
         requires { IntoIterFitsInMemory T.row N.row }
         ensures items { IfOk result (λ map. map.store ≡ inserted_all empty items) }
         ensures count { IfOk result (λ map. live_count map.store ≡ length items) }
+        ensures memory { IfOk result (MakesOf X.alike X.grown X.most items) }
         ensures refused { IfErr result (RefusesOneOf X.alike X.grown X.conflicts items) }
     {
         Map::from_array_with_hasher(alloc, DefaultHashBuilder::default(), items)
@@ -41,6 +46,11 @@ where
 
 impl<T, X: Changes<T, S> + Empty<T, S> + Upkeep<T, S>, S> Map<T, X, S> {
     /// `from_array`, with this hasher.
+    ///
+    /// Cost: an `insert_unique` for each item; reserves memory for all at once, and takes none beyond that unless it
+    /// ran out.
+    ///
+    /// Asks: an iterator over the array fits in memory, which the check finds at a given type and length.
     pub fn from_array_with_hasher<const N: usize>(
         alloc: Global,
         state: S,
@@ -52,6 +62,7 @@ impl<T, X: Changes<T, S> + Empty<T, S> + Upkeep<T, S>, S> Map<T, X, S> {
         requires { IntoIterFitsInMemory T.row N.row }
         ensures items { IfOk result (λ map. map.store ≡ inserted_all empty items) }
         ensures count { IfOk result (λ map. live_count map.store ≡ length items) }
+        ensures memory { IfOk result (MakesOf X.alike X.grown X.most items) }
         ensures refused { IfErr result (RefusesOneOf X.alike X.grown X.conflicts items) }
     {
         let mut map = Map::with_hasher(alloc, state);
@@ -71,6 +82,11 @@ impl<T, X: Changes<T, S> + Upkeep<T, S>, S> Map<T, X, S> {
     /// inserted before it, and with the rest of the iterator; the items that were inserted stay. Memory is reserved at
     /// once for as many items as the lower bound of `size_hint`, or as the limit allows; if it runs out, the items are
     /// inserted all the same, as far as there is memory.
+    ///
+    /// Cost: an `insert_unique` for each item; reserves memory for the lower bound of `size_hint` at once, then takes
+    /// it as an insert does.
+    ///
+    /// Asks: `next` may be called on the iterator.
     pub fn insert_all<I: Iterator<Item = T>>(
         &mut self,
         mut iter: I,

@@ -34,6 +34,12 @@ impl<T, X: Changes<T, S> + Upkeep<T, S>, S> Map<T, X, S> {
     ///
     /// Memory is reserved at once for as many items as the lower bound of `size_hint`, or as the limit allows; if it
     /// runs out, the items are inserted all the same, as far as there is memory. Each key of an item is hashed once.
+    ///
+    /// Cost: an `overwrite_into` for each item; reserves memory for the lower bound of `size_hint` at once, then takes
+    /// it as that call does.
+    ///
+    /// Asks: `next` may be called until the iterator ends; its number of items fits a `usize`; the closure may be
+    /// called with any item in turn.
     pub fn overwrite_all<I: Iterator<Item = T>, G: FnMut(T)>(
         &mut self,
         mut iter: I,

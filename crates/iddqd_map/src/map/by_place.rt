@@ -21,6 +21,8 @@ impl<T, X: KeyIndex<T, S>, S> Map<T, X, S> {
     ///
     /// The query is a `&K`, or another query that stands for such a key. By hash, it is hashed once, and compared only
     /// with keys of the same hash; by order, it is one search.
+    ///
+    /// Cost: one look-up; takes no memory.
     pub fn find_by<P, Q>(&self, query: Q) -> Option<ItemIndex>
     where
         X: UniqueAt<P, Q, T, S>,
@@ -31,6 +33,8 @@ impl<T, X: KeyIndex<T, S>, S> Map<T, X, S> {
     }
 
     /// Whether an item has the key.
+    ///
+    /// Cost: one look-up; takes no memory.
     pub fn contains_by<P, Q>(&self, query: Q) -> bool
     where
         X: UniqueAt<P, Q, T, S>,
@@ -40,6 +44,8 @@ impl<T, X: KeyIndex<T, S>, S> Map<T, X, S> {
     }
 
     /// The item that has the key.
+    ///
+    /// Cost: one look-up; takes no memory.
     pub fn get_by<P, Q>(&self, query: Q) -> Option<&T>
     where
         X: UniqueAt<P, Q, T, S>,
@@ -48,7 +54,9 @@ impl<T, X: KeyIndex<T, S>, S> Map<T, X, S> {
         self.items.get(self.find_by::<P, Q>(query)?)
     }
 
-    /// Removes the item that has the key, and returns it. It takes no memory.
+    /// Removes the item that has the key, and returns it.
+    ///
+    /// Cost: one look-up, and a removal from each table; takes no memory.
     pub fn remove_by<P, Q>(&mut self, query: Q) -> Option<T>
     where
         X: TakesAt<P, Q, T, S>,
@@ -67,6 +75,9 @@ impl<T, X: KeyIndex<T, S>, S> Map<T, X, S> {
     /// Replaces the item that has the key, and returns it. Otherwise it behaves as `replace_at`.
     ///
     /// By hash, what the look-up computed isn't computed again.
+    ///
+    /// Cost: one look-up; then a look-up by each key of the new item, and of each key that changes a removal and an
+    /// insertion; takes memory only if a key in order changes and there are more items than the capacity.
     pub fn replace_by<P, Q>(&mut self, query: Q, item: T) -> Result<T, ReplaceRefusal<T, X::Taken>>
     where
         X: UniqueAt<P, Q, T, S> + Moves<T, S>,
@@ -90,6 +101,11 @@ impl<T, X: KeyIndex<T, S>, S> Map<T, X, S> {
     /// has the key.
     ///
     /// The closure is called at most once, and not at all if no item has the key. Otherwise it behaves as `replace_by`.
+    ///
+    /// Cost: one look-up; then a look-up by each key of the new item, and of each key that changes a removal and an
+    /// insertion; takes memory only if a key in order changes and there are more items than the capacity.
+    ///
+    /// Asks: the closure may be called on the item that has the key.
     pub fn change_by<P, Q, F: FnOnce(&T) -> T>(
         &mut self,
         query: Q,
@@ -116,6 +132,10 @@ impl<T, X: KeyIndex<T, S>, S> Map<T, X, S> {
 
     /// Calls the closure with a `&mut` to the item that has the key, as `modify_at` does; if no item has the key, it
     /// returns `None` and doesn't call the closure. It is one look-up.
+    ///
+    /// Cost: one look-up; takes no memory.
+    ///
+    /// Asks: the closure may be called on the item, and leaves it its keys.
     pub fn modify_by<P, Q, R, F: FnOnce(&mut T) -> R>(&mut self, query: Q, f: F) -> Option<R>
     where
         X: UniqueAt<P, Q, T, S> + IndexLaws<T, S>,

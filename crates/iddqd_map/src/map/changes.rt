@@ -6,7 +6,7 @@ ghost use Rattle.iddqd.specs.{get, live_count};
 ghost use Rattle.iddqd_keys.specs.Scan.{IsLive, AnswersScan};
 ghost use Rattle.iddqd_map.specs.Map.{map_with, room};
 ghost use Rattle.iddqd_map.specs.Calls.{Changes};
-ghost use Rattle.iddqd_map.specs.KeyIndex.{IsIndexed};
+ghost use Rattle.iddqd_map.specs.KeyIndex.{AreKnownAt, IsIndexed};
 
 use super::replaces::replace;
 use crate::key_index::Moves;
@@ -26,6 +26,7 @@ pub(super) fn change_found<T, X: Moves<T, S>, S, F: FnOnce(&T) -> T>(
 ) -> Result<Option<T>, ReplaceRefusal<T, X::Taken>>
     requires callable { IfSome found (λ ix. (item : Bor T) → get items.old.store ix ≡ Some item.now → F.pre f item) }
     requires live { IfSome found (IsLive items.old.store) }
+    requires known { IfSome found (λ ix. AreKnownAt (X.are_known state.now) items.old.store ix known) }
     requires map { IsIndexed (X.indexes indexes.old) state.now items.old.store }
     ensures map { IsIndexed (X.indexes indexes.new) state.now items.new.store }
     ensures changes { (test : T → Bool) → AnswersScan items.old.store test found

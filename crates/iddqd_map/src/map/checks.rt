@@ -12,6 +12,9 @@ impl<T, X: Upkeep<T, S>, S> Map<T, X, S> {
     ///
     /// Memory may run out for the check of a hash table, which copies its indexes twice and sorts the second copy, and
     /// for the text of a refusal. The check of an ordered table takes none if the table passes.
+    ///
+    /// Cost: a step for each slot, and sorting the indexes of each hash table; takes memory for two lists of these, and
+    /// for the text of a refusal.
     pub fn validate(
         &self,
         compactness: ValidateCompact,

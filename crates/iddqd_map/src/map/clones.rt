@@ -15,6 +15,11 @@ impl<T: Clone, X: Upkeep<T, S>, S: Copy> Map<T, X, S> {
     ///
     /// Its memory is for exactly the slots that there are, and its tables have no more cells than those of the map.
     /// What was reserved beyond the slots isn't kept.
+    ///
+    /// Cost: a clone of each item, a step for each slot and cell; takes memory for the slots, and for no more cells
+    /// than there are.
+    ///
+    /// Asks: a clone of an item has the keys of the item.
     pub fn copied(&self) -> Result<Map<T, X, S>, AllocError>
         requires { (x y : T) → T.is_clone x y → X.same_keys x y ≡ true }
         ensures { IfOk result (IsMapClone T.is_clone self.now) }

@@ -19,6 +19,10 @@ impl<T, X: Upkeep<T, S>, S> Map<T, X, S> {
     ///
     /// The map keeps its memory, and takes none. No key is hashed or compared. It costs a step for each slot, and
     /// clearing the tables.
+    ///
+    /// Cost: a step for each slot, and clearing the tables; takes no memory.
+    ///
+    /// Asks: the closure may be called with each of these items in turn.
     pub fn drain_into<F: FnMut(T)>(&mut self, mut gone: F) -> usize
     where
         T: Drop,

@@ -18,6 +18,10 @@ impl<T, X: KeyIndex<T, S>, S> Map<T, X, S> {
     ///
     /// The caller proves that the closure leaves each of them its keys, as for `modify_at`. All other items stay. No
     /// memory is taken. It costs one look-up, which compares only keys of the same hash, each once.
+    ///
+    /// Cost: one look-up, which compares only keys of the same hash, each once; takes no memory.
+    ///
+    /// Asks: the closure may be called on each of these items in turn, and leaves each its keys.
     pub fn modify_hashed_group_by<P, Q, F: FnMut(&mut T)>(&mut self, query: Q, mut f: F) -> usize
     where
         X: StepsInGroup<P, Q, T, S> + IndexLaws<T, S>,

@@ -31,6 +31,11 @@ impl<T, X: KeyIndex<T, S>, S> Map<T, X, S> {
     /// The closure is called once at each of them, in no particular order. Those at which it answers false are removed;
     /// all other items stay under their indexes. No memory is taken. It costs one look-up, which compares only keys of
     /// the same hash, each once, and for each removed item a removal from each table.
+    ///
+    /// Cost: one look-up, which compares only keys of the same hash, each once; for each item that goes a removal from
+    /// each table; takes no memory.
+    ///
+    /// Asks: the closure may be called on these items in turn, once each.
     pub fn retain_hashed_group_by<P, Q, F: FnMut(&T) -> bool>(
         &mut self,
         query: Q,
@@ -64,6 +69,12 @@ impl<T, X: KeyIndex<T, S>, S> Map<T, X, S> {
     ///
     /// The first closure is called once at each of them, in no particular order. An item at which it answers false is
     /// removed at once, and passed to the second. Otherwise it behaves as `retain_hashed_group_by`.
+    ///
+    /// Cost: one look-up, which compares only keys of the same hash, each once; for each item that goes a removal from
+    /// each table; takes no memory.
+    ///
+    /// Asks: the first closure may be called on these items in turn, once each, and the second with any of them in
+    /// turn.
     pub fn retain_hashed_group_into_by<P, Q, F: FnMut(&T) -> bool, G: FnMut(T)>(
         &mut self,
         query: Q,

@@ -1,7 +1,7 @@
 //! Calls on a group: the items with one hashed key that several items may have.
 //!
 //! The call that removes them all is that of `hashed_group_retain`, with a closure that keeps none.
-ghost use Rattle.std.specs.Prelude.{◌≡◌, ◌≤◌, ◌+◌, ◌↔◌, false};
+ghost use Rattle.std.specs.Prelude.{◌≡◌, ◌≤◌, ◌+◌, ◌↔◌, false, filter};
 ghost use Rattle.iddqd.specs.{live_count};
 ghost use Rattle.iddqd.specs.LiveItems.{live_items};
 ghost use Rattle.iddqd_keys.specs.Scan.{HasNoHit};
@@ -20,6 +20,8 @@ impl<T, X: KeyIndex<T, S>, S> Map<T, X, S> {
     ///
     /// The query is a `&K`, or another query that stands for such a key. Only keys of the same hash are compared with
     /// it.
+    ///
+    /// Cost: one look-up; takes no memory.
     pub fn find_any_by<P, Q>(&self, query: Q) -> Option<ItemIndex>
     where
         X: GroupedAt<P, Q, T, S>,
@@ -29,6 +31,8 @@ impl<T, X: KeyIndex<T, S>, S> Map<T, X, S> {
     }
 
     /// Whether any item has the key.
+    ///
+    /// Cost: one look-up; takes no memory.
     pub fn contains_any_by<P, Q>(&self, query: Q) -> bool
     where
         X: GroupedAt<P, Q, T, S>,
@@ -41,11 +45,16 @@ impl<T, X: KeyIndex<T, S>, S> Map<T, X, S> {
     ///
     /// The closure receives each of them once, in no particular order. No memory is taken. It costs one look-up, which
     /// compares only keys of the same hash, each once, and for each item a removal from each table.
+    ///
+    /// Cost: one look-up, which compares only keys of the same hash, each once; for each item a removal from each
+    /// table; takes no memory.
+    ///
+    /// Asks: the closure may be called with each of these items in turn.
     pub fn remove_hashed_group_by<P, Q, F: FnMut(T)>(&mut self, query: Q, mut f: F) -> usize
     where
         X: StepsInGroup<P, Q, T, S>,
         Q: Copy,
-        requires { MayGive F.FnMut f (live_items self.old.store) }
+        requires { MayGive F.FnMut f (filter (X.stands_for query) (live_items self.old.store)) }
         ensures left { LeavesOthers self.old.store (X.stands_for query) self.new.store }
         ensures handed { (last : F) × RemovesEach (X.stands_for query) (GivesItem F.FnMut) f
             self.old.store self.new.store last }

@@ -21,6 +21,8 @@ impl<T, X: Changes<T, S>, S> Map<T, X, S> {
     /// If there are several reasons for a refusal, the first of these is reported: duplicate, full, out of memory. A
     /// refusal returns the item, and the contents stay. If there is `room`, only a duplicate is refused. Each key is
     /// hashed once and looked up once.
+    ///
+    /// Cost: one look-up and one insertion by each key, of which each is hashed once; takes memory only without `room`.
     pub fn insert_unique(&mut self, item: T) -> Result<ItemIndex, InsertRefusal<T, X::Conflict>>
         ensures inserts { Inserts X.alike X.grown X.conflicts self.old item result self.new }
         ensures index { IfOk result (λ ix. ix ≡ next_index self.old.store) }

@@ -14,6 +14,8 @@ use std::alloc::{AllocError, Global};
 
 impl<T, X: Upkeep<T, DefaultHashBuilder>> Map<T, X, DefaultHashBuilder> {
     /// Empty, with the default hasher, and memory for `wanted` items. With 0 it takes no memory.
+    ///
+    /// Cost: clears the cells of the tables; takes memory for so many items.
     pub fn with_capacity(
         alloc: Global,
         wanted: usize,
@@ -36,6 +38,8 @@ where
 {
     /// Empty, with the default hasher, never with more slots than the limit, and with memory for `wanted` items or for
     /// as many as the limit allows.
+    ///
+    /// Cost: clears the cells of the tables; takes memory for so many items.
     pub fn with_limit_and_capacity(
         alloc: Global,
         limit: u32,
@@ -56,6 +60,8 @@ where
 impl<T, X: Empty<T, S> + Upkeep<T, S>, S> Map<T, X, S> {
     /// Empty, never with more slots than the limit, and with memory for `wanted` items or for as many as the limit
     /// allows. If that is 0 it takes none.
+    ///
+    /// Cost: clears the cells of the tables; takes memory for so many items.
     pub fn with_limit_capacity_and_hasher(
         alloc: Global,
         state: S,
@@ -79,6 +85,8 @@ impl<T, X: Empty<T, S> + Upkeep<T, S>, S> Map<T, X, S> {
 
 impl<T, X: Upkeep<T, S>, S> Map<T, X, S> {
     /// Empty, with memory for `wanted` items. With 0 it takes none.
+    ///
+    /// Cost: clears the cells of the tables; takes memory for so many items.
     pub fn with_capacity_and_hasher(
         alloc: Global,
         state: S,
@@ -102,6 +110,8 @@ impl<T, X: Upkeep<T, S>, S> Map<T, X, S> {
 
     /// How many items the memory has room for. For an ordered key only reserved memory counts, so with such a key it
     /// may be less than `len`. Only calls that shrink lower it.
+    ///
+    /// Cost: a few steps; takes no memory.
     pub fn capacity(&self) -> usize
         ensures { result ≡ capacity self.now }
     {
@@ -110,6 +120,8 @@ impl<T, X: Upkeep<T, S>, S> Map<T, X, S> {
     }
 
     /// How many inserts need no memory.
+    ///
+    /// Cost: a few steps; takes no memory.
     pub fn room(&self) -> usize
         ensures { result ≡ room self.now }
     {
@@ -119,6 +131,8 @@ impl<T, X: Upkeep<T, S>, S> Map<T, X, S> {
     /// Makes room for `additional` more inserts, or for as many as the limit allows.
     ///
     /// If there is room already it takes no memory. If memory runs out the items stay, and what was taken is kept.
+    ///
+    /// Cost: moves what grows; takes memory only if there is less room.
     pub fn reserve(&mut self, additional: usize) -> Result<(), AllocError>
         ensures { ReservesItems X.most additional self.old result self.new }
     {
@@ -132,6 +146,8 @@ impl<T, X: Upkeep<T, S>, S> Map<T, X, S> {
     }
 
     /// The same as `reserve`, under the name that it has in libraries whose `reserve` can't fail.
+    ///
+    /// Cost: moves what grows; takes memory only if there is less room.
     pub fn try_reserve(&mut self, additional: usize) -> Result<(), AllocError>
         ensures { ReservesItems X.most additional self.old result self.new }
     {
@@ -140,6 +156,8 @@ impl<T, X: Upkeep<T, S>, S> Map<T, X, S> {
 
     /// Gives back the memory that the slots and the tables don't need. If a smaller block can't be allocated, the items
     /// stay.
+    ///
+    /// Cost: moves what shrinks; takes memory for the smaller blocks before it gives the greater ones back.
     pub fn shrink_to_fit(&mut self) -> Result<(), AllocError>
         ensures shrinks { ShrinksItems X.kept 0 self.old result self.new }
         ensures fits { OnOk result (room self.new ≤ length self.old.store.free) }
@@ -150,6 +168,8 @@ impl<T, X: Upkeep<T, S>, S> Map<T, X, S> {
 
     /// Gives back the memory beyond what `least` items need, or the slots and items that there are if these are more.
     /// It fails only if more slots or cells are left than are needed for that.
+    ///
+    /// Cost: moves what shrinks; takes memory for the smaller blocks before it gives the greater ones back.
     pub fn shrink_to(&mut self, least: usize) -> Result<(), AllocError>
         ensures shrinks { ShrinksItems X.kept least self.old result self.new }
         ensures fits { OnOk result
@@ -164,6 +184,8 @@ impl<T, X: Upkeep<T, S>, S> Map<T, X, S> {
 
 impl<T, X: Upkeep<T, S>, S> Map<T, X, S> {
     /// Forgets all items and all slots, so that the next index is 0. It keeps the memory.
+    ///
+    /// Cost: drops the items, and clears the tables; takes no memory.
     pub fn clear(&mut self)
     where
         T: Drop,
@@ -179,6 +201,9 @@ impl<T, X: Upkeep<T, S>, S> Map<T, X, S> {
     ///
     /// No key is hashed or compared. If no slot is vacant it returns `Identity` and takes no memory. Otherwise it
     /// allocates a list of one index for each slot before any item moves; if memory runs out, nothing changes.
+    ///
+    /// Cost: a step for each slot and each entry of the tables; takes memory for a list of one index for each slot, if
+    /// one is vacant.
     pub fn compact(&mut self) -> Result<IndexRemap, AllocError>
     where
         T: Drop,

@@ -16,6 +16,10 @@ impl<T, X: IndexLaws<T, S>, S> Map<T, X, S> {
     ///
     /// The caller proves that the closure leaves the item its keys. So the tables stay as they are: the call hashes no
     /// key and takes no memory. To change a key, use `replace_at` and its like.
+    ///
+    /// Cost: a few steps; takes no memory.
+    ///
+    /// Asks: the closure may be called on the item, and leaves it its keys.
     pub fn modify_at<R, F: FnOnce(&mut T) -> R>(&mut self, ix: ItemIndex, f: F) -> Option<R>
         requires { KeepsKey F.FnOnce f X.keys (λ item. get self.old.store ix ≡ Some item) }
         ensures modifies { ModifiesAt F.FnOnce f self.old ix result self.new }
@@ -26,6 +30,10 @@ impl<T, X: IndexLaws<T, S>, S> Map<T, X, S> {
 
     /// Does what `modify_at` does. The clause `callable` repeats a part of `keeps`; with both, a call is much cheaper
     /// to check.
+    ///
+    /// Cost: a few steps; takes no memory.
+    ///
+    /// Asks: the closure may be called on the item, and leaves it its keys.
     pub fn modify_live<R, F: FnOnce(&mut T) -> R>(&mut self, ix: ItemIndex, f: F) -> Option<R>
         requires callable { (item : MutBor T) → get self.old.store ix ≡ Some item.now → F.FnOnce.pre f (item, tt) }
         requires keeps { KeepsKey F.FnOnce f X.keys (λ item. get self.old.store ix ≡ Some item) }

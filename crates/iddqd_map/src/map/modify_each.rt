@@ -21,6 +21,10 @@ impl<T, X: IndexLaws<T, S>, S> Map<T, X, S> {
     ///
     /// The caller proves that the closure leaves each item its keys, as for `modify_at`. No key is hashed or compared,
     /// and no memory is taken. It costs a step for each slot.
+    ///
+    /// Cost: a step for each slot; takes no memory.
+    ///
+    /// Asks: the closure may be called on each of these items in turn, and leaves each its keys.
     pub fn modify_each<F: FnMut(&mut T)>(&mut self, mut f: F) -> usize
         requires callable { MayAskInTurn (TakesMut F.FnMut) (MayLeave F.FnMut) f (live_items self.old.store) }
         requires keeps { KeepsKeys F.FnMut X.keys (IsStored self.old.store) }

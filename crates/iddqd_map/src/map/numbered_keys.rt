@@ -19,6 +19,8 @@ impl<T, X: KeyIndex<T, S>, S> Map<T, X, S> {
     ///
     /// The query is a `&T::Key1`, or another query that stands for such a key. Only keys of the same hash are compared
     /// with it.
+    ///
+    /// Cost: one look-up; takes no memory.
     pub fn find1<Q>(&self, query: Q) -> Option<ItemIndex>
     where
         X: UniqueAt<First, Q, T, S>,
@@ -28,6 +30,8 @@ impl<T, X: KeyIndex<T, S>, S> Map<T, X, S> {
     }
 
     /// Whether an item has the first key.
+    ///
+    /// Cost: one look-up; takes no memory.
     pub fn contains_key1<Q>(&self, query: Q) -> bool
     where
         X: UniqueAt<First, Q, T, S>,
@@ -37,6 +41,8 @@ impl<T, X: KeyIndex<T, S>, S> Map<T, X, S> {
     }
 
     /// The item that has the first key.
+    ///
+    /// Cost: one look-up; takes no memory.
     pub fn get1<Q>(&self, query: Q) -> Option<&T>
     where
         X: UniqueAt<First, Q, T, S>,
@@ -45,7 +51,9 @@ impl<T, X: KeyIndex<T, S>, S> Map<T, X, S> {
         self.get_by::<First, Q>(query)
     }
 
-    /// Removes the item that has the first key, and returns it. It takes no memory.
+    /// Removes the item that has the first key, and returns it.
+    ///
+    /// Cost: one look-up, and a removal from each table; takes no memory.
     pub fn remove1<Q>(&mut self, query: Q) -> Option<T>
     where
         X: TakesAt<First, Q, T, S>,
@@ -64,6 +72,9 @@ impl<T, X: KeyIndex<T, S>, S> Map<T, X, S> {
     ///
     /// The new item may have other keys. It gets the same index. If other items have a key of it, it comes back, and
     /// nothing changes. It touches no table whose key stays, and takes no memory if all keys go by their hashes.
+    ///
+    /// Cost: one look-up; then a look-up by each key of the new item, and of each key that changes a removal and an
+    /// insertion; takes memory only if a key in order changes and there are more items than the capacity.
     pub fn replace1<Q>(&mut self, query: Q, item: T) -> Result<T, ReplaceRefusal<T, X::Taken>>
     where
         X: UniqueAt<First, Q, T, S> + Moves<T, S>,
@@ -79,6 +90,11 @@ impl<T, X: KeyIndex<T, S>, S> Map<T, X, S> {
     /// item has the key.
     ///
     /// The closure is called at most once, and not at all if no item has the key. Otherwise it behaves as `replace1`.
+    ///
+    /// Cost: one look-up; then a look-up by each key of the new item, and of each key that changes a removal and an
+    /// insertion; takes memory only if a key in order changes and there are more items than the capacity.
+    ///
+    /// Asks: the closure may be called on the item that has the key.
     pub fn change1<Q, F: FnOnce(&T) -> T>(
         &mut self,
         query: Q,
@@ -97,6 +113,10 @@ impl<T, X: KeyIndex<T, S>, S> Map<T, X, S> {
 
     /// Calls the closure with a `&mut` to the item that has the first key, as `modify_at` does; if no item has the key,
     /// it returns `None` and doesn't call the closure. It is one look-up.
+    ///
+    /// Cost: one look-up; takes no memory.
+    ///
+    /// Asks: the closure may be called on the item, and leaves it its keys.
     pub fn modify1<Q, R, F: FnOnce(&mut T) -> R>(&mut self, query: Q, f: F) -> Option<R>
     where
         X: UniqueAt<First, Q, T, S> + IndexLaws<T, S>,
@@ -108,6 +128,8 @@ impl<T, X: KeyIndex<T, S>, S> Map<T, X, S> {
     }
 
     /// The index of the item that has the second key for which the query stands, found as `find1` finds it.
+    ///
+    /// Cost: one look-up; takes no memory.
     pub fn find2<Q>(&self, query: Q) -> Option<ItemIndex>
     where
         X: UniqueAt<Second, Q, T, S>,
@@ -117,6 +139,8 @@ impl<T, X: KeyIndex<T, S>, S> Map<T, X, S> {
     }
 
     /// Whether an item has the second key.
+    ///
+    /// Cost: one look-up; takes no memory.
     pub fn contains_key2<Q>(&self, query: Q) -> bool
     where
         X: UniqueAt<Second, Q, T, S>,
@@ -126,6 +150,8 @@ impl<T, X: KeyIndex<T, S>, S> Map<T, X, S> {
     }
 
     /// The item that has the second key.
+    ///
+    /// Cost: one look-up; takes no memory.
     pub fn get2<Q>(&self, query: Q) -> Option<&T>
     where
         X: UniqueAt<Second, Q, T, S>,
@@ -134,7 +160,9 @@ impl<T, X: KeyIndex<T, S>, S> Map<T, X, S> {
         self.get_by::<Second, Q>(query)
     }
 
-    /// Removes the item that has the second key, and returns it. It takes no memory.
+    /// Removes the item that has the second key, and returns it.
+    ///
+    /// Cost: one look-up, and a removal from each table; takes no memory.
     pub fn remove2<Q>(&mut self, query: Q) -> Option<T>
     where
         X: TakesAt<Second, Q, T, S>,
@@ -150,6 +178,9 @@ impl<T, X: KeyIndex<T, S>, S> Map<T, X, S> {
     }
 
     /// Replaces the item that has the second key, as `replace1` does.
+    ///
+    /// Cost: one look-up; then a look-up by each key of the new item, and of each key that changes a removal and an
+    /// insertion; takes memory only if a key in order changes and there are more items than the capacity.
     pub fn replace2<Q>(&mut self, query: Q, item: T) -> Result<T, ReplaceRefusal<T, X::Taken>>
     where
         X: UniqueAt<Second, Q, T, S> + Moves<T, S>,
@@ -162,6 +193,11 @@ impl<T, X: KeyIndex<T, S>, S> Map<T, X, S> {
     }
 
     /// Replaces the item that has the second key by what the closure makes of it, as `change1` does.
+    ///
+    /// Cost: one look-up; then a look-up by each key of the new item, and of each key that changes a removal and an
+    /// insertion; takes memory only if a key in order changes and there are more items than the capacity.
+    ///
+    /// Asks: the closure may be called on the item that has the key.
     pub fn change2<Q, F: FnOnce(&T) -> T>(
         &mut self,
         query: Q,
@@ -179,6 +215,10 @@ impl<T, X: KeyIndex<T, S>, S> Map<T, X, S> {
     }
 
     /// Calls the closure with a `&mut` to the item that has the second key, as `modify1` does.
+    ///
+    /// Cost: one look-up; takes no memory.
+    ///
+    /// Asks: the closure may be called on the item, and leaves it its keys.
     pub fn modify2<Q, R, F: FnOnce(&mut T) -> R>(&mut self, query: Q, f: F) -> Option<R>
     where
         X: UniqueAt<Second, Q, T, S> + IndexLaws<T, S>,
@@ -190,6 +230,8 @@ impl<T, X: KeyIndex<T, S>, S> Map<T, X, S> {
     }
 
     /// The index of the item that has the third key for which the query stands, found as `find1` finds it.
+    ///
+    /// Cost: one look-up; takes no memory.
     pub fn find3<Q>(&self, query: Q) -> Option<ItemIndex>
     where
         X: UniqueAt<Third, Q, T, S>,
@@ -199,6 +241,8 @@ impl<T, X: KeyIndex<T, S>, S> Map<T, X, S> {
     }
 
     /// Whether an item has the third key.
+    ///
+    /// Cost: one look-up; takes no memory.
     pub fn contains_key3<Q>(&self, query: Q) -> bool
     where
         X: UniqueAt<Third, Q, T, S>,
@@ -208,6 +252,8 @@ impl<T, X: KeyIndex<T, S>, S> Map<T, X, S> {
     }
 
     /// The item that has the third key.
+    ///
+    /// Cost: one look-up; takes no memory.
     pub fn get3<Q>(&self, query: Q) -> Option<&T>
     where
         X: UniqueAt<Third, Q, T, S>,
@@ -216,7 +262,9 @@ impl<T, X: KeyIndex<T, S>, S> Map<T, X, S> {
         self.get_by::<Third, Q>(query)
     }
 
-    /// Removes the item that has the third key, and returns it. It takes no memory.
+    /// Removes the item that has the third key, and returns it.
+    ///
+    /// Cost: one look-up, and a removal from each table; takes no memory.
     pub fn remove3<Q>(&mut self, query: Q) -> Option<T>
     where
         X: TakesAt<Third, Q, T, S>,
@@ -232,6 +280,9 @@ impl<T, X: KeyIndex<T, S>, S> Map<T, X, S> {
     }
 
     /// Replaces the item that has the third key, as `replace1` does.
+    ///
+    /// Cost: one look-up; then a look-up by each key of the new item, and of each key that changes a removal and an
+    /// insertion; takes memory only if a key in order changes and there are more items than the capacity.
     pub fn replace3<Q>(&mut self, query: Q, item: T) -> Result<T, ReplaceRefusal<T, X::Taken>>
     where
         X: UniqueAt<Third, Q, T, S> + Moves<T, S>,
@@ -244,6 +295,11 @@ impl<T, X: KeyIndex<T, S>, S> Map<T, X, S> {
     }
 
     /// Replaces the item that has the third key by what the closure makes of it, as `change1` does.
+    ///
+    /// Cost: one look-up; then a look-up by each key of the new item, and of each key that changes a removal and an
+    /// insertion; takes memory only if a key in order changes and there are more items than the capacity.
+    ///
+    /// Asks: the closure may be called on the item that has the key.
     pub fn change3<Q, F: FnOnce(&T) -> T>(
         &mut self,
         query: Q,
@@ -261,6 +317,10 @@ impl<T, X: KeyIndex<T, S>, S> Map<T, X, S> {
     }
 
     /// Calls the closure with a `&mut` to the item that has the third key, as `modify1` does.
+    ///
+    /// Cost: one look-up; takes no memory.
+    ///
+    /// Asks: the closure may be called on the item, and leaves it its keys.
     pub fn modify3<Q, R, F: FnOnce(&mut T) -> R>(&mut self, query: Q, f: F) -> Option<R>
     where
         X: UniqueAt<Third, Q, T, S> + IndexLaws<T, S>,

@@ -28,6 +28,11 @@ impl<T, X: Changes<T, S>, S> Map<T, X, S> {
     /// If there are none, it is refused as `insert_unique` is. If there are any, it is refused only if memory runs out
     /// for an ordered table that has more indexes than its capacity, before anything is removed. A refusal returns the
     /// item, and the contents stay. If there is `room`, nothing is refused. Each key of the item is hashed once.
+    ///
+    /// Cost: one look-up and one insertion by each key, of which each is hashed once; of each item that it removes a
+    /// removal from each table; takes memory only without `room`, and if it removes items only for a key in order.
+    ///
+    /// Asks: `places` has a place for each unique key, and all places are `None`.
     pub fn overwrite_into(
         &mut self,
         item: T,

@@ -36,6 +36,8 @@ impl<'a, T, X: KeyIndex<T, S>, S> Model for Parts<'a, T, X, S> {
 
 impl<'a, T, S, A: KeyIndex<T, S>, B: KeyIndex<T, S>> Parts<'a, T, Pair<A, B>, S> {
     /// The parts with the first key index of the pair alone.
+    ///
+    /// Cost: a few steps; takes no memory.
     pub fn left(self) -> Parts<'a, T, A, S>
         ensures { result ≡ self.entry }
     {
@@ -47,6 +49,8 @@ impl<'a, T, S, A: KeyIndex<T, S>, B: KeyIndex<T, S>> Parts<'a, T, Pair<A, B>, S>
     }
 
     /// The parts with the second key index of the pair alone.
+    ///
+    /// Cost: a few steps; takes no memory.
     pub fn right(self) -> Parts<'a, T, B, S>
         ensures { result ≡ self.entry }
     {

@@ -23,6 +23,10 @@ impl<T, X: KeyIndex<T, S>, S> Map<T, X, S> {
     ///
     /// The caller proves that the closure leaves each of them its keys, as for `modify_at`. All other items stay. No
     /// memory is taken. It costs one search by that key, and for each item a comparison with the upper bound.
+    ///
+    /// Cost: one search, and for each item a comparison with the upper bound; takes no memory.
+    ///
+    /// Asks: the closure may be called on each of these items in turn, and leaves each its keys.
     pub fn modify_range_by<P, Q, F: FnMut(&mut T)>(
         &mut self,
         lower: Bound<Q>,
@@ -55,6 +59,10 @@ impl<T, X: KeyIndex<T, S>, S> Map<T, X, S> {
 
     /// Calls the closure with a `&mut` to each item that has the key for which the query stands, by index, and returns
     /// how many there are. Otherwise it behaves as `modify_range_by`.
+    ///
+    /// Cost: one search, and for each item a comparison with the upper bound; takes no memory.
+    ///
+    /// Asks: the closure may be called on each of these items in turn, and leaves each its keys.
     pub fn modify_group_by<P, Q, F: FnMut(&mut T)>(&mut self, query: Q, mut f: F) -> usize
     where
         X: StepsAt<P, Q, T, S> + IndexLaws<T, S>,

@@ -30,6 +30,11 @@ impl<T, X: KeyIndex<T, S>, S> Map<T, X, S> {
     /// The closure is called once at each of them, by key and then by index. Those at which it answers false are
     /// removed; all other items stay under their indexes. No memory is taken. It costs one search by that key, for each
     /// item a comparison with the upper bound, and for each removed one a removal from each other table.
+    ///
+    /// Cost: one search, and for each item a comparison with the upper bound; for each item that goes a removal from
+    /// each other table; takes no memory.
+    ///
+    /// Asks: the closure may be called on these items in turn, once each.
     pub fn retain_range_by<P, Q, F: FnMut(&T) -> bool>(
         &mut self,
         lower: Bound<Q>,
@@ -64,6 +69,11 @@ impl<T, X: KeyIndex<T, S>, S> Map<T, X, S> {
     /// Keeps, of the items that have the key for which the query stands, those at which the closure answers true, and
     /// returns how many it removed. The closure is called at each of them, by index. Otherwise it behaves as
     /// `retain_range_by`.
+    ///
+    /// Cost: one search, and for each item a comparison with the upper bound; for each item that goes a removal from
+    /// each other table; takes no memory.
+    ///
+    /// Asks: the closure may be called on these items in turn, once each.
     pub fn retain_group_by<P, Q, F: FnMut(&T) -> bool>(&mut self, query: Q, mut f: F) -> usize
     where
         T: Drop,

@@ -18,6 +18,12 @@ impl<T, X: KeyIndex<T, S>, S> Map<T, X, S> {
     ///
     /// The first closure is called once at each of them, by key and then by index. An item at which it answers false is
     /// removed at once, and passed to the second. Otherwise it behaves as `retain_range_by`.
+    ///
+    /// Cost: one search, and for each item a comparison with the upper bound; for each item that goes a removal from
+    /// each other table; takes no memory.
+    ///
+    /// Asks: the first closure may be called on these items in turn, once each, and the second with any of them in
+    /// turn.
     pub fn retain_range_into_by<P, Q, F: FnMut(&T) -> bool, G: FnMut(T)>(
         &mut self,
         lower: Bound<Q>,
@@ -55,6 +61,12 @@ impl<T, X: KeyIndex<T, S>, S> Map<T, X, S> {
     /// Keeps, of the items that have the key for which the query stands, those at which the first closure answers true,
     /// passes the others to the second by value, and returns how many these were. The first closure is called at each
     /// of them, by index. Otherwise it behaves as `retain_range_into_by`.
+    ///
+    /// Cost: one search, and for each item a comparison with the upper bound; for each item that goes a removal from
+    /// each other table; takes no memory.
+    ///
+    /// Asks: the first closure may be called on these items in turn, once each, and the second with any of them in
+    /// turn.
     pub fn retain_group_into_by<P, Q, F: FnMut(&T) -> bool, G: FnMut(T)>(
         &mut self,
         query: Q,

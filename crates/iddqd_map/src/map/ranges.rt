@@ -4,12 +4,11 @@
 //! each other table once. No memory is taken.
 ghost use Rattle.std.specs.Prelude.{◌≡◌, ◌≤◌, ◌+◌, Bool};
 ghost use Rattle.iddqd.specs.{live_count};
-ghost use Rattle.iddqd.specs.LiveItems.{live_items};
-ghost use Rattle.iddqd_hash.specs.Asks.{CanAsk};
 ghost use Rattle.iddqd_keys.specs.OrderedQuery.{is_equal, is_within};
 ghost use Rattle.iddqd_map.specs.KeyIndex.{IsIndexed};
 ghost use Rattle.iddqd_map.specs.Map.{capacity, room};
-ghost use Rattle.iddqd_map.specs.Ranges.{LeavesOthers, TakesItem, GivesItem, MayGive, RemovesAlong};
+ghost use Rattle.iddqd_map.specs.Ranges.{LeavesOthers, TakesItem, GivesItem, RemovesAlong};
+ghost use Rattle.iddqd_map.specs.RangeRetain.{AsksWithin, MayGiveWithin};
 
 use super::Map;
 use super::steps::take_out_between;
@@ -22,6 +21,11 @@ impl<T, X: KeyIndex<T, S>, S> Map<T, X, S> {
     ///
     /// The closure receives each of them, by key and then by index. No memory is taken. It costs one search by that
     /// key, and for each item a comparison with the upper bound and a removal from each other table.
+    ///
+    /// Cost: one search, and for each item a comparison with the upper bound and a removal from each other table; takes
+    /// no memory.
+    ///
+    /// Asks: the closure may be called with each of these items in turn.
     pub fn remove_range_by<P, Q, F: FnMut(T)>(
         &mut self,
         lower: Bound<Q>,
@@ -31,7 +35,7 @@ impl<T, X: KeyIndex<T, S>, S> Map<T, X, S> {
     where
         X: StepsAt<P, Q, T, S>,
         Q: Copy,
-        requires { MayGive F.FnMut f (live_items self.old.store) }
+        requires { MayGiveWithin X.order (is_within X.compare lower upper) F.FnMut f self.old.store }
         ensures left { LeavesOthers self.old.store (is_within X.compare lower upper)
             self.new.store }
         ensures handed { (last : F) × RemovesAlong X.order (is_within X.compare lower upper)
@@ -55,11 +59,16 @@ impl<T, X: KeyIndex<T, S>, S> Map<T, X, S> {
 
     /// Removes the items that have the key for which the query stands, and returns how many there were. The closure
     /// receives each of them, by index. Otherwise it behaves as `remove_range_by`.
+    ///
+    /// Cost: one search, and for each item a comparison with the upper bound and a removal from each other table; takes
+    /// no memory.
+    ///
+    /// Asks: the closure may be called with each of these items in turn.
     pub fn remove_group_by<P, Q, F: FnMut(T)>(&mut self, query: Q, f: F) -> usize
     where
         X: StepsAt<P, Q, T, S>,
         Q: Copy,
-        requires { MayGive F.FnMut f (live_items self.old.store) }
+        requires { MayGiveWithin X.order (is_equal (X.compare query)) F.FnMut f self.old.store }
         ensures left { LeavesOthers self.old.store (is_equal (X.compare query)) self.new.store }
         ensures handed { (last : F) × RemovesAlong X.order (is_equal (X.compare query))
             (GivesItem F.FnMut) f self.old.store self.new.store last }
@@ -87,8 +96,9 @@ where
     X: StepsAt<P, Q, T, S>,
     Q: Copy,
     requires indexed { IsIndexed (X.indexes indexes.old) state.now items.old.store }
-    requires can_give { CanAsk (TakesItem F.FnMut) (λ p x (b : Bool) q. GivesItem F.FnMut p x q) f.old
-        (live_items items.old.store) }
+    requires can_give { let within = is_within X.compare lower upper in
+        AsksWithin X.order within (TakesItem F.FnMut) (λ p x (b : Bool) q. GivesItem F.FnMut p x q) f.old
+        items.old.store }
     ensures indexed { IsIndexed (X.indexes indexes.new) state.now items.new.store }
     ensures left { let within = is_within X.compare lower upper in
         LeavesOthers items.old.store within items.new.store }

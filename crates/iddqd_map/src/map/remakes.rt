@@ -25,6 +25,11 @@ impl<T, X: Changes<T, S>, S> Map<T, X, S> {
     /// back. The old item is gone then, and its index is the next that an insert takes. It is never refused as full.
     /// Hashed keys need no memory; a key in order needs none up to the capacity. Each index is removed from each table
     /// and inserted again, also where its key stays.
+    ///
+    /// Cost: a removal from each table; then a look-up and an insertion by each key; takes memory only for a key in
+    /// order, and if there are more items than the capacity.
+    ///
+    /// Asks: the closure may be called with the item.
     pub fn remake_at<F: FnOnce(T) -> T>(
         &mut self,
         ix: ItemIndex,
@@ -48,6 +53,11 @@ impl<T, X: Changes<T, S>, S> Map<T, X, S> {
 
     /// Replaces the item that has the key by what the closure makes of it, and returns its index; `Ok(None)` if no item
     /// has the key. Otherwise it behaves as `remake_at`.
+    ///
+    /// Cost: one look-up, a removal from each table; then a look-up and an insertion by each key; takes memory only for
+    /// a key in order, and if there are more items than the capacity.
+    ///
+    /// Asks: the closure may be called with the item.
     pub fn remake_by<P, Q, F: FnOnce(T) -> T>(
         &mut self,
         query: Q,

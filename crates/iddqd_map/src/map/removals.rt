@@ -9,7 +9,9 @@ use crate::key_index::Changes;
 use iddqd::item_index::ItemIndex;
 
 impl<T, X: Changes<T, S>, S> Map<T, X, S> {
-    /// Removes the item at an index, if there is one, and returns it. It takes no memory.
+    /// Removes the item at an index, if there is one, and returns it.
+    ///
+    /// Cost: a removal from each table; takes no memory.
     pub fn remove_at(&mut self, ix: ItemIndex) -> Option<T>
         ensures removes { RemovesAt self.old ix result self.new }
         ensures value { result ≡ get self.old.store ix }

@@ -4,7 +4,7 @@ ghost use Rattle.iddqd.specs.{live_count};
 ghost use Rattle.iddqd_keys.specs.Scan.{IsLive, AnswersScan};
 ghost use Rattle.iddqd_map.specs.Map.{map_with, room};
 ghost use Rattle.iddqd_map.specs.Calls.{ReplacesAt, ReplacesIfLive, Replaces};
-ghost use Rattle.iddqd_map.specs.KeyIndex.{IsIndexed};
+ghost use Rattle.iddqd_map.specs.KeyIndex.{AreKnownAt, IsIndexed};
 
 use super::Map;
 use crate::key_index::Moves;
@@ -18,6 +18,9 @@ impl<T, X: Moves<T, S>, S> Map<T, X, S> {
     ///
     /// The new item may have other keys. It gets the same index. If other items have a key of it, or memory runs out,
     /// it comes back, and nothing changes. A table whose key stays isn't touched. A hashed key needs no memory.
+    ///
+    /// Cost: a look-up by each key of the new item, and of each key that changes a removal and an insertion; takes
+    /// memory only if a key in order changes and there are more items than the capacity.
     pub fn replace_at(&mut self, ix: ItemIndex, item: T) -> Result<T, ReplaceRefusal<T, X::Taken>>
         ensures replaces { ReplacesIfLive X.alike X.same_keys X.may_need_memory X.taken self.old ix item result
             self.new }
@@ -48,6 +51,7 @@ pub(super) fn replace<T, X: Moves<T, S>, S>(
     item: T,
 ) -> Result<T, ReplaceRefusal<T, X::Taken>>
     requires live { IsLive items.old.store ix }
+    requires known { AreKnownAt (X.are_known state.now) items.old.store ix known }
     requires map { IsIndexed (X.indexes indexes.old) state.now items.old.store }
     ensures map { IsIndexed (X.indexes indexes.new) state.now items.new.store }
     ensures replaces { ReplacesAt X.alike X.same_keys X.may_need_memory X.taken
@@ -79,6 +83,7 @@ pub(super) fn replace_found<T, X: Moves<T, S>, S>(
     item: T,
 ) -> Result<T, ReplaceRefusal<T, X::Taken>>
     requires live { IfSome found (IsLive items.old.store) }
+    requires known { IfSome found (λ ix. AreKnownAt (X.are_known state.now) items.old.store ix known) }
     requires map { IsIndexed (X.indexes indexes.old) state.now items.old.store }
     ensures map { IsIndexed (X.indexes indexes.new) state.now items.new.store }
     ensures replaces { (test : T → Bool) → AnswersScan items.old.store test found

@@ -19,6 +19,10 @@ impl<T, X: Changes<T, S>, S> Map<T, X, S> {
     /// The closure is called once at each item, by rising index. The items at which it answers false are removed, by
     /// rising index. No memory is taken. It costs a step for each slot, and a look-up by each key for each removed
     /// item.
+    ///
+    /// Cost: a step for each slot; for each item that goes a removal from each table; takes no memory.
+    ///
+    /// Asks: the closure may be called on these items in turn, once each.
     pub fn retain<F: FnMut(&T) -> bool>(&mut self, mut f: F) -> usize
     where
         T: Drop,

@@ -22,6 +22,11 @@ impl<T, X: Changes<T, S>, S> Map<T, X, S> {
     ///
     /// The first closure is called once at each item, by rising index. An item at which it answers false is removed at
     /// once, and passed to the second. Otherwise it behaves as `retain`.
+    ///
+    /// Cost: a step for each slot; for each item that goes a removal from each table; takes no memory.
+    ///
+    /// Asks: the first closure may be called on these items in turn, once each, and the second with any of them in
+    /// turn.
     pub fn retain_into<F: FnMut(&T) -> bool, G: FnMut(T)>(
         &mut self,
         mut keep: F,

@@ -19,6 +19,10 @@ impl<T, X: Changes<T, S>, S> Map<T, X, S> {
     /// Where an item shares that key, it doesn't matter whether others share further keys, since the new item isn't
     /// stored; the caller proves that the closure leaves the stored one its keys. If no item shares it, the new one is
     /// refused as by `insert_unique`. Each key of the new item is hashed once and looked up once.
+    ///
+    /// Cost: one look-up and one insertion by each key, of which each is hashed once; takes memory only without `room`.
+    ///
+    /// Asks: the closure may be called with the stored item and the new one, and leaves the stored one its keys.
     pub fn modify_or_insert_by<P, F: FnOnce(&mut T, T)>(
         &mut self,
         item: T,
@@ -57,6 +61,10 @@ impl<T, X: Changes<T, S>, S> Map<T, X, S> {
     /// The closure is called at most once, and not at all if an item has the key. What it makes is refused as
     /// `insert_unique` refuses an item. An index that is found costs one look-up; an insert costs one look-up more than
     /// `insert_unique` does.
+    ///
+    /// Cost: one look-up; for an insert what `insert_unique` costs beside it; takes memory only without `room`.
+    ///
+    /// Asks: where no item has the key, the closure may be called, and what it makes has the key.
     pub fn find_or_insert_with<P, Q, F: FnOnce() -> T>(
         &mut self,
         query: Q,

@@ -10,6 +10,8 @@ use iddqd::item_set::{IntoValues, Iter, Values};
 
 impl<T, X: KeyIndex<T, S>, S> Map<T, X, S> {
     /// The live indexes with their items, by rising index.
+    ///
+    /// Cost: a step for each slot; takes no memory.
     pub fn iter(&self) -> Iter<'_, T>
         ensures pairs { result ≡ live_pairs self.now.store }
         ensures len { length result ≡ live_count self.now.store }
@@ -19,6 +21,8 @@ impl<T, X: KeyIndex<T, S>, S> Map<T, X, S> {
     }
 
     /// The items, by rising index.
+    ///
+    /// Cost: a step for each slot; takes no memory.
     pub fn values(&self) -> Values<'_, T>
         ensures items { result ≡ live_items self.now.store }
         ensures len { length result ≡ live_count self.now.store }
@@ -27,6 +31,8 @@ impl<T, X: KeyIndex<T, S>, S> Map<T, X, S> {
     }
 
     /// The items by value, by rising index.
+    ///
+    /// Cost: a step for each slot; takes no memory.
     pub fn into_values(self) -> IntoValues<T>
     where
         X: Drop,

@@ -57,7 +57,7 @@ where
     ghost use Rattle.iddqd_hash.specs.OpenTableSizes.{least_cells};
     ghost use Rattle.iddqd_hash.specs.Sizes.{most_cells};
     ghost use Rattle.iddqd_by_hash.specs.Hashed.{hashing_of};
-    ghost use Rattle.iddqd_map.specs.Indexing.{Indexes};
+    ghost use Rattle.iddqd_map.specs.Indexing.{Indexes, IsKnownHash};
     ghost use Rattle.iddqd_keys.specs.KeyKeeping.{pair_keys};
     ghost use Rattle.iddqd_map.specs.Map.{shares};
     ghost use Rattle.iddqd_map.specs.ThreeKeys.{any_key, all_keys};
@@ -81,6 +81,11 @@ where
         (filed x.second.table)
         × Indexes C.key_of (hashing_of C.eq C.hash_input S.BuildHasher S.Hasher.Hasher state) s
         (filed x.third.table)) };
+
+    ghost are_known = { λ state item known.
+        IsKnownHash A.key_of (hashing_of A.eq A.hash_input S.BuildHasher S.Hasher.Hasher state) item known.0
+        × (IsKnownHash B.key_of (hashing_of B.eq B.hash_input S.BuildHasher S.Hasher.Hasher state) item known.1.0
+        × IsKnownHash C.key_of (hashing_of C.eq C.hash_input S.BuildHasher S.Hasher.Hasher state) item known.1.1) };
 
     ghost capacity = { λ x. min (capacity x.first.table) (min (capacity x.second.table) (capacity x.third.table)) };
 
@@ -559,7 +564,11 @@ where
     S: BuildHasher,
     Q: ItemHashQuery<T, A>,
 {
+    ghost use Rattle.std.specs.Prelude.{IsSome};
+
     ghost stands_for = { Q.stands_for_item };
+
+    ghost has_hash = { λ known. IsSome known.0 };
 
     fn find(
         &self,
@@ -621,7 +630,11 @@ where
     S: BuildHasher,
     Q: ItemHashQuery<T, B>,
 {
+    ghost use Rattle.std.specs.Prelude.{IsSome};
+
     ghost stands_for = { Q.stands_for_item };
+
+    ghost has_hash = { λ known. IsSome known.1.0 };
 
     fn find(
         &self,
@@ -683,7 +696,11 @@ where
     S: BuildHasher,
     Q: ItemHashQuery<T, C>,
 {
+    ghost use Rattle.std.specs.Prelude.{IsSome};
+
     ghost stands_for = { Q.stands_for_item };
+
+    ghost has_hash = { λ known. IsSome known.1.1 };
 
     fn find(
         &self,

@@ -20,6 +20,9 @@ impl<T: Drop, E: OrdKey<T>> OrdMapBy<T, E> {
     ///
     /// The key of each item is looked up once in this map; an item that is moved costs a removal by its index in the
     /// other. It costs a step for each slot of the other map.
+    ///
+    /// Cost: a step for each slot of the other map; for each item one search here, and for each that is moved one
+    /// there; takes memory as each insert does.
     pub fn append(&mut self, other: &mut OrdMapBy<T, E>) -> Appended
         ensures appends { AppendsInOrder E.key_of E.cmp self.old other.old result self.new other.new }
         ensures count { live_count self.new.store ≡ live_count self.old.store + result.moved }

@@ -8,7 +8,7 @@ ghost use Rattle.iddqd_map.specs.BulkOverwrite.{HandsOver, MayDisplace, overwrit
 ghost use Rattle.iddqd_map.specs.Calls.{IsDuplicate};
 ghost use Rattle.iddqd_map.specs.Map.{room};
 ghost use Rattle.iddqd_map.specs.Ranges.{GivesItem};
-ghost use Rattle.iddqd_ord_map.specs.OrdMap.{InsertsFromInOrder, OverwritesFromInOrder, RefusesOneInOrder};
+ghost use Rattle.iddqd_ord_map.specs.OrdMap.{InsertsFromInOrder, MakesOfInOrder, OverwritesFromInOrder, RefusesOneInOrder};
 
 use super::OrdMapBy;
 use iddqd::item_index::ItemIndex;
@@ -20,8 +20,12 @@ use std::alloc::Global;
 impl<T: Drop, E: OrdKey<T>> OrdMapBy<T, E> {
     /// A map of these items, each inserted as by `insert_unique`, in turn.
     ///
-    /// The first refusal is returned, and then all other items are dropped. The condition is that the array's iterator
-    /// fits in memory, which the check finds at a given type and length.
+    /// The first refusal is returned, and then all other items are dropped.
+    ///
+    /// Cost: an `insert_unique` for each item. Memory is reserved at once for all of them; if it runs out, the items
+    /// are inserted all the same, as far as there is memory.
+    ///
+    /// Asks: an iterator over the array fits in memory, which the check finds at a given type and length.
     pub fn from_array<const N: usize>(
         alloc: Global,
         items: [T; N],
@@ -29,6 +33,7 @@ impl<T: Drop, E: OrdKey<T>> OrdMapBy<T, E> {
         requires { IntoIterFitsInMemory T.row N.row }
         ensures items { IfOk result (λ map. map.store ≡ inserted_all empty items) }
         ensures count { IfOk result (λ map. live_count map.store ≡ length items) }
+        ensures memory { IfOk result (MakesOfInOrder E.key_of E.cmp items) }
         ensures refused { IfErr result (RefusesOneInOrder E.key_of E.cmp items) }
     {
         Ok(OrdMapBy {
@@ -42,6 +47,11 @@ impl<T: Drop, E: OrdKey<T>> OrdMapBy<T, E> {
     /// inserted before it, and with the rest of the iterator; the items that were inserted stay. Memory is reserved at
     /// once for as many items as the lower bound of `size_hint`, or as the limit allows; if it runs out, the items are
     /// inserted all the same, as far as there is memory.
+    ///
+    /// Cost: an `insert_unique` for each item; reserves memory for the lower bound of `size_hint` at once, then takes
+    /// it as an insert does.
+    ///
+    /// Asks: `next` may be called on the iterator.
     pub fn insert_all<I: Iterator<Item = T>>(
         &mut self,
         iter: I,
@@ -68,6 +78,12 @@ impl<T: Drop, E: OrdKey<T>> OrdMapBy<T, E> {
     /// `insert_unique`. A refusal comes back with its item, with the number of items that were inserted before it, and
     /// with the rest of the iterator; the items that were inserted stay. If there is `room` for all that the iterator
     /// can give, nothing is refused. Memory is reserved as by `insert_all`.
+    ///
+    /// Cost: an `insert_overwrite` for each item; reserves memory for the lower bound of `size_hint` at once, then
+    /// takes it as that call does.
+    ///
+    /// Asks: `next` may be called until the iterator ends; its number of items fits a `usize`; the closure may be
+    /// called with any item in turn.
     pub fn overwrite_all<I: Iterator<Item = T>, G: FnMut(T)>(
         &mut self,
         iter: I,

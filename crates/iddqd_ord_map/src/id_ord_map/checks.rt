@@ -11,6 +11,8 @@ impl<T: Drop, E: OrdKey<T>> OrdMapBy<T, E> {
     /// Whether store and table are sound, as they are in every map; for `Compact`, whether no slot is vacant.
     ///
     /// Memory is taken only for the text of a refusal.
+    ///
+    /// Cost: a step for each slot and each index; takes memory only for the text of a refusal.
     pub fn validate(
         &self,
         compactness: ValidateCompact,

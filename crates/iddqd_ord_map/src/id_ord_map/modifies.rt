@@ -17,6 +17,10 @@ impl<T: Drop, E: OrdKey<T>> OrdMapBy<T, E> {
     ///
     /// The caller proves that the closure leaves the item its key. So the table stays as it is: the call is one look-up
     /// and takes no memory. To change a key, use `replace` or `change`.
+    ///
+    /// Cost: one search; takes no memory.
+    ///
+    /// Asks: the closure may be called on the item, and leaves it its keys.
     pub fn modify<Q: ItemOrdQuery<T, E>, R, F: FnOnce(&mut T) -> R>(
         &mut self,
         query: Q,
@@ -32,6 +36,10 @@ impl<T: Drop, E: OrdKey<T>> OrdMapBy<T, E> {
 
     /// Calls the closure with a `&mut` to the item at an index, as `modify` does; if there is no item at the index, it
     /// returns `None` and doesn't call the closure. No key is compared.
+    ///
+    /// Cost: a few steps; takes no memory.
+    ///
+    /// Asks: the closure may be called on the item, and leaves it its keys.
     pub fn modify_at<R, F: FnOnce(&mut T) -> R>(&mut self, ix: ItemIndex, f: F) -> Option<R>
         requires { KeepsKey F.FnOnce f E.key_of (λ item. get self.old.store ix ≡ Some item) }
         ensures { ModifiesAt F.FnOnce f self.old ix result self.new }

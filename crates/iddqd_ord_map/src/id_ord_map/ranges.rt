@@ -2,15 +2,14 @@
 ghost use Rattle.std.specs.Prelude.{◌≡◌, ◌≤◌, ◌+◌};
 ghost use Rattle.std.specs.Fn.{TakesAt, CalledAt};
 ghost use Rattle.iddqd.specs.{live_count};
-ghost use Rattle.iddqd.specs.LiveItems.{live_items};
 ghost use Rattle.iddqd_keys.specs.OrderedQuery.{is_within};
 ghost use Rattle.iddqd_ord_map.specs.ItemOrder.{GivesRefusedBetween, RemovesBetween, RetainsBetween};
 ghost use Rattle.std.specs.Ordering.{on};
 ghost use Rattle.iddqd_map.specs.Groups.{CountsHits};
 ghost use Rattle.iddqd_map.specs.Map.{capacity, room};
 ghost use Rattle.iddqd_map.specs.ModifyMany.{IsStoredHit, KeepsKeys, MayLeave, ModifiesWithin, TakesMut};
-ghost use Rattle.iddqd_map.specs.RangeRetain.{KeepsMisses, MayAskWithin, MayGiveSomeWithin};
-ghost use Rattle.iddqd_map.specs.Ranges.{GivesItem, LeavesOthers, MayGive};
+ghost use Rattle.iddqd_map.specs.RangeRetain.{KeepsMisses, MayAskWithin, MayGiveSomeWithin, MayGiveWithin};
+ghost use Rattle.iddqd_map.specs.Ranges.{GivesItem, LeavesOthers};
 
 use super::OrdMapBy;
 use iddqd_keys::item_order_query::ItemRangeQuery;
@@ -21,15 +20,19 @@ use std::ops::Bound;
 impl<T: Drop, E: OrdKey<T>> OrdMapBy<T, E> {
     /// Removes the items whose keys are within the bounds, and returns how many there were.
     ///
-    /// The closure receives each of them, by key. It takes no memory. It costs one search, and for each item a
-    /// comparison with the upper bound.
+    /// The closure receives each of them, by key. It costs one search, and for each item a comparison with the upper
+    /// bound.
+    ///
+    /// Cost: one search, and for each item a comparison with the upper bound; takes no memory.
+    ///
+    /// Asks: the closure may be called with each of these items in turn.
     pub fn remove_range<Q: ItemRangeQuery<T, E>, F: FnMut(T)>(
         &mut self,
         lower: Bound<Q>,
         upper: Bound<Q>,
         f: F,
     ) -> usize
-        requires { MayGive F.FnMut f (live_items self.old.store) }
+        requires { MayGiveWithin (on E.key_of E.cmp) (is_within Q.compare_item lower upper) F.FnMut f self.old.store }
         ensures left { LeavesOthers self.old.store (is_within Q.compare_item lower upper)
             self.new.store }
         ensures handed { RemovesBetween (on E.key_of E.cmp) Q.compare_item lower upper (GivesItem F.FnMut) f
@@ -46,8 +49,11 @@ impl<T: Drop, E: OrdKey<T>> OrdMapBy<T, E> {
     /// many it removed.
     ///
     /// The closure is called once at each of them, by key. Those at which it answers false are removed; all other items
-    /// stay under their indexes. It takes no memory. It costs one search, and for each item a comparison with the upper
-    /// bound.
+    /// stay under their indexes. It costs one search, and for each item a comparison with the upper bound.
+    ///
+    /// Cost: one search, and for each item a comparison with the upper bound; takes no memory.
+    ///
+    /// Asks: the closure may be called on these items in turn, once each.
     pub fn retain_range<Q: ItemRangeQuery<T, E>, F: FnMut(&T) -> bool>(
         &mut self,
         lower: Bound<Q>,
@@ -72,6 +78,11 @@ impl<T: Drop, E: OrdKey<T>> OrdMapBy<T, E> {
     ///
     /// The first closure is called once at each of them, by key. An item at which it answers false is removed at once,
     /// and passed to the second. Otherwise it behaves as `retain_range`.
+    ///
+    /// Cost: one search, and for each item a comparison with the upper bound; takes no memory.
+    ///
+    /// Asks: the first closure may be called on these items in turn, once each, and the second with any of them in
+    /// turn.
     pub fn retain_range_into<Q: ItemRangeQuery<T, E>, F: FnMut(&T) -> bool, G: FnMut(T)>(
         &mut self,
         lower: Bound<Q>,
@@ -102,6 +113,10 @@ impl<T: Drop, E: OrdKey<T>> OrdMapBy<T, E> {
     ///
     /// The caller proves that the closure leaves each of them its key, as for `modify`. All other items stay. It takes
     /// no memory. It costs one search, and for each item a comparison with the upper bound.
+    ///
+    /// Cost: one search, and for each item a comparison with the upper bound; takes no memory.
+    ///
+    /// Asks: the closure may be called on each of these items in turn, and leaves each its keys.
     pub fn modify_range<Q: ItemRangeQuery<T, E>, F: FnMut(&mut T)>(
         &mut self,
         lower: Bound<Q>,

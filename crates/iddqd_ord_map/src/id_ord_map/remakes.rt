@@ -19,6 +19,10 @@ impl<T: Drop, E: OrdKey<T>> OrdMapBy<T, E> {
     /// The new item may have another key. If another item has that one, or memory runs out, it comes back. The old item
     /// is gone then, and its index is the next that an insert takes. It is never refused as full, and within the
     /// capacity it takes no memory. It costs three searches. `replace` and `change` keep the old item.
+    ///
+    /// Cost: three searches; takes memory only if there are more items than the capacity.
+    ///
+    /// Asks: the closure may be called with the item.
     pub fn remake<Q: ItemOrdQuery<T, E>, F: FnOnce(T) -> T>(
         &mut self,
         query: Q,
@@ -37,6 +41,10 @@ impl<T: Drop, E: OrdKey<T>> OrdMapBy<T, E> {
 
     /// Replaces the item at an index by what the closure makes of it; `Ok(None)` if the index has no item. Otherwise it
     /// behaves as `remake`.
+    ///
+    /// Cost: two searches; takes memory only if there are more items than the capacity.
+    ///
+    /// Asks: the closure may be called with the item.
     pub fn remake_at<F: FnOnce(T) -> T>(
         &mut self,
         ix: ItemIndex,

@@ -22,6 +22,9 @@ impl<T: Drop, E: OrdKey<T>> OrdMapBy<T, E> {
     /// The new item may have another key. It gets the same index. If no item has the key (`Missing`), another item has
     /// the new item's key, or memory runs out, the new item comes back, and the map stays as it was. If the key stays
     /// the table isn't touched. Up to the capacity no memory is needed.
+    ///
+    /// Cost: one search; then one search for the new item's key; if the key changes, a removal and an insertion of its
+    /// index; takes memory only if a key in order changes and there are more items than the capacity.
     pub fn replace<Q: ItemOrdQuery<T, E>>(
         &mut self,
         query: Q,
@@ -41,6 +44,9 @@ impl<T: Drop, E: OrdKey<T>> OrdMapBy<T, E> {
     /// Replaces the item at an index, and returns the old one.
     ///
     /// If there is none it refuses with `Missing`. Otherwise it behaves as `replace`.
+    ///
+    /// Cost: one search for the new item's key; if the key changes, a removal and an insertion of its index; takes
+    /// memory only if a key in order changes and there are more items than the capacity.
     pub fn replace_at(&mut self, ix: ItemIndex, item: T) -> Result<T, ReplaceRefusal<T, ItemIndex>>
         ensures replaces { ReplacesInOrderIfLive E.key_of E.cmp self.old ix item result self.new }
         ensures room { room self.new ≡ room self.old }
@@ -53,6 +59,11 @@ impl<T: Drop, E: OrdKey<T>> OrdMapBy<T, E> {
     /// has the key.
     ///
     /// The closure is called at most once, and not at all if no item has the key. Otherwise it behaves as `replace`.
+    ///
+    /// Cost: one search; then one search for the new item's key; if the key changes, a removal and an insertion of its
+    /// index; takes memory only if a key in order changes and there are more items than the capacity.
+    ///
+    /// Asks: the closure may be called on the item that has the key.
     pub fn change<Q: ItemOrdQuery<T, E>, F: FnOnce(&T) -> T>(
         &mut self,
         query: Q,

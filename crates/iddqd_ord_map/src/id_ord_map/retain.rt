@@ -33,6 +33,10 @@ impl<T: Drop, E: OrdKey<T>> OrdMapBy<T, E> {
     ///
     /// The closure is called once at each item, in the order of the keys. The items at which it answers false are
     /// removed, in this order. No memory is taken, no key is compared, and it costs a few steps for each item.
+    ///
+    /// Cost: a few steps for each item; takes no memory.
+    ///
+    /// Asks: the closure may be called on these items in turn, once each.
     pub fn retain<F: FnMut(&T) -> bool>(&mut self, mut f: F) -> usize
         requires { MayAskAlong (IsKeyWalk E.key_of E.cmp) (TakesAt F.FnMut) (CalledAt F.FnMut) f self.old.store }
         ensures retained { RetainsAlong (IsKeyWalk E.key_of E.cmp) (CalledAt F.FnMut) f self.old self.new }

@@ -16,6 +16,11 @@ impl<T: Drop, E: OrdKey<T>> OrdMapBy<T, E> {
     ///
     /// The first closure is called once at each item, in the order of the keys. An item at which it answers false is
     /// removed at once, and passed to the second. Otherwise it behaves as `retain`.
+    ///
+    /// Cost: a few steps for each item; takes no memory.
+    ///
+    /// Asks: the first closure may be called on these items in turn, once each, and the second with any of them in
+    /// turn.
     pub fn retain_into<F: FnMut(&T) -> bool, G: FnMut(T)>(
         &mut self,
         mut keep: F,
@@ -37,6 +42,10 @@ impl<T: Drop, E: OrdKey<T>> OrdMapBy<T, E> {
     /// the map is empty, as after `clear`: the next index is 0.
     ///
     /// The map keeps its memory, and takes none. No key is compared. It costs a few steps for each item.
+    ///
+    /// Cost: a few steps for each item; takes no memory.
+    ///
+    /// Asks: the closure may be called with each of these items in turn.
     pub fn drain_into<F: FnMut(T)>(&mut self, mut gone: F) -> usize
         requires { MayGiveAlong (IsKeyWalk E.key_of E.cmp) F.FnMut gone self.old.store }
         ensures given { GivesAlong (IsKeyWalk E.key_of E.cmp) (GivesItem F.FnMut) gone self.old.store }

@@ -21,6 +21,10 @@ impl<T: Drop, E: OrdKey<T>> OrdMapBy<T, E> {
     ///
     /// The caller proves that the closure leaves the stored item its key. If no item has the key, the new one is
     /// refused as by `insert_unique`. The table is searched once.
+    ///
+    /// Cost: one search; takes memory only without `room`.
+    ///
+    /// Asks: the closure may be called with the stored item and the new one, and leaves the stored one its keys.
     pub fn modify_or_insert<F: FnOnce(&mut T, T)>(
         &mut self,
         item: T,
@@ -45,6 +49,10 @@ impl<T: Drop, E: OrdKey<T>> OrdMapBy<T, E> {
     ///
     /// The closure is called at most once, and not at all if an item has the key. What it makes is refused as
     /// `insert_unique` refuses an item. An index that is found costs one search, an insert two.
+    ///
+    /// Cost: one search; for an insert two; takes memory only without `room`.
+    ///
+    /// Asks: where no item has the key, the closure may be called, and what it makes has the key.
     pub fn find_or_insert_with<Q: ItemOrdQuery<T, E>, F: FnOnce() -> T>(
         &mut self,
         query: Q,

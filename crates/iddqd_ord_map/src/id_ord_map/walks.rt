@@ -20,6 +20,8 @@ use std::ops::{Bound, RangeBounds};
 
 impl<T: Drop, E: OrdKey<T>> OrdMapBy<T, E> {
     /// The live indexes with their items, in the order of the keys, from both ends.
+    ///
+    /// Cost: a step for each item; takes no memory.
     pub fn iter(&self) -> Iter<'_, T>
         ensures walk { IsKeyWalk E.key_of E.cmp self.now.store result }
         ensures len { length result ≡ live_count self.now.store }
@@ -32,6 +34,8 @@ impl<T: Drop, E: OrdKey<T>> OrdMapBy<T, E> {
     }
 
     /// The items, in the order of the keys, from both ends.
+    ///
+    /// Cost: a step for each item; takes no memory.
     pub fn values(&self) -> Values<'_, T>
         ensures items { AreInKeyOrder E.key_of E.cmp self.now.store result }
         ensures len { length result ≡ live_count self.now.store }
@@ -40,6 +44,8 @@ impl<T: Drop, E: OrdKey<T>> OrdMapBy<T, E> {
     }
 
     /// The items by value, in the order of the keys, from both ends.
+    ///
+    /// Cost: a step for each item; takes no memory.
     pub fn into_values(self) -> IntoValues<T>
         ensures items { AreInKeyOrder E.key_of E.cmp self.store result }
         ensures len { length result ≡ live_count self.store }
@@ -55,6 +61,8 @@ impl<T: Drop, E: OrdKey<T>> OrdMapBy<T, E> {
     /// none if the lower bound is above the upper one.
     ///
     /// It is one search of the table for each bound that there is, as `find`.
+    ///
+    /// Cost: one search for each bound that there is, then a step for each item; takes no memory.
     pub fn range<Q: ItemRangeQuery<T, E>>(&self, lower: Bound<Q>, upper: Bound<Q>) -> Range<'_, T>
         ensures { let within = is_within Q.compare_item lower upper in
             IsWalkWithin itself (on E.key_of E.cmp) within self.now.store result }
@@ -66,6 +74,8 @@ impl<T: Drop, E: OrdKey<T>> OrdMapBy<T, E> {
     /// `range`, with both bounds as one range of queries: `map.range_in::<&u32, _>(&from..=&to)`.
     ///
     /// Of a `RangeInclusive` that was iterated to its end nothing is said.
+    ///
+    /// Cost: one search for each bound that there is, then a step for each item; takes no memory.
     pub fn range_in<Q: ItemRangeQuery<T, E>, R: RangeBounds<Q>>(&self, bounds: R) -> Range<'_, T>
         ensures { R.has_bounds bounds → IsWalkBetween (on E.key_of E.cmp)
             Q.compare_item (R.start_bound bounds) (R.end_bound bounds) self.now.store result }
@@ -74,6 +84,8 @@ impl<T: Drop, E: OrdKey<T>> OrdMapBy<T, E> {
     }
 
     /// The item with the least key.
+    ///
+    /// Cost: a few steps; takes no memory.
     pub fn first(&self) -> Option<&T>
         ensures { FindsEnd E.key_of E.cmp Less self.now.store (option_copied result) }
     {
@@ -82,6 +94,8 @@ impl<T: Drop, E: OrdKey<T>> OrdMapBy<T, E> {
     }
 
     /// The item with the greatest key.
+    ///
+    /// Cost: a few steps; takes no memory.
     pub fn last(&self) -> Option<&T>
         ensures { FindsEnd E.key_of E.cmp Greater self.now.store (option_copied result) }
     {
@@ -106,6 +120,8 @@ impl<T: Drop, E: OrdKey<T>> OrdMapBy<T, E> {
     }
 
     /// Removes the item with the least key, and returns it.
+    ///
+    /// Cost: one search; takes no memory.
     pub fn pop_first(&mut self) -> Option<T>
         ensures pops { PopsEnd E.key_of E.cmp Less self.old result self.new }
         ensures room { room self.old ≤ room self.new }
@@ -119,6 +135,8 @@ impl<T: Drop, E: OrdKey<T>> OrdMapBy<T, E> {
     }
 
     /// Removes the item with the greatest key, and returns it.
+    ///
+    /// Cost: one search; takes no memory.
     pub fn pop_last(&mut self) -> Option<T>
         ensures pops { PopsEnd E.key_of E.cmp Greater self.old result self.new }
         ensures room { room self.old ≤ room self.new }

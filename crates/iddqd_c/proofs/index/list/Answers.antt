@@ -5,15 +5,15 @@ use Rattle.iddqd_c.proofs.CopyLemmas.{IsCopied-start, IsCopied-step, IsCopied-en
 use Rattle.iddqd_c.proofs.index.list.Goals as goal
 
 pub loop-at-init : goal.loop-at-init
-loop-at-init c = IsCopied-start c.iter_hash-found.result c.args.numbers.now
+loop-at-init c = IsCopied-start c.under-found.result c.args.numbers.now
 
 pub returns-in-None : goal.returns-in-None
 returns-in-None c =
     let end = IsCopied-end _ _ _ _ (rw c.in-None.ensures.steps.0 at c.loop-at.invariant) in
     record {
       done = refl;
-      found = c.iter_hash-found.result;
-      each_once = c.iter_hash-found.ensures;
+      found = c.under-found.result;
+      each_once = c.under-found.ensures;
       counted = end.0;
       filled = end.1;
     }
@@ -25,16 +25,16 @@ loop-at-preserved c =
 
 pub returns : goal.returns
 returns c =
-    let few : length c.iter_hash-found.result ≤ length (entries c.args.filed.now) =
-    omega (arith, length_permutation _ _ c.iter_hash-found.ensures, under_few c.args.hash (entries c.args.filed.now)) in
+    let few : length c.under-found.result ≤ length (entries c.args.filed.now) =
+    omega (arith, length_permutation _ _ c.under-found.ensures, under_few c.args.hash (entries c.args.filed.now)) in
     let most = c.len-at-end.ensures in
     let at_end : c.loop-at.at ≡ length (entries c.args.filed.now) = omega (arith, c.loop-at.auto.at-end, c.loop-at-test.false, most) in
     let none : c.loop-at.found ≡ [] = nothing_left _ _ _ _ _ c.loop-at.invariant (omega (arith, few, at_end)) in
     let end = IsCopied-end _ _ _ _ (rw none at c.loop-at.invariant) in
     record {
       done = refl;
-      found = c.iter_hash-found.result;
-      each_once = c.iter_hash-found.ensures;
+      found = c.under-found.result;
+      each_once = c.under-found.ensures;
       counted = c.len.ensures ∙ sym at_end ∙ end.0;
       filled = end.1;
     }

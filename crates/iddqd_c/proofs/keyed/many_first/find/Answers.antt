@@ -11,7 +11,7 @@ returns c =
     let looked = c.find1_by-found.ensures in
     record {
       found = c.find1_by-found.result;
-      reports = reported _ _ _ _ c.report.ensures.says c.report.ensures.kept c.no_row-row.ensures;
+      reports = reported _ _ _ _ c.report.ensures.says c.report.ensures.kept c.none-row.ensures;
       live = hit_lives c.args.items.now.state.store _ _ looked.hit;
       step = λ entry has.
           Step-found1 _ _ entry.first ((bytes_decides _ _).1 (sym has)) (λ i key. bytes_eq (sym has i) key.bytes.items)

@@ -1,6 +1,14 @@
+use Rattle.std.proofs.Common.{sym, subst}
+use Rattle.iddqd_keys.proofs.KeyWalkLemmas.{between_equal}
+use Rattle.iddqd_map.specs.RangeRetain.{MayGiveWithin}
 use Rattle.iddqd_map.specs.Ranges.{GivesItem}
 use Rattle.iddqd_map.proofs.RangeLemmas.{LeavesOthers-group, RemovesAlong-group}
 use Rattle.iddqd_map.proofs.map.Map.remove_group_by.Goals as goal
+
+pub remove_range_by-requires : goal.remove_range_by-requires
+remove_range_by-requires g c =
+    subst (λ within. MayGiveWithin g.X.OrderedAt.order within g.F.FnMut c.args.f c.args.self.now.store)
+    (sym (between_equal (g.X.OrderedAt.compare c.args.query))) c.requires
 
 pub returns-clause-left : goal.returns-clause-left
 returns-clause-left g c =

@@ -1,8 +1,8 @@
-use Rattle.std.proofs.Common.{rules, Bool, arith}
+use Rattle.std.proofs.Common.{rules, Bool, filter, arith}
 use Rattle.iddqd.specs.LiveItems.{live_items}
 use Rattle.iddqd_hash.proofs.AskLemmas.{CanAsk-everywhere}
 use Rattle.iddqd_map.specs.Ranges.{TakesItem, GivesItem}
-use Rattle.iddqd_map.proofs.GroupRetainLemmas.{CanAsk-filter, LeavesOthers-all, RemovesEach-all}
+use Rattle.iddqd_map.proofs.GroupRetainLemmas.{LeavesOthers-all, RemovesEach-all}
 use Rattle.iddqd_map.proofs.RetainLemmas.{MayAsk-can, same_memory}
 use Rattle.iddqd_map.proofs.map.Map.remove_hashed_group_by.Goals as goal
 
@@ -11,10 +11,9 @@ retain_counted-requires-clause-can_ask g c = CanAsk-everywhere _ _ _ _ (λ p x. 
 
 pub retain_counted-requires-clause-can_give : goal.retain_counted-requires-clause-can_give
 retain_counted-requires-clause-can_give g c =
+    let items = filter (g.X.GroupedAt.stands_for c.args.query) (live_items c.args.self.now.store) in
     rw (← c.self.view_is) at
-    (CanAsk-filter (TakesItem g.F.FnMut) (λ p x (b : Bool) q. GivesItem g.F.FnMut p x q) c.args.f
-    (g.X.GroupedAt.stands_for c.args.query) (live_items c.args.self.now.store)
-    (MayAsk-can (TakesItem g.F.FnMut) (λ p x (b : Bool) q. GivesItem g.F.FnMut p x q) _ _ c.requires))
+    (MayAsk-can (TakesItem g.F.FnMut) (λ p x (b : Bool) q. GivesItem g.F.FnMut p x q) c.args.f items c.requires)
 
 pub returns-clause-left : goal.returns-clause-left
 returns-clause-left g c =

@@ -1,11 +1,18 @@
 use Rattle.std.proofs.Common.{Bool, arith}
+use Rattle.std.specs.Range.Bound.{bound_map}
+use Rattle.iddqd_keys.specs.OrderedQuery.{is_between}
 use Rattle.iddqd_map.specs.Ranges.{TakesItem, GivesItem}
-use Rattle.iddqd_map.proofs.RetainLemmas.{MayAsk-can, same_memory}
+use Rattle.iddqd_map.proofs.RangeRetainLemmas.{MayAskWithin-asks}
+use Rattle.iddqd_map.proofs.RetainLemmas.{same_memory}
 use Rattle.iddqd_map.proofs.map.Map.remove_range_by.Goals as goal
 
 pub remove_within-requires-clause-can_give : goal.remove_within-requires-clause-can_give
 remove_within-requires-clause-can_give g c =
-    rw (← c.self.view_is) at (MayAsk-can (TakesItem g.F.FnMut) (λ p x (b : Bool) q. GivesItem g.F.FnMut p x q) _ _ c.requires)
+    let within = is_between (bound_map g.X.OrderedAt.compare c.args.lower)
+    (bound_map g.X.OrderedAt.compare c.args.upper) in
+    rw (← c.self.view_is) at
+    (MayAskWithin-asks g.X.OrderedAt.order within (TakesItem g.F.FnMut) (λ p x (b : Bool) q. GivesItem g.F.FnMut p x q)
+    c.args.f c.args.self.now.store c.requires)
 
 pub overflow_sub-result : goal.overflow_sub-result
 overflow_sub-result g c = omega (arith, c.remove_within.ensures.fewer, c.len.ensures, c.len-before.ensures)

@@ -1,45 +1,60 @@
-use Rattle.std.proofs.Common.{subst, ◌≡◌, ◌∙◌, Bool, true, Some, sym, ap, arith}
+use Rattle.std.proofs.Common.{subst, ◌≡◌, ◌∙◌, ℕ, Bool, true, false, Some, refl, sym, ap, arith}
 use Rattle.std.specs.Range.Bound.{bound_map}
 use Rattle.iddqd.specs.Store.{get, live_count}
 use Rattle.iddqd.specs.ItemSet.{SizedStore}
-use Rattle.iddqd.specs.LiveItems.{live_items}
 use Rattle.iddqd.proofs.LiveCountLemmas.{live_count-removed}
-use Rattle.iddqd_hash.proofs.AskLemmas.{CanAsk-takes, CanAsk-asked}
 use Rattle.iddqd_keys.specs.KeyWalk.{IsFirstHit}
 use Rattle.iddqd_keys.specs.OrderedQuery.{is_between}
 use Rattle.iddqd_keys.proofs.NextLemmas.{IsNextHit-between}
-use Rattle.iddqd_keys.proofs.ScanLemmas.{live_before}
 use Rattle.iddqd_map.specs.Ranges.{TakesItem, GivesItem, itself}
 use Rattle.iddqd_map.proofs.GroupLemmas.{LeavesOthers-none, LeavesOthers-hit}
 use Rattle.iddqd_map.proofs.RangeLemmas.{IsFirstHit-removed, RemovesAlong-none, RemovesAlong-first}
-use Rattle.iddqd_map.proofs.RetainLemmas.{Contains-live}
+use Rattle.iddqd_map.proofs.RangeRetainLemmas.{takes-at, AsksFrom-asked}
 use Rattle.iddqd_map.proofs.map.ranges.remove_within.Goals as goal
+
+pub loop-next-init : goal.loop-next-init
+loop-next-init g c =
+    let ix : ℕ = c.in-Some.first-1-given.0.0.0 in
+    record {
+      kept = c.requires.indexed;
+      first = c.in-Some.ensures.first;
+      stands = c.in-Some.ensures.stands;
+      can = λ n. c.requires.can_give.at n (Some ix) c.in-Some.ensures.first;
+      leaves = λ new left. left;
+      removes = λ new last along. along;
+      fewer = omega arith;
+      limit = refl;
+      slots = refl;
+      capacity = refl;
+      cells = refl;
+    }
 
 -- none is within
 pub returns-in_default-clause-left : goal.returns-in_default-clause-left
 returns-in_default-clause-left g c =
-    let within = is_between (bound_map g.X.OrderedAt.compare c.args.lower) (bound_map g.X.OrderedAt.compare c.args.upper) in
+    let within = is_between (bound_map g.X.OrderedAt.compare c.args.lower)
+    (bound_map g.X.OrderedAt.compare c.args.upper) in
     LeavesOthers-none within c.args.items.now.store c.in_default.ensures.first
 
 pub returns-in_default-clause-handed : goal.returns-in_default-clause-handed
 returns-in_default-clause-handed g c =
-    let within = is_between (bound_map g.X.OrderedAt.compare c.args.lower) (bound_map g.X.OrderedAt.compare c.args.upper) in
+    let within = is_between (bound_map g.X.OrderedAt.compare c.args.lower)
+    (bound_map g.X.OrderedAt.compare c.args.upper) in
     RemovesAlong-none g.X.OrderedAt.order g.met.X.StepsAt.total within (GivesItem g.F.FnMut) c.args.f.now c.args.items.now.store c.in_default.ensures.first
 
 pub f-requires : goal.f-requires
 f-requires g c =
-    let i = c.loop-next.invariant in
-    let old = c.args.items.now.store in
     let ix = c.in-Some-next.ix in
     let item = c.in-Some-taken.item in
     let live : get c.loop-next.items.store ix ≡ Some item = sym c.take_out_between-taken.ensures.value ∙ c.in-Some-taken.is in
-    CanAsk-takes (TakesItem g.F.FnMut) (λ p x (b : Bool) q. GivesItem g.F.FnMut p x q) c.loop-next.f (live_items old) item i.can
-    (Contains-live old ix item (i.among ix item live))
+    let within = is_between (bound_map g.X.OrderedAt.compare c.args.lower)
+    (bound_map g.X.OrderedAt.compare c.args.upper) in
+    takes-at g.X.OrderedAt.order within (TakesItem g.F.FnMut) (λ p x (b : Bool) q. GivesItem g.F.FnMut p x q)
+    c.loop-next.items.store c.loop-next.f c.loop-next.next ix item c.loop-next.invariant.can c.in-Some-next.is live
 
 pub loop-next-preserved : goal.loop-next-preserved
 loop-next-preserved g c =
     let i = c.loop-next.invariant in
-    let old = c.args.items.now.store in
     let now = c.loop-next.items.store in
     let ix = c.in-Some-next.ix in
     let item = c.in-Some-taken.item in
@@ -58,9 +73,10 @@ loop-next-preserved g c =
       kept = did.map;
       first = rw gone (IsFirstHit-removed itself compare total now hits ix item live first then next);
       stands = did.stands;
-      can = CanAsk-asked (TakesItem g.F.FnMut) (λ p x (b : Bool) q. GivesItem g.F.FnMut p x q) c.loop-next.f (live_items old) item true c.f.new.self i.can
-          (Contains-live old ix item (i.among ix item live)) c.f.ensures;
-      among = λ j x there. i.among j x (live_before now ix j item x live (rw gone at there)).1;
+      can = AsksFrom-asked compare within (TakesItem g.F.FnMut) (λ p x (b : Bool) q. GivesItem g.F.FnMut p x q) total
+          now ix
+          item live c.loop-next.f c.f.new.self c.loop-next.next then _ false i.can c.in-Some-next.is c.f.ensures next
+          (λ (yes : false ≡ true). absurd (cc)) (λ no. gone);
       leaves = λ new left. i.leaves new (LeavesOthers-hit hits now ix first.0 _ new gone left);
       removes = λ new last along.
           i.removes new last
@@ -83,7 +99,8 @@ returns-clause-left g c =
 pub returns-clause-handed : goal.returns-clause-handed
 returns-clause-handed g c =
     let i = c.loop-next.invariant in
-    let within = is_between (bound_map g.X.OrderedAt.compare c.args.lower) (bound_map g.X.OrderedAt.compare c.args.upper) in
+    let within = is_between (bound_map g.X.OrderedAt.compare c.args.lower)
+    (bound_map g.X.OrderedAt.compare c.args.upper) in
     let s = c.loop-next.items.store in
     let none = subst (IsFirstHit itself g.X.OrderedAt.order s within) c.in_default-next.is i.first in
     i.removes s c.loop-next.f

@@ -1,11 +1,10 @@
-use Rattle.std.proofs.Common.{◌≡◌, ◌≤◌, ℕ, Bool, IfSome, Some}
+use Rattle.std.proofs.Common.{◌≡◌, ◌≤◌, ℕ, Bool, IfSome}
 use Rattle.std.specs.Range.Bound.{bound_map}
-use Rattle.iddqd.specs.LiveItems.{live_items}
-use Rattle.iddqd.specs.Store.{Store, get, live_count}
-use Rattle.iddqd_hash.specs.Asks.{CanAsk}
+use Rattle.iddqd.specs.Store.{Store, live_count}
 use Rattle.iddqd_keys.specs.KeyWalk.{IsFirstHit}
 use Rattle.iddqd_keys.specs.OrderedQuery.{is_between}
 use Rattle.iddqd_map.specs.KeyIndex.{IsIndexed}
+use Rattle.iddqd_map.specs.RangeRetain.{AsksFrom}
 use Rattle.iddqd_map.specs.Ranges.{LeavesOthers, RemovesAlong, TakesItem, GivesItem, itself}
 use Rattle.iddqd_map.proofs.map.ranges.remove_within.Given as goal
 
@@ -18,9 +17,9 @@ invariant-loop-next g l =
       kept : IsIndexed (g.X.KeyIndex.indexes l.indexes) l.fn.state l.items.store;
       first : IsFirstHit itself compare l.items.store within l.next;
       stands : IfSome l.next (g.X.StepsAt.stands l.indexes l.spot);
-      can : CanAsk (TakesItem g.F.FnMut) (λ p x (b : Bool) q. GivesItem g.F.FnMut p x q) l.f
-          (live_items l.fn.items.store);
-      among : (j : ℕ) (x : _) → get l.items.store j ≡ Some x → get l.fn.items.store j ≡ Some x;
+      can : (n : ℕ)
+          → AsksFrom compare within (TakesItem g.F.FnMut) (λ p x (b : Bool) q. GivesItem g.F.FnMut p x q)
+          l.items.store n l.f l.next;
       leaves : (new : Store _) → LeavesOthers l.items.store within new
           → LeavesOthers l.fn.items.store within new;
       removes : (new : Store _) (last : _)

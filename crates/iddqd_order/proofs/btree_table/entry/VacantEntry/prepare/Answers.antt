@@ -1,10 +1,10 @@
 use Rattle.std.proofs.Common.{refl, ◌∙◌}
 use Rattle.iddqd_order.specs.Entry.{vacant_place}
-use Rattle.iddqd_order.specs.PreparedBTreeInsert.{place_of, index_of, blocks_of}
+use Rattle.iddqd_order.specs.PreparedBTreeInsert.{place_of, index_of, blocks_of, needed_of}
 use Rattle.iddqd_order.proofs.btree_table.entry.VacantEntry.prepare.Goals as goal
 
 pub returns : goal.returns
-unfolding place_of index_of blocks_of vacant_place
+unfolding place_of index_of blocks_of needed_of vacant_place
 returns c =
     let taken = c.in-Ok.ensures in (
       (refl, λ w. refl, tt),
@@ -16,6 +16,7 @@ returns c =
               table = refl;
               index = refl;
               place = refl;
+              needed = taken.blocks;
               few_blocks = rw taken.blocks (taken.few c.args.self.levels);
             };
         memory = refl;

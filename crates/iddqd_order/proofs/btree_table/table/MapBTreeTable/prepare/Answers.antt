@@ -1,9 +1,9 @@
 use Rattle.std.proofs.Common.{refl, ◌∙◌}
-use Rattle.iddqd_order.specs.PreparedBTreeInsert.{place_of, index_of, blocks_of}
+use Rattle.iddqd_order.specs.PreparedBTreeInsert.{place_of, index_of, blocks_of, needed_of}
 use Rattle.iddqd_order.proofs.btree_table.table.MapBTreeTable.prepare.Goals as goal
 
 pub returns : goal.returns
-unfolding place_of index_of blocks_of
+unfolding place_of index_of blocks_of needed_of
 returns g c =
     let gap = c.find_own_gap-gap.ensures in let taken = c.in-Ok.ensures in (
       (refl, λ w. refl, tt),
@@ -14,6 +14,7 @@ returns g c =
         prepared =
             record {
               prepared = record { table = refl; index = refl; within = gap.within; place = gap.place };
+              needed = taken.blocks;
               few_blocks = rw taken.blocks (taken.few gap.fits.levels);
             };
         memory = refl;

@@ -11,7 +11,7 @@ returns c =
       record {
         unchanged = tt;
         same_reference = refl;
-        prepared = record { table = refl; index = refl; few_blocks = rw taken.blocks taken.few };
+        prepared = record { table = refl; index = refl; needed = taken.blocks; few_blocks = rw taken.blocks taken.few };
         memory = refl;
         roomy = λ _. refl;
         no_blocks = λ le. taken.blocks ∙ taken.roomy le;

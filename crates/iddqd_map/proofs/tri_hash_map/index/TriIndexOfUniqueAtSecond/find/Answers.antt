@@ -1,0 +1,19 @@
+use Rattle.std.proofs.Common.{ℕ, Option, None}
+use Rattle.iddqd_by_hash.specs.Hashed.{hashing_of}
+use Rattle.iddqd_map.specs.Indexing.{IsKnownHash}
+use Rattle.iddqd_map.proofs.HashLemmas.{known_first, known_rest}
+use Rattle.iddqd_map.proofs.tri_hash_map.index.TriIndexOfUniqueAtSecond.find.Goals as goal
+
+pub returns-clause-known : goal.returns-clause-known
+returns-clause-known g c =
+    let state = c.args.state.now in
+    let first = IsKnownHash g.A.HashKey.key_of
+    (hashing_of g.A.HashKey.eq g.A.HashKey.hash_input g.S.BuildHasher g.S.Hasher.Hasher state) in
+    let second = IsKnownHash g.B.HashKey.key_of
+    (hashing_of g.B.HashKey.eq g.B.HashKey.hash_input g.S.BuildHasher g.S.Hasher.Hasher state) in
+    let third = IsKnownHash g.C.HashKey.key_of
+    (hashing_of g.C.HashKey.eq g.C.HashKey.hash_input g.S.BuildHasher g.S.Hasher.Hasher state) in
+    known_rest first (λ item (both : Option ℕ × Option ℕ). second item both.0 × third item both.1)
+    c.args.items.now.store None (c.find-found.result.1, None) (λ item. tt) c.find-found.result.0
+    (known_first second third c.args.items.now.store c.find-found.result.1 None (λ item. tt) c.find-found.result.0
+    c.find-found.ensures.known)
