@@ -9,8 +9,8 @@ from repository import LICENCES, TOP, crates_in, read, release
 # Where they stand there.
 FOLDER = "docs/iddqd"
 # The pages that serve a caller. docs/DECISIONS.md says why the others stay.
-PAGES = ["README.md", "CHANGELOG.md", "docs/CALLING.md", "docs/CALLS.md", "docs/CONTRACTS.md", "docs/DIFFERENCES.md",
-         "docs/ARCHITECTURE.md", "docs/ELSEWHERE.md"]
+PAGES = ["README.md", "CHANGELOG.md", "docs/GUARANTEES.md", "docs/CALLING.md", "docs/KEYS.md", "docs/PROVING.md",
+         "docs/CALLS.md", "docs/CONTRACTS.md", "docs/DIFFERENCES.md", "docs/ARCHITECTURE.md", "docs/ELSEWHERE.md"]
 # A link to a file: its label, the path, and the heading there, if it names one.
 LINK = re.compile(r"\[([^\[\]]*)\]\(([^()#:\s]+)(#[^()\s]*)?\)")
 NOTE = """> This page was copied from Yellowtuff, as of '{release}' in [CHANGELOG.md](CHANGELOG.md). "This repository" means

@@ -1,7 +1,19 @@
-"""What holds a promise of a page: the comment behind it, which names clauses, lemmas, definitions and tests.
+#!/usr/bin/env python3
+"""What holds the promises of the pages: docs/promises.txt, which `tools/check-docs` reads.
 
-Behind a paragraph or an item of a list stands `<!-- held by: THING; THING -->`. Behind a table stands one comment for each
-row, `<!-- CELL, held by: THING -->`, with the row's first cell. A THING is one of
+    tools/promises.py              lists the promises that changed since what holds them was read
+    tools/promises.py --read PAGE  marks those of a page as read: whoever calls it has read both
+
+Below the path of a page stand its promises: a mark, the first words of a paragraph, of an item or of a row, and indented
+what holds it, parted by semicolons:
+
+    docs/GUARANTEES.md
+
+    1f0c9a Answers are exact. A look-up finds the item
+        iddqd_map Map::find ensures; spec iddqd_map Map.IsMap
+
+A row is named by its first cell, as `| CELL |`. The mark is made of all words of the promise: if one changes, the check
+says so. What holds it is one of
 
     CRATE CALL CLAUSE, CLAUSE    a function of the crate, `name`, `Type::name` or `Trait::name`, has these clauses; if CALL
                                  is a pattern, as of names of files, each function that fits. `ensures` is the clause without
@@ -10,25 +22,113 @@ row, `<!-- CELL, held by: THING -->`, with the row's first cell. A THING is one 
     spec CRATE FILE.NAME         crates/CRATE/specs/FILE.antt defines this
     test PLACE/FILE NAME         a test in FILE below tests/PLACE, tools/PLACE or crates/PLACE
     file PATH                    a program that is run by hand, or an example that the gate proves
+    nothing: WORDS               no clause and no test can hold it, for this reason
 """
 
 import glob
+import hashlib
 import os
 import re
+import sys
+from collections import namedtuple
 from fnmatch import fnmatchcase
 from functools import cache
 
-import rt_functions
-from repository import TOP, read, sources_of
+sys.dont_write_bytecode = True
+import rt_functions  # noqa: E402
+from repository import TOP, read, sources_of  # noqa: E402
 
-# The parts of pages of which each paragraph, item and row has such a comment: a page, a heading, and which of these.
-PARTS = [("README.md", "Four guarantees", {"paragraph"}),
-         ("README.md", "What is proved, tested, neither", {"item"}),
+FILE = "docs/promises.txt"
+# The parts of pages of which each of these has a promise in the file: a page, a heading (none for the whole page below its
+# first heading), and which blocks.
+PARTS = [("docs/GUARANTEES.md", "Four guarantees", {"paragraph"}),
+         ("docs/GUARANTEES.md", "What is proved, tested, neither", {"item"}),
          ("docs/FROM_C.md", "What is proved", {"paragraph", "row"}),
-         ("docs/CALLING.md", "The contracts of the main calls", {"row"}),
          ("docs/CALLING.md", "A collection for n items", {"item"}),
-         ("docs/CALLING.md", "Keys", {"row"})]
-COMMENT = re.compile(r"<!-- (?:((?:(?!-->).)+?), )?held by: ((?:(?!-->).)+?) -->")
+         ("docs/PROVING.md", "The names that a key index gives", {"row"}),
+         ("docs/PROVING.md", "What to cite", {"row"}),
+         ("docs/PROVING.md", "Answer files and lemmas for callers", {"row"}),
+         ("docs/KEYS.md", "The kinds of key", {"row"})]
+# How many of its words name a promise.
+NAMING = 8
+# A block of a page: which kind, its words, and for a row its first cell.
+Block = namedtuple("Block", "kind text cell")
+# A promise: its page, its mark, its first words, and what holds it.
+Promise = namedtuple("Promise", "page mark words things")
+
+
+def without_code(text):
+    """A page without its blocks of code, comments and pictures of text."""
+    text = re.sub(r"(?ms)^ *```.*?^ *```\n?", "", text)
+    text = re.sub(r"(?s)<!--.*?-->\n?", "", text)
+    return re.sub(r"(?m)(?:\A|(?<=\n\n))(?: {4}.*\n+)+", "", text)
+
+
+def cell_of(row):
+    """The first cell of a row."""
+    return re.split(r"(?<!\\)\|", row)[1].strip()
+
+
+def blocks(text):
+    """The paragraphs, items and rows of a page's text, without code and headings."""
+    found = []
+    for part in re.split(r"\n{2,}", re.sub(r"(?m)^#+ .*$", "\n", without_code(text)).strip("\n")):
+        if part.startswith("  ") and found and found[-1].kind == "item":
+            found[-1] = Block("item", f"{found[-1].text} {' '.join(part.split())}", None)
+            continue
+        table = []
+        for piece in re.split(r"(?m)^(?=- |\d+\. |\|)", part):
+            words = " ".join(piece.split())
+            if piece.startswith("|"):
+                table.append(Block("row", words, cell_of(words)))
+            elif words:
+                found.append(Block("item" if re.match(r"- |\d+\. ", piece) else "paragraph", words, None))
+        found += table[2:]
+    return found
+
+
+def named(block):
+    """The words that name a block."""
+    return f"| {block.cell} |" if block.kind == "row" else " ".join(re.sub(r"^(?:- |\d+\. )", "", block.text).split()[:NAMING])
+
+
+def mark(block):
+    """What changes with any word of a block."""
+    return hashlib.sha256(block.text.encode()).hexdigest()[:6]
+
+
+def promises():
+    """The promises of the file."""
+    page, found = None, []
+    for line in read(f"{TOP}/{FILE}").split("\n"):
+        if line.startswith("    "):
+            found[-1].things.extend(it.strip() for it in line.split(";") if it.strip())
+        elif re.match(r"[0-9a-f]{6} ", line):
+            found.append(Promise(page, line[:6], line[7:], []))
+        elif line and not line.startswith("#"):
+            page = line
+    return found
+
+
+def lines_of(promise):
+    """The lines of a promise in the file."""
+    lines, things = [f"{promise.mark} {promise.words}"], []
+    for thing in [*promise.things, None]:
+        if thing is None or len("; ".join([*things, thing])) > 115:
+            lines.append("    " + "; ".join(things) + ("" if thing is None else ";"))
+            things = []
+        things.append(thing)
+    return lines
+
+
+def write(found):
+    """Writes the promises to the file, page by page."""
+    parts = []
+    for page in dict.fromkeys(it.page for it in found):
+        parts.append("\n\n".join([page, *("\n".join(lines_of(it)) for it in found if it.page == page)]))
+    with open(f"{TOP}/{FILE}", "w", encoding="utf-8") as file:
+        file.write("# What holds each promise of the pages: tools/promises.py says how to read it.\n\n")
+        file.write("\n\n".join(parts) + "\n")
 
 
 @cache
@@ -70,9 +170,11 @@ def lacking(crate, call, clauses):
 
 
 def missing(thing):
-    """What isn't there of a thing that a comment names; nothing if all is."""
+    """What isn't there of a thing that holds a promise; nothing if all is."""
     kind, _, named = thing.partition(" ")
     place, _, name = named.partition(" ")
+    if kind == "nothing:":
+        return None
     if kind in ("lemma", "spec"):
         file, _, name = name.partition(".")
         there = defined(f"{TOP}/crates/{place}/{'proofs' if kind == 'lemma' else 'specs'}/{file}.antt", name)
@@ -85,41 +187,66 @@ def missing(thing):
     return None if there else thing
 
 
-def things_in(text):
-    """The comments of a text: the row that each is of, and the things that it names."""
-    return [(row, things.split("; ")) for row, things in COMMENT.findall(" ".join(text.split()))]
-
-
 def part_of(page, heading):
-    """The text below a heading, without code."""
-    text = re.sub(r"(?ms)^```.*?^```\n", "", read(f"{TOP}/{page}"))
-    return re.search(rf"(?ms)^## {re.escape(heading)}\n(.*?)(?=^## |\Z)", text)[1]
+    """The text of a page below a heading; nothing if it has no such part."""
+    inner = r"\Z" if heading is None else r"^## |\Z"
+    found = re.search(rf"(?ms)^## {'' if heading is None else re.escape(heading) + '$'}(.*?)(?={inner})", read(f"{TOP}/{page}"))
+    return found and found[1]
 
 
-def unheld(text, kinds):
-    """The paragraphs, items and first cells of rows behind which there is no comment."""
-    for block in re.split(r"\n{2,}", text.strip()):
-        lines, held = block.split("\n"), things_in(block)
-        if lines[0].startswith("|"):
-            rows = [re.split(r"(?<!\\)\|", line)[1].strip() for line in lines if line.startswith("|")][2:]
-            yield from (row for row in rows if "row" in kinds and row not in {it for it, _ in held})
-        elif lines[0].startswith("- "):
-            items = re.split(r"(?m)^- ", block)[1:]
-            yield from (item for item in items if "item" in kinds and not things_in(item))
-        elif "paragraph" in kinds and not block.endswith(":") and not held:
-            yield block
+def unheld():
+    """The blocks of the parts for which the file has no promise, and parts that aren't there."""
+    told = {(it.page, it.words) for it in promises()}
+    for page, heading, kinds in PARTS:
+        part = part_of(page, heading) if os.path.exists(f"{TOP}/{page}") else None
+        if part is None:
+            yield f"{page} has no part '{heading or 'of its own'}', which tools/promises.py names"
+        for block in blocks(part or ""):
+            if block.kind in kinds and not block.text.endswith(":") and (page, named(block)) not in told:
+                yield f"{page}: {FILE} doesn't name what holds '{named(block)}'"
+
+
+@cache
+def blocks_of(page):
+    """The blocks of a page; none if there is no such page."""
+    return blocks(read(f"{TOP}/{page}")) if os.path.exists(f"{TOP}/{page}") else []
+
+
+def fitting(promise):
+    """The blocks of its page that a promise names."""
+    return [block for block in blocks_of(promise.page) if named(block) == promise.words]
 
 
 def wrong_promises(pages):
-    """Promises without a comment, and names in comments that aren't there."""
-    for page, heading, kinds in PARTS:
-        for promise in unheld(part_of(page, heading), kinds):
-            yield f"{page}: no comment names what holds '{' '.join(promise.split())[:60]}'"
+    """Promises that the file lacks, those that changed, and names in it that nothing has."""
+    yield from unheld()
     for page in pages:
-        text = read(f"{TOP}/{page}")
-        found = things_in(text)
-        if len(found) != text.count("held by:"):
-            yield f"{page}: a comment is not of the form <!-- held by: .. -->"
-        for it in (missing(thing) for _, things in found for thing in things):
-            if it:
-                yield f"{page}: a promise is held by '{it}', which isn't there"
+        if "held by:" in read(f"{TOP}/{page}"):
+            yield f"{page} has a comment 'held by:': what holds a promise stands in {FILE}"
+    for it in promises():
+        marks = [mark(block) for block in fitting(it)]
+        if it.mark not in marks:
+            what = "changed: read what holds it, then run tools/promises.py --read" if marks else "isn't there"
+            yield f"{it.page}: the promise '{it.words}' {what}"
+        if not it.things:
+            yield f"{it.page}: {FILE} names nothing that holds '{it.words}'"
+        for thing in filter(None, map(missing, it.things)):
+            yield f"{it.page}: '{it.words}' is held by '{thing}', which isn't there"
+
+
+def main():
+    option, *pages = sys.argv[1:] or [None]
+    if option not in (None, "--read") or bool(option) != bool(pages):
+        sys.exit(__doc__)
+    found = promises()
+    for at, it in enumerate(found):
+        marks = [mark(block) for block in fitting(it)]
+        if marks and it.mark not in marks:
+            print(f"{it.page}: {it.words}")
+            found[at] = it._replace(mark=marks[0]) if it.page in pages else it
+    if option:
+        write(found)
+
+
+if __name__ == "__main__":
+    main()

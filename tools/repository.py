@@ -105,3 +105,41 @@ def own_sources(name):
 def crate_of(path):
     """The crate of a file."""
     return os.path.relpath(path, f"{TOP}/crates").split(os.sep)[0]
+
+
+def libraries():
+    """The crates that others stand on, with what they name: no program and no example."""
+    crates = crates_in(f"{TOP}/crates.txt")
+    used = {low for named in crates.values() for low in named}
+    return {name: named for name, named in crates.items() if name in used}
+
+
+def crate_named(name):
+    """The crate of a map, by the name of its type or its own."""
+    crates, types = libraries(), {kind: crate_of(definitions()[kind][0]) for kind in MAPS if definitions()[kind]}
+    for fits in (types.get(name), f"iddqd_{name}", name):
+        if fits in crates:
+            return fits
+    known = [f"{kind} ({crate.removeprefix('iddqd_')})" for kind, crate in types.items()]
+    others = [crate for crate in crates if crate not in types.values()]
+    raise LookupError(f"there is no map '{name}'; there are {', '.join(known)}, and the crates {', '.join(others)}")
+
+
+def named_beside(crate):
+    """The crates that a caller of this one names too: those whose modules, definitions or lemmas `iddqd_maps` re-exports.
+
+    `iddqd_keyed` re-exports all that its callers name but indexes, hashers and queries.
+    """
+    if crate == "iddqd_keyed":
+        return {"iddqd", "iddqd_keys"}
+    own = f"{TOP}/crates/iddqd_maps"
+    named = re.findall(r"^pub use (\w+)::", read(f"{own}/src/lib.rt"), re.M)
+    for path in [f"{own}/specs/Lib.antt", *glob.glob(f"{own}/proofs/*.antt")]:
+        named += re.findall(r"^pub use Rattle\.(\w+)\.", read(path), re.M)
+    return set(named) & set(below([crate], libraries()))
+
+
+def caller_names(wanted, needed):
+    """What a caller's line lists: the crates that it asked for, and those below that it names."""
+    named = set() if "iddqd_maps" in wanted else {low for crate in wanted for low in named_beside(crate)}
+    return [crate for crate in needed if crate in {*wanted, *named}]

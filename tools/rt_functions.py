@@ -15,6 +15,7 @@ COMMENT = r"//[^\n]*|/\*.*?\*/"
 QUOTED = r"\"(?:\\.|[^\"\\])*\"|'(?:\\[^']+|[^'\\])'"
 HEAD = re.compile(r"(?:\bpub(?:\([^)]*\))?\s+)?(?:\bconst\s+)?\bfn\s+(\w+)")
 BLOCK = re.compile(r"^[ ]*(?:pub(?:\([^)]*\))?\s+)?(impl|trait)\b([^{;]*)\{", re.MULTILINE)
+BRACKET = re.compile(r"[(\[{)\]}]")
 CLAUSE = re.compile(r"(?:\b(?:requires|ensures)\*?(?:\s+[\w-]+)?|\bghost\s+\w+\s*:)\s*\Z")
 
 
@@ -26,10 +27,10 @@ def without(pattern, text):
 def closing(text, at):
     """Where the bracket closes that opens at this place, and the place behind it."""
     depth = 0
-    for place in range(at, len(text)):
-        depth += (text[place] in "([{") - (text[place] in ")]}")
+    for it in BRACKET.finditer(text, at):
+        depth += 1 if it[0] in "([{" else -1
         if depth == 0:
-            return place + 1
+            return it.end()
     return len(text)
 
 

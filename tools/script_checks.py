@@ -1,0 +1,62 @@
+"""What the checks of scripts share: calls of a script, what is expected of it, and what went wrong."""
+
+import os
+import subprocess
+
+from repository import read
+
+wrong = []
+
+# A module that Python loads before a script: it makes one rename fail, that to the place which the environment names.
+FAILING_RENAME = """
+import os
+
+rename, places = os.rename, [os.environ["FAILS_AT"]]
+
+
+def fail_once(before, after):
+    if after in places:
+        places.remove(after)
+        raise OSError("the step fails")
+    rename(before, after)
+
+
+os.rename = fail_once
+"""
+
+
+def call(words, folder, **how):
+    how = {"stdin": subprocess.DEVNULL, "timeout": 240, **how}
+    return subprocess.run(words, cwd=folder, capture_output=True, text=True, **how)
+
+
+def expect(truth, what):
+    if not truth:
+        wrong.append(what)
+
+
+def refused(words, folder, because, status=None, **how):
+    """Expects one line on standard error that has these words, nothing on standard output, and no status of success."""
+    ran = call(words, folder, **how)
+    one_line = ran.stderr.count("\n") == 1 and not ran.stdout and because in ran.stderr
+    fits = ran.returncode == status if status else ran.returncode != 0
+    expect(one_line and fits, f"{' '.join(words)}: status {ran.returncode}, {ran.stdout}{ran.stderr}")
+
+
+def files_in(folder):
+    return sorted(os.path.join(at, name) for at, _, names in os.walk(folder) for name in names)
+
+
+def all_in(folder):
+    """Each file in a folder with its text, and each folder there."""
+    return {**{at: None for at, _, _ in os.walk(folder)}, **{path: read(path) for path in files_in(folder)}}
+
+
+def write(path, text, mode="w"):
+    os.makedirs(os.path.dirname(path), exist_ok=True)
+    with open(path, mode, encoding="utf-8") as file:
+        file.write(text)
+
+
+def add(path, text):
+    write(path, text, "a")
