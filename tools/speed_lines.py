@@ -1,7 +1,8 @@
 """Draws ratios against numbers of items: a panel a table, a line a row."""
 
 import math
-from html import escape
+
+from svg import text
 
 WIDTH, HEIGHT, TOP = 500, 300, 46
 LEFT, RIGHT = 44, 180
@@ -9,11 +10,6 @@ LEFT, RIGHT = 44, 180
 LEASTS, MOST = [0.4, 0.08, 0.025], 5.0
 MARKS = [(0.05, "1/20"), (0.1, "1/10"), (0.25, "1/4"), (0.5, "1/2"), (1, "1"), (2, "2"), (4, "4")]
 COLOURS = ["#1f5fa0", "#c85a14", "#2c8a3d", "#8a3fa0", "#a01f3c", "#5f6f7a", "#b08a00", "#007f86"]
-
-
-def text(x, y, words, kind="", anchor="start", colour=""):
-    kind = (f' class="{kind}"' if kind else "") + (f' style="fill: {colour}"' if colour else "")
-    return f'<text x="{x:.1f}" y="{y:.1f}" text-anchor="{anchor}"{kind}>{escape(words)}</text>'
 
 
 def scale(rows):
@@ -61,7 +57,8 @@ def line(at, columns, ratios, up):
     """A row's line, with a dot at each number of items; every other one is dashed, so that colours need not be told apart."""
     colour, dash = COLOURS[at % len(COLOURS)], ' stroke-dasharray="6 3"' if at % 2 else ""
     points = [(x, up(ratio)) for x, ratio in zip(across(columns), ratios)]
-    yield f'<polyline points="{" ".join(f"{x:.1f},{y:.1f}" for x, y in points)}" fill="none" stroke="{colour}" stroke-width="2"{dash}/>'
+    places = " ".join(f"{x:.1f},{y:.1f}" for x, y in points)
+    yield f'<polyline points="{places}" fill="none" stroke="{colour}" stroke-width="2"{dash}/>'
     yield from (f'<circle cx="{x:.1f}" cy="{y:.1f}" r="3" fill="{colour}"/>' for x, y in points)
 
 
@@ -69,7 +66,9 @@ def panel(title, columns, rows):
     """The marks of a panel, from 0, 0 on: rows are names with ratios."""
     least, up = scale(rows)
     ends = spread([up(ratios[-1]) for _, ratios in rows], 15)
-    names = [text(WIDTH - RIGHT + 10, ends[at] + 4, f"{name} {ratios[-1]:.{1 if ratios[-1] > 0.095 else 2}f}", "small", colour=COLOURS[at % len(COLOURS)])
-             for at, (name, ratios) in enumerate(rows)]
+    last = [f"{name} {ratios[-1]:.{1 if ratios[-1] > 0.095 else 2}f}" for name, ratios in rows]
+    names = [text(WIDTH - RIGHT + 10, ends[at] + 4, words, "small", colour=COLOURS[at % len(COLOURS)])
+             for at, words in enumerate(last)]
     lines = [mark for at, (_, ratios) in enumerate(rows) for mark in line(at, columns, ratios, up)]
-    return [text(LEFT, 20, title, "title"), text(LEFT, 37, "our time ÷ theirs: above 1 we are slower", "small"), *grid(columns, least, up), *lines, *names]
+    heads = [text(LEFT, 20, title, "title"), text(LEFT, 37, "our time ÷ theirs: above 1 we are slower", "small")]
+    return [*heads, *grid(columns, least, up), *lines, *names]
