@@ -18,7 +18,8 @@ KEPT = ["format", "kit", "kit_names_itself", "commit", "release", "proved", "cra
 LONGEST_LIST = 64 << 20
 # Nothing else lies in an archive. No name in it begins with a dot, as `..` does.
 PATH = re.compile(r"(rlibs/(?P<rlib>\w+)\.rlib|rattle/(?P<crate>\w+))(/[^./\0][^/\0]*)+")
-DAMAGE = (lzma.LZMAError, tarfile.TarError, EOFError, UnicodeError, ValueError, KeyError, TypeError, AttributeError)
+DAMAGE = (lzma.LZMAError, tarfile.TarError, EOFError, UnicodeError, ValueError, KeyError, TypeError, AttributeError,
+          RecursionError, MemoryError)
 
 
 def add(archive, name, content):
@@ -75,7 +76,7 @@ def checked_list(content, file):
     if record["format"] != FORMAT:
         raise Refused(f"'{file}' is of format {record['format']}: take the tools/install of its release")
     check_paths(record, file)
-    return record
+    return {key: record[key] for key in KEPT}
 
 
 def read(file, to, check):
@@ -91,6 +92,9 @@ def read(file, to, check):
                 raise Refused(f"'{file}' is no archive that tools/install made")
             record = checked_list(content, file)
             check(record)
+            for name, crate in record["crates"].items():
+                if f"rlibs/{name}.rlib/format" not in record["files"] or not isinstance(crate["sum"], str):
+                    raise Refused(f"'{file}' lacks the statements of {name!r}")
             left = dict(record["files"])
             for path, content in found:
                 if not left.get(path):
@@ -100,6 +104,8 @@ def read(file, to, check):
                 os.makedirs(os.path.dirname(f"{to}/{path}"), exist_ok=True)
                 with open(f"{to}/{path}", "xb") as out:
                     out.write(content)
+            while archive.fileobj.read(1 << 20):  # to its end, where the checksum of the whole is
+                pass
     except DAMAGE as error:
         raise Refused(f"'{file}' is damaged, cut off, or no archive that tools/install made ({error})") from None
     if left:

@@ -36,10 +36,21 @@ if os.path.exists(f"{{kit}}/fails-{{name}}"):
     print("logic=not-proved")
     sys.exit(1)
 source = open(words[-1]).read()
+if words[-1] == "src/main.rt":
+    open(to, "w").write(source)
+    print("{verdict}")
+    sys.exit()
 os.makedirs(f"{{to}}/interface")
 for path in ("format", "interface/lib.rt"):
     open(f"{{to}}/{{path}}", "w").write(path + source * 50)
-print("logic=proved functions=1 sum=1 native=nat,char,string logic-built=trusted libraries-built=trusted statements=trusted")
+print("{verdict}")
+"""
+VERDICT = "logic=proved functions=1 sum=1 native=nat,char,string logic-built=trusted libraries-built=trusted statements=trusted"
+# The linker of that kit: the program prints the source of which it was made.
+LINK = """#!/bin/sh
+while [ "$1" != -o ]; do shift; done
+(echo "#!/bin/sh"; echo "cat <<END"; cat "$3"; echo END) > "$2"
+chmod +x "$2"
 """
 RT = """#!/bin/sh
 if [ "$1" = doc ]; then
@@ -104,8 +115,8 @@ class Place:
         for path in ("KIT-ID", "WHAT", "START-HERE.md", "bin/rtlib.py", "rlibs/std.rlib/format", "rattle/std/src/lib.rt",
                      "rattle/logic/antt-project.json", "logic_built/x"):
             write(f"{self.kit}/{path}", f"{path}\n")
-        for path, text in (("rt", RT), ("rattle", PROVER)):
-            write(f"{self.kit}/bin/{path}", text.format(kit=self.kit, python=sys.executable))
+        for path, text in (("rt", RT), ("rattle", PROVER), ("rattle-link", LINK)):
+            write(f"{self.kit}/bin/{path}", text.format(kit=self.kit, python=sys.executable, verdict=VERDICT))
             os.chmod(f"{self.kit}/bin/{path}", 0o755)
 
     def how(self, **more):
@@ -164,6 +175,10 @@ def check_places(it):
     it.refuses(it.kit, because="lies in the kit")
     it.refuses(f"{it.room}/nothing/new", because="there is no folder")
     it.refuses(it.folder, "IdHushMap", because="there is no map 'IdHushMap'")
+    it.refuses("/proc/new", because="no folder can be put in the place of")
+    write(f"{it.room}/no_kit/rt", "#!/bin/sh\necho it has no kit >&2\nexit 1\n")
+    os.chmod(f"{it.room}/no_kit/rt", 0o755)
+    it.refuses(it.folder, because="names no kit", env={**it.env, "PATH": f"{it.room}/no_kit:{it.env['PATH']}"})
     expect(not it.proofs(), "install: it proves before it refuses a folder")
 
 
@@ -175,7 +190,12 @@ def check_made(it):
     fits = it.proofs() == ["low", "iddqd_maps"] and "    mine: iddqd_maps\n" in made.stdout
     expect(fits, f"install: {made.stdout}{made.stderr}")
     it.does(it.folder, "low")
+    it.does(".", folder=it.folder)
     expect(not it.proofs(), "install: it proves again what is proved")
+    with open("/dev/full", "w", encoding="utf-8") as full:
+        ran = subprocess.run([it.install, it.folder], stdout=full, stderr=subprocess.PIPE, text=True, env=it.env)
+    fits = ran.returncode == 1 and "all was made, but standard output took no more" in ran.stderr
+    expect(fits, f"install: a full standard output, {ran.returncode}, {ran.stderr}")
     for path in ("KIT-ID", "rlibs/std.rlib/format", "rlibs/low.rlib/interface/lib.rt", "rattle/low/specs/Same.antt", "bin/rattle"):
         expect(os.path.isfile(f"{it.folder}/{path}"), f"install: there is no {path}")
     expect(not glob.glob(f"{it.room}/.*"), f"install: it left {glob.glob(f'{it.room}/.*')}")
@@ -185,6 +205,10 @@ def check_made(it):
     with open(f"{it.folder}/INSTALLED.json", "rb") as file:
         fcntl.flock(file, fcntl.LOCK_SH)
         it.refuses(it.folder, because="is in use")
+    lines = open(f"{it.top}/crates.txt", encoding="utf-8").read()
+    write(f"{it.top}/crates.txt", "low:\n")
+    it.refuses(it.folder, because="has iddqd_maps, which this checkout lacks")
+    write(f"{it.top}/crates.txt", lines)
 
 
 def check_store(it):
@@ -273,6 +297,52 @@ def check_interrupt(it):
     it.proofs()
 
 
+def check_arrivals(it):
+    """A file that comes to FOLDER during a proof stays there, and a run under nohup outlives its terminal."""
+    source, told = f"{it.top}/crates/low/src/lib.rt", it.told("slow", "1")
+    how = {"stdout": subprocess.PIPE, "stderr": subprocess.PIPE, "text": True, "env": it.env}
+    write(source, LOW + "// kept\n")
+    run = subprocess.Popen([it.install, f"{it.room}/kept"], **how)
+    next((line for line in run.stderr if "install: proves" in line), None)
+    write(f"{it.room}/kept/mine", "")
+    said = run.communicate()[1]
+    fits = run.returncode == 1 and "has other things in it" in said and os.listdir(f"{it.room}/kept") == ["mine"]
+    expect(fits, f"install: what came to FOLDER during the proof, status {run.returncode}, {said}")
+    write(source, LOW + "// under nohup\n")
+    run = subprocess.Popen([it.install, it.folder], preexec_fn=lambda: signal.signal(signal.SIGHUP, signal.SIG_IGN), **how)
+    next((line for line in run.stderr if "install: proves" in line), None)
+    run.send_signal(signal.SIGHUP)
+    said = run.communicate()[1]
+    expect(run.returncode == 0, f"install: under nohup, status {run.returncode}, {said}")
+    os.remove(told)
+    write(source, LOW)
+    it.does(it.folder)
+    it.proofs()
+
+
+def check_program(top, it):
+    """Two runs of `run` at once build the program once; an edit with an old date and a link to `run` do as any other."""
+    own = f"{it.top}/crates/keyed/src/main.rt"
+    shutil.copy(f"{top}/run", it.top)
+    add(f"{it.top}/crates.txt", "keyed: low\n")
+    write(own, "first\n")
+    os.symlink(f"{it.top}/run", f"{it.room}/run")
+    told = it.told("slow", "1")
+    runs = [subprocess.Popen([run], cwd=it.room, stdin=subprocess.DEVNULL, stdout=subprocess.PIPE, stderr=subprocess.PIPE,
+                             text=True, env=it.env) for run in (f"{it.top}/run", f"{it.room}/run")]
+    said = [run.communicate() for run in runs]
+    fits = [run.returncode for run in runs] == [0, 0] and [out for out, _ in said] == ["first\n", "first\n"]
+    expect(fits and it.proofs() == ["keyed"], f"run: two at once, {said}")
+    os.remove(told)
+    write(f"{it.room}/older", "second\n")
+    os.utime(f"{it.room}/older", (0, 0))
+    shutil.copy2(f"{it.room}/older", own)
+    ran = call([f"{it.top}/run"], it.room, **it.how())
+    expect(ran.returncode == 0 and ran.stdout == "second\n", f"run: an edit with an old date, {ran.stdout}{ran.stderr}")
+    ran = call([f"{it.top}/run"], it.room, **it.how())
+    expect(ran.stdout == "second\n" and not ran.stderr and it.proofs() == ["keyed"], f"run: built again, {ran.stderr}")
+
+
 def check_rt(it):
     """The rt of a toolchain calls the kit's, unless something changed, or the repository has such crates itself."""
     rt, caller = f"{it.folder}/bin/rt", f"{it.room}/caller"
@@ -286,9 +356,10 @@ def check_rt(it):
         os.rename(f"{path}.new", path)
         refused([rt, "check"], caller, because, 2)
         write(path, was)
-    os.rename(it.kit, f"{it.kit}.away")
-    refused([rt, "check"], caller, "isn't in", 2)
-    os.rename(f"{it.kit}.away", it.kit)
+    for gone, because in ((it.kit, "isn't in"), (f"{it.folder}/INSTALLED.json", "is gone or damaged")):
+        os.rename(gone, f"{gone}.away")
+        refused([rt, "check"], caller, because, 2)
+        os.rename(f"{gone}.away", gone)
     write(f"{caller}/crates.txt", "low:\niddqd_maps: low\nmine: iddqd_maps\n")
     ran = call([rt, "check"], caller)
     expect(ran.stdout == f"{it.kit}/bin/rt check\n" and "proved here" in ran.stderr, f"rt beside copies: {ran.stdout}{ran.stderr}")
@@ -363,6 +434,14 @@ def shortened(record, rest):
     return rest[:-1]
 
 
+def listed_alone(record, rest):
+    record["crates"]["other"] = record["crates"]["low"]
+
+
+def without_sum(record, rest):
+    del record["crates"]["low"]["sum"]
+
+
 # What is wrong with an archive, and words of the refusal.
 CHANGES = [
     (lambda record, rest: [*rest, *put(record, "../x", b"x")], "leads out of"),
@@ -377,6 +456,8 @@ CHANGES = [
     (other_kit, "was made over another kit"),
     (other_format, "is of format 0"),
     (shortened, "is cut off: it lacks"),
+    (listed_alone, "lacks the statements of 'other'"),
+    (without_sum, "is damaged"),
     (lambda record, rest: [(rest[0][0], b"x"), *rest[1:]], "is damaged"),
 ]
 
@@ -387,7 +468,7 @@ def check_refused_archives(it, file):
     it.refuses("--from", f"{it.room}/nothing", new, because="there is no file")
     it.refuses("--from", f"{it.top}/CHANGELOG.md", new, because="no archive that tools/install made")
     it.refuses("--from", file, f"{it.room}/other", because="has other things in it")
-    for at, part in enumerate((content[: len(content) // 2], content[:400] + b"damage" + content[406:], lzma.compress(b"x"))):
+    for at, part in enumerate((content[: len(content) // 2], content[:-10], content[:400] + b"damage" + content[406:], lzma.compress(b"x"))):
         with open(f"{it.room}/part", "wb") as out:
             out.write(part)
         it.refuses("--from", f"{it.room}/part", [new, it.folder][at % 2], because="is damaged, cut off, or no archive")
@@ -395,6 +476,9 @@ def check_refused_archives(it, file):
         it.refuses("--from", remade(it, file, change), new, because=because)
     it.refuses("--verify", remade(it, file, other_kit), because="was made over another kit")
     it.refuses("--from", file, it.folder, because="nothing was changed", preexec_fn=fill_disk)
+    it.does(f"{it.room}/lower", "low")
+    it.does("--pack", f"{it.room}/lower.tar.xz", f"{it.room}/lower")
+    it.refuses("--from", f"{it.room}/lower.tar.xz", it.folder, because="has iddqd_maps, which '")
 
 
 def check_verify(it, file):
@@ -454,9 +538,11 @@ def check_install(top, room):
     check_store(it)
     check_failing(it)
     check_interrupt(it)
+    check_arrivals(it)
     check_rt(it)
     check_pack(it, file)
     check_refused_archives(it, file)
     check_verify(it, file)
     check_from(it, file)
+    check_program(top, it)
     check_real(it)

@@ -32,8 +32,11 @@ def kit():
     """The folder of the kit. If `rt` is that of a toolchain which tools/install made, the kit is the one below it."""
     if not shutil.which("rt"):
         raise SystemExit("rt isn't installed: put the kit's folder bin into PATH")
-    page = subprocess.run(["rt", "doc"], capture_output=True, text=True, check=True).stdout.strip()
-    folder = os.path.dirname(page)
+    said = subprocess.run(["rt", "doc"], capture_output=True, text=True)
+    folder = os.path.dirname(said.stdout.strip())
+    if said.returncode or not os.path.isfile(f"{folder}/KIT-ID"):
+        raise SystemExit(f"{shutil.which('rt')} names no kit: put the kit's folder bin first in PATH."
+                         f" It says: {(said.stderr or said.stdout).strip()}")
     if os.path.isfile(f"{folder}/{RECORD}"):
         with open(f"{folder}/{RECORD}", encoding="utf-8") as file:
             return json.load(file)["kit_folder"]

@@ -25,6 +25,24 @@ os.rename = fail_once
 """
 
 
+# The same, but a signal comes once that rename is done.
+INTERRUPTED_RENAME = """
+import os, signal
+
+rename, places = os.rename, [os.environ["FAILS_AT"]]
+
+
+def interrupted_once(before, after):
+    rename(before, after)
+    if after in places:
+        places.remove(after)
+        signal.raise_signal(signal.SIGTERM)
+
+
+os.rename = interrupted_once
+"""
+
+
 def call(words, folder, **how):
     how = {"stdin": subprocess.DEVNULL, "timeout": 240, **how}
     return subprocess.run(words, cwd=folder, capture_output=True, text=True, **how)

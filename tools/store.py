@@ -96,6 +96,7 @@ class Store:
     def read_stamp(self, name):
         """The checksum of a crate's sources as they are now, of those below it and of the kit."""
         found = hashlib.sha256(repr((sorted(self.marks.items()), name, sorted(self.crates[name]))).encode())
+        found.update(b"staticlib" if self.kind(name) == "staticlib" else b"")
         own = f"{self.top}/crates/{name}"
         for path in sources_in(own):
             found.update(repr((path, sum_of(f"{own}/{path}"))).encode())
@@ -111,7 +112,8 @@ class Store:
 
     def is_changed(self, name):
         """Whether a source changed since its stamp was read."""
-        return Store(self.top, self.folder).stamp(name) != self.stamp(name)
+        now = Store(self.top, self.folder)
+        return not set(below([name], self.crates)) <= set(now.crates) or now.stamp(name) != self.stamp(name)
 
     def kind(self, name):
         """Whether a crate is a `library`, which others stand on, a `program` or a `staticlib`."""
@@ -230,7 +232,9 @@ class Proof:
         self.lock, self.said, self.words, self.folder = lock, tempfile.TemporaryFile("w+", errors="replace"), words, folder
         how = {"stdin": subprocess.DEVNULL, "stdout": self.said, "stderr": subprocess.STDOUT}
         # a group of its own, so that all of it can be stopped
-        self.process = subprocess.Popen(words, cwd=folder, start_new_session=True, **how)
+        # it holds the lock, too: if this process is killed, no other run proves the crate beside what it leaves
+        held = [lock.file.fileno()] if lock else []
+        self.process = subprocess.Popen(words, cwd=folder, start_new_session=True, pass_fds=held, **how)
         self.usage = None
 
     def ended(self):
@@ -365,7 +369,8 @@ def end_as_interrupted(*_):
 def stop_cleanly():
     """Has signals that end this process stop its proofs first."""
     for it in (signal.SIGTERM, signal.SIGHUP):
-        signal.signal(it, end_as_interrupted)
+        if signal.getsignal(it) != signal.SIG_IGN:  # as under nohup
+            signal.signal(it, end_as_interrupted)
 
 
 def build(name, file, caller):

@@ -5,6 +5,7 @@ import fcntl
 import json
 import os
 import shutil
+import signal
 import subprocess
 import tempfile
 
@@ -51,6 +52,15 @@ def paths_in(folder):
     return found
 
 
+def takes_folders(folder):
+    """Whether a new folder can be made in this one."""
+    try:
+        os.rmdir(tempfile.mkdtemp(prefix=".tried-", dir=folder))
+    except OSError:
+        return False
+    return True
+
+
 def check_place(folder):
     """Refuses a folder that isn't there for a toolchain alone."""
     real = os.path.realpath(folder)
@@ -61,6 +71,8 @@ def check_place(folder):
             raise Refused(f"{what} lies in '{folder}': name a new folder")
     if not os.path.isdir(os.path.dirname(real)):
         raise Refused(f"there is no folder '{os.path.dirname(folder.rstrip('/'))}' to put it in")
+    if os.path.ismount(real) or not takes_folders(os.path.dirname(real)):
+        raise Refused(f"no folder can be put in the place of '{folder}': name one in a folder that can be written to")
     if os.path.lexists(folder) and not os.path.isdir(folder):
         raise Refused(f"'{folder}' is no folder: name a new one")
     if not os.path.isdir(real) or not os.listdir(real):
@@ -142,7 +154,8 @@ def finish(record, to, folder, from_archive):
     with open(f"{to}/{RECORD}", "w", encoding="utf-8") as file:
         json.dump(record, file, indent=1)
     os.chmod(to, 0o755)
-    with in_use(folder):
+    with in_use(folder), undisturbed():
+        check_place(folder)  # again, since a proof takes an hour
         old = f"{to}.old"
         if os.path.isdir(folder):
             os.rename(folder, old)
@@ -153,6 +166,16 @@ def finish(record, to, folder, from_archive):
                 os.rename(old, folder)
             raise
         shutil.rmtree(old, ignore_errors=True)
+
+
+@contextlib.contextmanager
+def undisturbed():
+    """Has signals wait that would interrupt a few steps."""
+    before = signal.pthread_sigmask(signal.SIG_BLOCK, [signal.SIGINT, signal.SIGTERM, signal.SIGHUP])
+    try:
+        yield
+    finally:
+        signal.pthread_sigmask(signal.SIG_SETMASK, before)
 
 
 @contextlib.contextmanager
