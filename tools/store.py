@@ -231,8 +231,8 @@ class Proof:
     def __init__(self, words, folder, lock=None):
         self.lock, self.said, self.words, self.folder = lock, tempfile.TemporaryFile("w+", errors="replace"), words, folder
         how = {"stdin": subprocess.DEVNULL, "stdout": self.said, "stderr": subprocess.STDOUT}
-        # a group of its own, so that all of it can be stopped
-        # it holds the lock, too: if this process is killed, no other run proves the crate beside what it leaves
+        # It has a group of its own, so that all of it can be stopped. It holds the lock, too: if this process is killed,
+        # no other run proves the crate beside what it leaves.
         held = [lock.file.fileno()] if lock else []
         self.process = subprocess.Popen(words, cwd=folder, start_new_session=True, pass_fds=held, **how)
         self.usage = None
