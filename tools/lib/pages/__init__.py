@@ -1,0 +1,1 @@
+"""The parts of tools/pages, and what tools/copy-to does with pages."""
