@@ -1,4 +1,4 @@
-/* Makes each allocation of a test of tools/refused fail in turn. `rt try` links this file into the tests.
+/* Makes each allocation of a test of tests/refused fail in turn. `rt try` links this file into the tests.
 
    A test makes its call between two marks, which are allocations of MARK bytes. At the first mark it forks a child for
    each allocation that follows. In the N-th child the N-th allocation after the mark fails; with -DFROM a second row of

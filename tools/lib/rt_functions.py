@@ -1,4 +1,4 @@
-"""The functions of a Rattle file, found in its text: what `tools/wrong-bodies` has to know of an edit.
+"""The functions of a Rattle file, found in its text: what `tools/mutants try` has to know of an edit.
 
 It reads no more of the language than that: comments and strings are blanked first, a function's head goes on over the
 braces of its clauses, and a block of an `impl` or a `trait` says whose method a function is.
