@@ -10,12 +10,13 @@
   shows. The functions in the table below that command are those that it makes.
 - docs/CALLS.md and docs/MUTANTS.md are what the sources and the mutants make, and docs/speed.svg what the tables of
   docs/SPEED.md make.
-- No page has more words than tools/lib/checks/prose.py allows it, no sentence more than 35, and none has a word that it refuses.
+- No page has more words than tools/lib/checks/prose.py allows it, no sentence more than 35, and none has a word that it
+  refuses.
 - Each call that docs/CALLS.md lists has a caller in a crate above its own, which the gate proves.
 - docs/ELSEWHERE.md names the crate of each module that `iddqd_maps` and `iddqd_keyed` re-export.
 - No link in README.md, CHANGELOG.md or docs/ leads to a file that isn't there.
-- docs/promises.txt names what holds each promise of the parts that tools/lib/pages/promises.py lists; each promise stands in its page
-  as it was when what holds it was read, and all that the file names is there.
+- docs/promises.txt names what holds each promise of the parts that tools/lib/pages/promises.py lists; each promise stands in
+  its page as it was when what holds it was read, and all that the file names is there.
 """
 
 import glob
@@ -23,7 +24,7 @@ import os
 import re
 import shlex
 
-from lib import edits, rt_functions
+from lib import edits
 from lib.checks.prose import GENERATED, wrong_prose
 from lib.mutants import page as mutants
 from lib.new_map.mix import read_mix

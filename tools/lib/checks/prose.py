@@ -67,7 +67,8 @@ def wrong_prose(pages):
         if page not in GENERATED:
             bound, words = BOUNDS.get(page, 0), count(page)
             if bound is not None and words > bound:
-                yield f"{page} has {words} words, and may have {bound}" if bound else f"{page} has no bound in tools/lib/checks/prose.py"
+                told = f"has {words} words, and may have {bound}" if bound else "has no bound in tools/lib/checks/prose.py"
+                yield f"{page} {told}"
             for sentence in sentences(text):
                 long = len([word for word in sentence.split() if re.search(r"[\w¤]", word)])
                 if long > MOST:
