@@ -9,6 +9,7 @@ mod GapLeftLemmas
 pub mod GapLemmas
 mod GapNumberLemmas
 pub mod GatherLemmas
+pub mod GuideLemmas
 pub mod IndexListLemmas
 mod InnerLemmas
 pub mod InsertLemmas
@@ -33,5 +34,6 @@ pub mod TableLemmas
 pub mod TreeLemmas
 mod SpotCursorLemmas
 mod SpotLemmas
+pub mod SteppingLemmas
 pub mod WeaveLemmas
 mod WeaveRemovalLemmas
