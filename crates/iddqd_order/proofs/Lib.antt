@@ -32,6 +32,7 @@ mod RoomLemmas
 pub mod SearchLemmas
 pub mod TableLemmas
 pub mod TreeLemmas
+pub mod SameTreeLemmas
 mod SpotCursorLemmas
 mod SpotLemmas
 pub mod SteppingLemmas

@@ -1,6 +1,6 @@
 use Rattle.std.proofs.Common.{◌+◌, ◌<◌, arith, slice_index}
 use Rattle.std.proofs.lemmas.List.{get_or_default}
-use Rattle.iddqd_order_reference.proofs.Names.{length, CanSearch, Err, None, Ok, ◌∙◌, ◌≡◌, ap, refl, subst, sym}
+use Rattle.iddqd_order_reference.proofs.Names.{length, CanSearch, Err, None, Ok, ◌∙◌, ◌≡◌, ap, subst, sym}
 use Rattle.iddqd_order.specs.Search.{IsPlace, Searches}
 use Rattle.iddqd_order.proofs.AskLemmas.{CanAsk-each, CanAsk-again}
 use Rattle.iddqd_order.proofs.IndexListLemmas.{Contains-at}
