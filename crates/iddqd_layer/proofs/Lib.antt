@@ -1,0 +1,2 @@
+mod LoopLemmas
+pub mod LayerLemmas
