@@ -1,7 +1,11 @@
 -- What keeps the tables of a layer paired with its store.
 use Rattle.std.proofs.Common.{◌≡◌, ◌≢◌, ◌∙◌, ℕ, zero, suc, ◌+◌, ◌<◌, ◌≤◌, List, [], ◌∷◌, map, min, length, get_or, slice_index, refl, sym, ap, subst, arith, inl, inr, Some, None, Contains, All, Result, Ok, Err}
 use Rattle.std.specs.Prelude.{OnOk, OnErr}
-use Rattle.std.proofs.lemmas.Bool.{cases_lt}
+use Rattle.std.proofs.Common.{IsSome, set, get_or-set_other, get_or-set_same, length-set}
+use Rattle.std.proofs.lemmas.Bool.{cases_eq, cases_lt}
+use Rattle.std.specs.FinMap.{FinMap}
+use Rattle.std.specs.Ordering.{nat_cmp}
+use Rattle.iddqd_hash.proofs.MemberLemmas.{get-insert_at, get-insert_other, get-remove_other}
 use Rattle.std.specs.FinMap as finite
 use Rattle.iddqd.specs.Compaction.{compacted, rank}
 use Rattle.iddqd.specs.Store.{Store, empty, slot_limit, cleared, IsValid, next_index, inserted, removed, get}
@@ -14,7 +18,7 @@ use Rattle.iddqd_by_hash.specs.Hashed as by_hash
 use Rattle.iddqd_by_hash.proofs.HoldsLemmas as hash_lemmas
 use Rattle.iddqd_by_order.specs.Ordered as by_order
 use Rattle.iddqd_by_order.proofs.OrderedHoldsLemmas as order_lemmas
-use Rattle.iddqd_layer.specs.Layer.{Layer, IsPaired, store_of, hashed_of, ordered_of, Each, EachBy, ForgetsHashed, ForgetsOrdered, RenamesHashed, RenamesOrdered, IsFiled, IsPlaced, IsTakenOut, IsUnfiled, LeadsToGap, SameFiled, descent_of, gap_at, least_of}
+use Rattle.iddqd_layer.specs.Layer.{Layer, IsPaired, store_of, hashed_of, ordered_of, Each, EachBy, ForgetsHashed, ForgetsOrdered, RenamesHashed, RenamesOrdered, IsFiled, IsPlaced, IsRefiled, IsTakenOut, IsUnfiled, ShrinksOrdered, LeadsToGap, SameFiled, descent_of, gap_at, least_of}
 use Rattle.iddqd_layer.specs.declared.way.Way.{Way}
 
 -- each table has exactly the live indexes
@@ -23,6 +27,22 @@ AllHashed s tables = (k : ℕ) (t : Table ℕ) → k < length tables → by_hash
 
 abbrev pub AllOrdered : Store (Unit {0}) → List Order → Type 0
 AllOrdered s tables = (k : ℕ) (t : Order) → k < length tables → by_order.Holds s (order_of (get_or tables k t))
+
+-- an index that gets another hash stays the only one of its kind
+refiled :
+    (s : Store (Unit {0})) (m : FinMap nat_cmp ℕ) (ix hash : ℕ)
+    → by_hash.Holds s m
+    → IsSome (finite.get m ix)
+    → by_hash.Holds s (finite.insert (finite.remove m ix) ix hash)
+refiled s m ix hash holds here j =
+    elim (cases_eq j ix) [
+      | inl e ↦
+          (let now : finite.get (finite.insert (finite.remove m ix) ix hash) j ≡ Some hash = rw e (get-insert_at (finite.remove m ix) ix hash) in
+          (λ _. (holds j).0 (rw e here), λ _. rw now refl))
+      | inr ne ↦
+          (let now : finite.get (finite.insert (finite.remove m ix) ix hash) j ≡ finite.get m j = get-insert_other (finite.remove m ix) ix hash j ne ∙ get-remove_other m ix j ne in
+          rw now (holds j))
+    ]
 
 module _ (s : Store (Unit {0})) (old new : List (Table ℕ)) where
   pub hashed-same : AllHashed s old → Each SameFiled old new → AllHashed s new
@@ -63,6 +83,26 @@ module _ (s : Store (Unit {0})) (old new : List (Table ℕ)) where
   hashed-compacted holds e k t lt =
       let long = e.long in
       hash_lemmas.Holds-compacted s (filed (get_or old k t)) (holds k t (omega arith)) (filed (get_or new k t)) (e.at k t t (omega arith))
+
+  -- one table of all, in which an index got another hash
+  pub hashed-refiled :
+      (ix hash key : ℕ) (v : Table ℕ)
+      → AllHashed s old
+      → new ≡ set old key v
+      → IsSome (finite.get (filed (get_or old key v)) ix)
+      → IsRefiled ix hash (get_or old key v) v
+      → AllHashed s new
+  hashed-refiled ix hash key v holds is here re k t lt =
+      let long = ap length is ∙ length-set old key v in
+      elim (cases_eq k key) [
+        | inl e ↦
+            (let at : get_or new k t ≡ v = ap (λ z. get_or new z t) e ∙ ap (λ z. get_or z key t) is ∙ get_or-set_same old key v t (omega arith) in
+            let was = holds key v (omega arith) in
+            subst (λ z. by_hash.Holds s (filed z)) (sym at) (subst (by_hash.Holds s) (sym re) (refiled s (filed (get_or old key v)) ix hash was here)))
+        | inr ne ↦
+            (let at : get_or new k t ≡ get_or old k t = ap (λ z. get_or z k t) is ∙ get_or-set_other old key k v t ne in
+            subst (λ z. by_hash.Holds s (filed z)) (sym at) (holds k t (omega arith)))
+      ]
 
   pub unfiled-next : IsValid s → AllHashed s old → (k : ℕ) (t : Table ℕ) → k < length old
       → finite.get (filed (get_or old k t)) (next_index s) ≡ None
@@ -222,3 +262,7 @@ on_err (Err e) f x = f x
 pub on_any_err : {A E X : Type 0} (r : Result A E) → X → OnErr r X
 on_any_err (Ok v) x = tt
 on_any_err (Err e) x = x
+
+-- what gave memory back kept its tree
+pub shrunk-same : (least : ℕ) (old new : List Order) → Each (ShrinksOrdered least) old new → Each HasSameTree old new
+shrunk-same least old new e = record { long = e.long; at = λ k a b lt. (e.at k a b lt).tree }

@@ -1,5 +1,5 @@
 -- What a contract sees of a layer: a store of indexes without items, and for each key a table of them.
-use Rattle.std.specs.Prelude.{◌≡◌, ◌≢◌, ◌↔◌, ◌+◌, ◌<◌, ◌≤◌, ℕ, List, [], length, insert, map, min, slice_index, slice_index_or}
+use Rattle.std.specs.Prelude.{◌≡◌, ◌≢◌, ◌↔◌, ◌+◌, ◌<◌, ◌≤◌, ℕ, List, [], length, insert, map, max, min, slice_index, slice_index_or}
 use Rattle.std.specs.List.{fold}
 use Rattle.std.specs.FinMap as finite
 use Rattle.iddqd.specs.Compaction.{rank}
@@ -9,8 +9,10 @@ use Rattle.iddqd.specs.Store.{Store, IsValid}
 use Rattle.iddqd_hash.specs.HashTable.{Table}
 use Rattle.iddqd_hash.specs.HashTable as hash_table
 use Rattle.iddqd_hash.specs.MapHashTable.{filed, Renames}
+use Rattle.iddqd_hash.specs.Sizes.{most_cells}
 use Rattle.iddqd_order.specs.MapBTreeTable.{Order, order_of, without, HasSameTree}
 use Rattle.iddqd_order.specs.MapBTreeTable as order_table
+use Rattle.iddqd_order.specs.Sizes as order_sizes
 use Rattle.iddqd_order.specs.Stepping.{HasGap, gap_behind, node_by}
 use Rattle.iddqd_order.specs.declared.btree_table.stepping.Descent.{Descent}
 use Rattle.iddqd_by_hash.specs.Hashed as by_hash
@@ -27,6 +29,10 @@ pub record Layer : Type 0 where
 -- which indexes are live, and which come next
 abbrev pub store_of : Layer → Store (Unit {0})
 store_of l = l.slots.store
+
+-- for how many slots there is memory
+abbrev pub slot_capacity : Layer → ℕ
+slot_capacity l = l.slots.capacity
 
 -- the tables of the hashed keys, and those of the ordered keys
 abbrev pub hashed_of : Layer → List (Table ℕ)
@@ -75,6 +81,10 @@ pub record IsPlaced (ix : ℕ) (way : Way) (old new : Order) : Type 0 where
   pub within : gap_at old way ≤ length (order_of old)
   pub placed : order_of new ≡ insert (order_of old) (gap_at old way) ix
 
+-- the index is under this hash in place of the one that it was under, and nothing else changed
+abbrev pub IsRefiled : ℕ → ℕ → Table ℕ → Table ℕ → Type 0
+IsRefiled ix hash old new = filed new ≡ finite.insert (finite.remove (filed old) ix) ix hash
+
 -- the index has left the table, which is otherwise as it was
 abbrev pub IsUnfiled : ℕ → Table ℕ → Table ℕ → Type 0
 IsUnfiled ix old new = filed new ≡ finite.remove (filed old) ix
@@ -82,7 +92,7 @@ IsUnfiled ix old new = filed new ≡ finite.remove (filed old) ix
 abbrev pub IsTakenOut : ℕ → Order → Order → Type 0
 IsTakenOut ix old new = order_of new ≡ without (order_of old) ix
 
--- the table has the same indexes, in the same nodes: a way leads where it led
+-- the table has the same indexes under the same hashes
 abbrev pub SameFiled : Table ℕ → Table ℕ → Type 0
 SameFiled old new = filed new ≡ filed old
 
@@ -111,6 +121,14 @@ HasHashRoom additional old new = additional ≤ hash_table.room new
 abbrev pub HasOrderRoom : ℕ → Order → Order → Type 0
 HasOrderRoom additional old new = additional ≤ order_table.room new
 
+-- the table has no more cells than its indexes or `least` of them need
+abbrev pub HasFewCells : ℕ → Table ℕ → Table ℕ → Type 0
+HasFewCells least old new = hash_table.memory new ≤ most_cells (max least (finite.len (filed old)))
+
+-- the table keeps its tree, and no more capacity than its indexes or `least` of them need
+abbrev pub ShrinksOrdered : ℕ → Order → Order → Type 0
+ShrinksOrdered least old new = order_sizes.Shrinks least old new
+
 -- the least of what f gives for the members of a list, or `start` if that is less
 abbrev pub least_of : {A : Type 0} → (A → ℕ) → ℕ → List A → ℕ
 least_of f start xs = fold (λ least x. min least (f x)) start xs
@@ -128,7 +146,7 @@ FitsItsMemory l = (k : ℕ) (t : Order) → k < length l.ordered →
 abbrev pub most_keys : ℕ
 most_keys = 16
 
--- two layers have the same indexes in each table, whatever memory they have
+-- two layers have the same indexes in each table, and each way leads where it led, whatever memory they have
 pub record HasSameContents (old new : Layer) : Type 0 where
   pub store : store_of new ≡ store_of old
   pub hashed : Each SameFiled (hashed_of old) (hashed_of new)

@@ -4,7 +4,7 @@ ghost use Rattle.std.specs.FinMap as finite;
 ghost use Rattle.iddqd.specs.Compaction.{CanRemap, remapped};
 ghost use Rattle.iddqd_hash.specs.HashTable.{Table, room};
 ghost use Rattle.iddqd_hash.specs.MapHashTable.{filed, HaveOwnNames};
-ghost use Rattle.iddqd_layer.specs.Layer.{Each, EachBy, ForgetsHashed, HasHashRoom, IsFiled, IsUnfiled, RenamesHashed, SameFiled, least_of};
+ghost use Rattle.iddqd_layer.specs.Layer.{Each, EachBy, ForgetsHashed, HasFewCells, HasHashRoom, IsFiled, IsRefiled, IsUnfiled, RenamesHashed, SameFiled, least_of};
 
 use iddqd::index_remap::IndexRemap;
 use iddqd::item_index::ItemIndex;
@@ -109,4 +109,24 @@ pub(crate) fn rename_hashed(tables: &mut Vec<MapHashTable>, remap: &IndexRemap)
     for i in 0..tables.len() {
         tables[i].remap_indexes(remap);
     }
+}
+
+// Files an index of a table under another hash.
+pub(crate) fn rehash_one(table: &mut MapHashTable, ix: ItemIndex, from: u64, to: u64)
+    requires { IsSome (finite.get (filed table.old) ix) }
+    ensures { IsRefiled ix to table.old table.new }
+{
+    remove_index(table, MapHash::new(from), ix);
+    table.insert_prehashed_unchecked(MapHash::new(to), ix);
+}
+
+// Gives back memory of each table that is needed neither for its indexes nor for `least` of them.
+pub(crate) fn shrink_hashed(tables: &mut Vec<MapHashTable>, least: usize) -> Result<(), AllocError>
+    ensures same { Each SameFiled tables.old.items tables.new.items }
+    ensures shrunk { OnOk result (Each (HasFewCells least) tables.old.items tables.new.items) }
+{
+    for i in 0..tables.len() {
+        tables[i].shrink_to(least)?;
+    }
+    Ok(())
 }

@@ -7,27 +7,29 @@
 //! A key that changed in order has no call that moves its index: the way to the new place is found while the index
 //! stands at the old one, and is stale once it has left. So `remove`, search, and `insert`, which gives the same index,
 //! and takes no memory within the capacity.
-ghost use Rattle.std.specs.Prelude.{◌≡◌, ◌≢◌, ◌↔◌, ◌+◌, ◌<◌, ◌≤◌, ℕ, length, min, slice_get, IfOk, IsOk, OnOk, OnErr, Err, IsTrue, true, false, option_copied};
+ghost use Rattle.std.specs.Prelude.{◌≡◌, ◌≢◌, ◌↔◌, ◌+◌, ◌<◌, ◌≤◌, ℕ, length, max, min, slice_get, slice_index_or, IfOk, IsOk, OnOk, OnErr, Err, IsTrue, true, false, option_copied};
 ghost use Rattle.iddqd.specs.Compaction.{IsRemapOf, compacted, rank};
 ghost use Rattle.iddqd.specs.ItemSet as slots;
+ghost use Rattle.iddqd.specs.LiveItems.{live_pairs, IsWalkOf};
 ghost use Rattle.iddqd.specs.Sizes.{insertable};
 ghost use Rattle.iddqd.specs.Store.{IsFull, IsValid, cleared, empty, inserted, live_count, next_index, removed, sentinel, slot_count};
+ghost use Rattle.iddqd_hash.specs.HashTable.{Table};
 ghost use Rattle.iddqd_keys.specs.Scan.{IsLive};
-ghost use Rattle.iddqd_layer.specs.Layer.{Each, EachBy, FitsItsMemory, ForgetsHashed, ForgetsOrdered, HasSameContents, IsFiled, IsPaired, IsPlaced, IsTakenOut, IsUnfiled, LeadsToGap, RenamesHashed, RenamesOrdered, hashed_of, most_keys, ordered_of, room, store_of};
+ghost use Rattle.iddqd_layer.specs.Layer.{Each, EachBy, FitsItsMemory, ForgetsHashed, ForgetsOrdered, HasFewCells, HasSameContents, IsFiled, IsPaired, IsPlaced, IsRefiled, IsTakenOut, IsUnfiled, LeadsToGap, RenamesHashed, RenamesOrdered, ShrinksOrdered, hashed_of, most_keys, ordered_of, room, slot_capacity, store_of};
 
 use crate::hashed_keys::{
-    clear_hashed, insert_hashed, least_hashed_room, new_hashed, remove_hashed, rename_hashed,
-    reserve_hashed,
+    clear_hashed, insert_hashed, least_hashed_room, new_hashed, rehash_one, remove_hashed,
+    rename_hashed, reserve_hashed, shrink_hashed,
 };
 use crate::ordered_keys::{
     clear_ordered, insert_ordered, lead_to_gaps, least_ordered_room, new_ordered, remove_ordered,
-    rename_ordered, reserve_ordered,
+    rename_ordered, reserve_ordered, shrink_ordered,
 };
 use crate::refusal::Refusal;
 use crate::way::Way;
 use iddqd::index_remap::IndexRemap;
 use iddqd::item_index::ItemIndex;
-use iddqd::item_set::ItemSet;
+use iddqd::item_set::{ItemSet, Iter};
 use iddqd_hash::hash_table::MapHashTable;
 use iddqd_order::btree_table::MapBTreeTable;
 use std::alloc::{AllocError, Global};
@@ -217,6 +219,56 @@ impl Layer {
         remove_hashed(&mut self.hashed, hashes, ix);
         remove_ordered(&mut self.ordered, ways, ix);
         true
+    }
+
+    /// Files a live index under another hash in the table of one hashed key, for a record whose key changed. False, and
+    /// nothing changes, if the index isn't live or there is no such key. It takes no memory.
+    ///
+    /// `from` is the hash that it was filed under; where that is wrong, the table is walked.
+    ///
+    /// Cost: constant on average; where `from` is wrong, a step for each index.
+    pub fn rehash(&mut self, ix: ItemIndex, key: usize, from: u64, to: u64) -> bool
+        ensures done { IsTrue result ↔ (IsLive (store_of self.old) ix × (key < length (hashed_of self.old))) }
+        ensures store { store_of self.new ≡ store_of self.old }
+        ensures filed { result ≡ true → (t : Table ℕ) → IsRefiled ix to
+            (slice_index_or (hashed_of self.old) key t) (slice_index_or (hashed_of self.new) key t) }
+        ensures others { (k : ℕ) (t : Table ℕ) → k ≢ key →
+            slice_index_or (hashed_of self.new) k t ≡ slice_index_or (hashed_of self.old) k t }
+        ensures ordered { ordered_of self.new ≡ ordered_of self.old }
+        ensures kept { result ≡ false → self.new ≡ self.old }
+    {
+        if self.items.get(ix).is_none() || key >= self.hashed.len() {
+            return false;
+        }
+        rehash_one(&mut self.hashed[key], ix, from, to);
+        true
+    }
+
+    /// The live indexes, by number.
+    ///
+    /// Cost: a step for each slot, over the whole walk.
+    pub fn indexes(&self) -> Iter<'_, ()>
+        ensures pairs { result ≡ live_pairs (store_of self.now) }
+        ensures walk { IsWalkOf (store_of self.now) result }
+    {
+        self.items.iter()
+    }
+
+    /// Gives back memory that is needed neither for the slots and indexes that there are nor for `least` of them.
+    ///
+    /// If a smaller memory can't be allocated, the contents stay.
+    ///
+    /// Cost: a step for each key; where memory is given back, a step for each slot and each index.
+    pub fn shrink_to(&mut self, least: usize) -> Result<(), AllocError>
+        ensures same { HasSameContents self.old self.new }
+        ensures slots { OnOk result (slot_capacity self.new ≡ min (slot_capacity self.old)
+            (max least (slot_count (store_of self.old)))) }
+        ensures hashed { OnOk result (Each (HasFewCells least) (hashed_of self.old) (hashed_of self.new)) }
+        ensures ordered { Each (ShrinksOrdered least) (ordered_of self.old) (ordered_of self.new) }
+    {
+        shrink_ordered(&mut self.ordered, least);
+        self.items.shrink_capacity_to(least)?;
+        shrink_hashed(&mut self.hashed, least)
     }
 
     /// Forgets all indexes and all slots, so that the next index is 0. It takes no memory, and keeps what there is.

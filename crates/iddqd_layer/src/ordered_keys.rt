@@ -4,7 +4,7 @@ ghost use Rattle.std.specs.List.{Contains};
 ghost use Rattle.iddqd.specs.Compaction.{CanRemap, remapped};
 ghost use Rattle.iddqd.specs.Store.{sentinel};
 ghost use Rattle.iddqd_order.specs.MapBTreeTable.{Order, HasSameTree, order_of, room};
-ghost use Rattle.iddqd_layer.specs.Layer.{Each, EachBy, ForgetsOrdered, HasOrderRoom, IsPlaced, IsTakenOut, LeadsToGap, RenamesOrdered, SameCapacity, least_of};
+ghost use Rattle.iddqd_layer.specs.Layer.{Each, EachBy, ForgetsOrdered, HasOrderRoom, IsPlaced, IsTakenOut, LeadsToGap, RenamesOrdered, SameCapacity, ShrinksOrdered, least_of};
 
 use crate::way::Way;
 use iddqd::index_remap::IndexRemap;
@@ -139,5 +139,14 @@ pub(crate) fn rename_ordered(tables: &mut Vec<MapBTreeTable>, remap: &IndexRemap
 {
     for i in 0..tables.len() {
         tables[i].remap_indexes(remap);
+    }
+}
+
+// Gives back memory of each table that is needed neither for its indexes nor for `least` of them.
+pub(crate) fn shrink_ordered(tables: &mut Vec<MapBTreeTable>, least: usize)
+    ensures { Each (ShrinksOrdered least) tables.old.items tables.new.items }
+{
+    for i in 0..tables.len() {
+        tables[i].shrink_to(least);
     }
 }
