@@ -7,6 +7,10 @@ use Rattle.std.specs.FinMap.{FinMap}
 use Rattle.std.specs.Ordering.{nat_cmp}
 use Rattle.iddqd_hash.proofs.MemberLemmas.{get-insert_at, get-insert_other, get-remove_other}
 use Rattle.std.specs.FinMap as finite
+use Rattle.std.proofs.Common.{Option}
+use Rattle.std.specs.List.{AllZip}
+use Rattle.std.proofs.lemmas.List.Elements.{AllZip-get_or, length_all_zip, same_from_all_zip}
+use Rattle.iddqd.specs.Clones.{IsItemClone, IsStoreClone}
 use Rattle.iddqd.specs.Compaction.{compacted, rank}
 use Rattle.iddqd.specs.Store.{Store, empty, slot_limit, cleared, IsValid, next_index, inserted, removed, get}
 use Rattle.iddqd_hash.specs.HashTable.{Table}
@@ -18,7 +22,7 @@ use Rattle.iddqd_by_hash.specs.Hashed as by_hash
 use Rattle.iddqd_by_hash.proofs.HoldsLemmas as hash_lemmas
 use Rattle.iddqd_by_order.specs.Ordered as by_order
 use Rattle.iddqd_by_order.proofs.OrderedHoldsLemmas as order_lemmas
-use Rattle.iddqd_layer.specs.Layer.{Layer, IsPaired, store_of, hashed_of, ordered_of, Each, EachBy, ForgetsHashed, ForgetsOrdered, RenamesHashed, RenamesOrdered, IsFiled, IsPlaced, IsRefiled, IsTakenOut, IsUnfiled, ShrinksOrdered, LeadsToGap, SameFiled, descent_of, gap_at, least_of}
+use Rattle.iddqd_layer.specs.Layer.{Layer, IsPaired, store_of, hashed_of, ordered_of, Each, EachBy, ForgetsHashed, ForgetsOrdered, RenamesHashed, RenamesOrdered, IsFiled, IsPlaced, IsRefiled, IsTakenOut, IsUnfiled, ShrinksOrdered, LeadsToGap, SameFiled, SameOrder, descent_of, gap_at, least_of}
 use Rattle.iddqd_layer.specs.declared.way.Way.{Way}
 
 -- each table has exactly the live indexes
@@ -266,3 +270,31 @@ on_any_err (Err e) x = x
 -- what gave memory back kept its tree
 pub shrunk-same : (least : ℕ) (old new : List Order) → Each (ShrinksOrdered least) old new → Each HasSameTree old new
 shrunk-same least old new e = record { long = e.long; at = λ k a b lt. (e.at k a b lt).tree }
+
+-- copies
+slot-same : (C : Unit {0} → Unit {0} → Type 0) (x y : Option (Unit {0})) → IsItemClone C x y → y ≡ x
+slot-same C None y r = r
+slot-same C (Some item) y r = r.1
+
+pub store-same : (C : Unit {0} → Unit {0} → Type 0) (s copy : Store (Unit {0})) → IsStoreClone C s copy → copy ≡ s
+store-same C s copy r =
+    let items = same_from_all_zip (IsItemClone C) s.items copy.items r.items (slot-same C) in
+    λ i. record { items = items i; free = r.free i; limit = r.limit i }
+
+pub hashed-copied :
+    (s : Store (Unit {0})) (old new : List (Table ℕ))
+    → AllHashed s old
+    → AllZip SameFiled old new
+    → AllHashed s new
+hashed-copied s old new holds zip k t lt =
+    let long = length_all_zip SameFiled old new zip in
+    subst (by_hash.Holds s) (sym (AllZip-get_or SameFiled old new k t t zip (omega arith))) (holds k t (omega arith))
+
+pub ordered-copied :
+    (s : Store (Unit {0})) (old new : List Order)
+    → AllOrdered s old
+    → AllZip SameOrder old new
+    → AllOrdered s new
+ordered-copied s old new holds zip k t lt =
+    let long = length_all_zip SameOrder old new zip in
+    subst (by_order.Holds s) (sym (AllZip-get_or SameOrder old new k t t zip (omega arith))) (holds k t (omega arith))

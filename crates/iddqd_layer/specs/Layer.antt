@@ -1,6 +1,6 @@
 -- What a contract sees of a layer: a store of indexes without items, and for each key a table of them.
 use Rattle.std.specs.Prelude.{◌≡◌, ◌≢◌, ◌↔◌, ◌+◌, ◌<◌, ◌≤◌, ℕ, List, [], length, insert, map, max, min, slice_index, slice_index_or}
-use Rattle.std.specs.List.{fold}
+use Rattle.std.specs.List.{AllZip, fold}
 use Rattle.std.specs.FinMap as finite
 use Rattle.iddqd.specs.Compaction.{rank}
 use Rattle.iddqd.specs.ItemSet.{SizedStore}
@@ -145,6 +145,16 @@ FitsItsMemory l = (k : ℕ) (t : Order) → k < length l.ordered →
 -- the most keys of one kind
 abbrev pub most_keys : ℕ
 most_keys = 16
+
+-- the table has the same indexes in the same order
+abbrev pub SameOrder : Order → Order → Type 0
+SameOrder old new = order_of new ≡ order_of old
+
+-- a copy has the same live indexes and slots, and the same indexes in each table
+pub record IsCopy (l copy : Layer) : Type 0 where
+  pub store : store_of copy ≡ store_of l
+  pub hashed : AllZip SameFiled (hashed_of l) (hashed_of copy)
+  pub ordered : AllZip SameOrder (ordered_of l) (ordered_of copy)
 
 -- two layers have the same indexes in each table, and each way leads where it led, whatever memory they have
 pub record HasSameContents (old new : Layer) : Type 0 where

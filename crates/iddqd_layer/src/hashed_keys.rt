@@ -1,6 +1,7 @@
 //! What is done to each hash table of a layer, one after the other.
 ghost use Rattle.std.specs.Prelude.{◌≡◌, ◌≤◌, ◌<◌, ℕ, All, length, slice_index_or, IfOk, IsSome, None, OnOk, OnErr};
 ghost use Rattle.std.specs.FinMap as finite;
+ghost use Rattle.std.specs.List.{AllZip};
 ghost use Rattle.iddqd.specs.Compaction.{CanRemap, remapped};
 ghost use Rattle.iddqd_hash.specs.HashTable.{Table, room};
 ghost use Rattle.iddqd_hash.specs.MapHashTable.{filed, HaveOwnNames};
@@ -129,4 +130,18 @@ pub(crate) fn shrink_hashed(tables: &mut Vec<MapHashTable>, least: usize) -> Res
         tables[i].shrink_to(least)?;
     }
     Ok(())
+}
+
+// A copy of each table.
+pub(crate) fn copy_hashed(
+    tables: &[MapHashTable],
+    alloc: Global,
+) -> Result<Vec<MapHashTable>, AllocError>
+    ensures { IfOk result (λ copies. AllZip SameFiled tables.now copies.items) }
+{
+    let mut copies = Vec::with_capacity(alloc, tables.len())?;
+    for table in tables {
+        copies.push_reserved(table.clone()?);
+    }
+    Ok(copies)
 }

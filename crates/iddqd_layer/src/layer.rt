@@ -18,12 +18,12 @@ ghost use Rattle.iddqd_keys.specs.Scan.{IsLive};
 ghost use Rattle.iddqd_layer.specs.Layer.{Each, EachBy, FitsItsMemory, ForgetsHashed, ForgetsOrdered, HasFewCells, HasSameContents, IsFiled, IsPaired, IsPlaced, IsRefiled, IsTakenOut, IsUnfiled, LeadsToGap, RenamesHashed, RenamesOrdered, ShrinksOrdered, hashed_of, most_keys, ordered_of, room, slot_capacity, store_of};
 
 use crate::hashed_keys::{
-    clear_hashed, insert_hashed, least_hashed_room, new_hashed, rehash_one, remove_hashed,
-    rename_hashed, reserve_hashed, shrink_hashed,
+    clear_hashed, copy_hashed, insert_hashed, least_hashed_room, new_hashed, rehash_one,
+    remove_hashed, rename_hashed, reserve_hashed, shrink_hashed,
 };
 use crate::ordered_keys::{
-    clear_ordered, insert_ordered, lead_to_gaps, least_ordered_room, new_ordered, remove_ordered,
-    rename_ordered, reserve_ordered, shrink_ordered,
+    clear_ordered, copy_ordered, insert_ordered, lead_to_gaps, least_ordered_room, new_ordered,
+    remove_ordered, rename_ordered, reserve_ordered, shrink_ordered,
 };
 use crate::refusal::Refusal;
 use crate::way::Way;
@@ -331,6 +331,22 @@ impl Layer {
         insert_hashed(&mut self.hashed, hashes, ix);
         insert_ordered(&mut self.ordered, ways, ix);
         ix
+    }
+}
+
+/// A copy has the same indexes in each table. Its ordered tables reserve nothing. If memory runs out, what was copied so
+/// far is dropped.
+impl Clone for Layer {
+    ghost use Rattle.iddqd_layer.specs.Layer.{IsCopy};
+
+    ghost is_clone = { IsCopy };
+
+    fn clone(&self) -> Result<Layer, AllocError> {
+        Ok(Layer {
+            items: self.items.clone()?,
+            hashed: copy_hashed(&self.hashed, *self.hashed.allocator())?,
+            ordered: copy_ordered(&self.ordered, *self.ordered.allocator())?,
+        })
     }
 }
 

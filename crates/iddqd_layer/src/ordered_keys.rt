@@ -1,10 +1,10 @@
 //! What is done to each ordered table of a layer, one after the other.
 ghost use Rattle.std.specs.Prelude.{◌≡◌, ◌≢◌, ◌↔◌, ◌≤◌, ◌<◌, ℕ, [], All, length, slice_index_or, IfOk, IsTrue, OnOk, OnErr};
-ghost use Rattle.std.specs.List.{Contains};
+ghost use Rattle.std.specs.List.{AllZip, Contains};
 ghost use Rattle.iddqd.specs.Compaction.{CanRemap, remapped};
 ghost use Rattle.iddqd.specs.Store.{sentinel};
 ghost use Rattle.iddqd_order.specs.MapBTreeTable.{Order, HasSameTree, order_of, room};
-ghost use Rattle.iddqd_layer.specs.Layer.{Each, EachBy, ForgetsOrdered, HasOrderRoom, IsPlaced, IsTakenOut, LeadsToGap, RenamesOrdered, SameCapacity, ShrinksOrdered, least_of};
+ghost use Rattle.iddqd_layer.specs.Layer.{Each, EachBy, ForgetsOrdered, HasOrderRoom, IsPlaced, IsTakenOut, LeadsToGap, RenamesOrdered, SameCapacity, SameOrder, ShrinksOrdered, least_of};
 
 use crate::way::Way;
 use iddqd::index_remap::IndexRemap;
@@ -149,4 +149,18 @@ pub(crate) fn shrink_ordered(tables: &mut Vec<MapBTreeTable>, least: usize)
     for i in 0..tables.len() {
         tables[i].shrink_to(least);
     }
+}
+
+// A copy of each table, which reserves nothing.
+pub(crate) fn copy_ordered(
+    tables: &[MapBTreeTable],
+    alloc: Global,
+) -> Result<Vec<MapBTreeTable>, AllocError>
+    ensures { IfOk result (λ copies. AllZip SameOrder tables.now copies.items) }
+{
+    let mut copies = Vec::with_capacity(alloc, tables.len())?;
+    for table in tables {
+        copies.push_reserved(table.clone()?);
+    }
+    Ok(copies)
 }
