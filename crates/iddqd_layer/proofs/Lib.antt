@@ -1,2 +1,3 @@
-mod LoopLemmas
+pub mod LawfulLemmas
 pub mod LayerLemmas
+mod LoopLemmas

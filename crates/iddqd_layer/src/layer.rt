@@ -7,13 +7,15 @@
 //! A key that changed in order has no call that moves its index: the way to the new place is found while the index
 //! stands at the old one, and is stale once it has left. So `remove`, search, and `insert`, which gives the same index,
 //! and takes no memory within the capacity.
-ghost use Rattle.std.specs.Prelude.{◌≡◌, ◌≢◌, ◌↔◌, ◌+◌, ◌<◌, ◌≤◌, ℕ, length, max, min, slice_get, slice_index_or, IfOk, IsOk, OnOk, OnErr, Err, IsTrue, true, false, option_copied};
+ghost use Rattle.std.specs.Prelude.{◌≡◌, ◌≢◌, ◌↔◌, ◌+◌, ◌<◌, ◌≤◌, ℕ, length, max, min, slice_get, slice_index_or, IfOk, IfSome, IsNone, IsOk, OnOk, OnErr, Err, IsTrue, true, false, option_copied};
 ghost use Rattle.iddqd.specs.Compaction.{IsRemapOf, compacted, rank};
 ghost use Rattle.iddqd.specs.ItemSet as slots;
 ghost use Rattle.iddqd.specs.LiveItems.{live_pairs, IsWalkOf};
 ghost use Rattle.iddqd.specs.Sizes.{insertable};
 ghost use Rattle.iddqd.specs.Store.{IsFull, IsValid, cleared, empty, inserted, live_count, next_index, removed, sentinel, slot_count};
+ghost use Rattle.std.specs.List.Sorted.{IsPermutation};
 ghost use Rattle.iddqd_hash.specs.HashTable.{Table};
+ghost use Rattle.iddqd_hash.specs.MapHashTable.{filed, indexes_under};
 ghost use Rattle.iddqd_keys.specs.Scan.{IsLive};
 ghost use Rattle.iddqd_layer.specs.Layer.{Each, EachBy, FitsItsMemory, ForgetsHashed, ForgetsOrdered, HasFewCells, HasSameContents, IsFiled, IsPaired, IsPlaced, IsRefiled, IsTakenOut, IsUnfiled, LeadsToGap, RenamesHashed, RenamesOrdered, ShrinksOrdered, hashed_of, most_keys, ordered_of, room, slot_capacity, store_of};
 
@@ -30,7 +32,8 @@ use crate::way::Way;
 use iddqd::index_remap::IndexRemap;
 use iddqd::item_index::ItemIndex;
 use iddqd::item_set::{ItemSet, Iter};
-use iddqd_hash::hash_table::MapHashTable;
+use iddqd::map_hash::MapHash;
+use iddqd_hash::hash_table::{IndexesUnder, MapHashTable};
 use iddqd_order::btree_table::MapBTreeTable;
 use std::alloc::{AllocError, Global};
 use std::marker::Model;
@@ -128,6 +131,20 @@ impl Layer {
         ensures { option_copied result ≡ slice_get (hashed_of self.now) key }
     {
         self.hashed.get(key)
+    }
+
+    /// The indexes under a hash in the table of a hashed key, each once. `None` if and only if there is no such key.
+    ///
+    /// Cost: of the whole walk, what a look-up that misses costs.
+    pub fn under(&self, key: usize, hash: u64) -> Option<IndexesUnder<'_>>
+        ensures under { IfSome result (λ walk. (t : Table ℕ) →
+            IsPermutation (indexes_under hash (filed (slice_index_or (hashed_of self.now) key t))) walk) }
+        ensures none { IsNone result → key < length (hashed_of self.now) → ⊥ }
+    {
+        match self.hashed.get(key) {
+            Some(table) => Some(table.indexes_under(MapHash::new(hash))),
+            None => None,
+        }
     }
 
     /// The table of an ordered key: searches by steps, and walks both ways.
