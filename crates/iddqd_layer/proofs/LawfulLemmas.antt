@@ -1,8 +1,8 @@
 -- For callers. Lawful hashes and comparisons keep a layer's tables in sync with its owner's records.
-use Rattle.std.proofs.Common.{◌≡◌, ◌≢◌, ◌∙◌, ℕ, Some, Contains, ap, subst, sym, inl, inr, Ordering}
+use Rattle.std.proofs.Common.{◌≡◌, ◌∙◌, ℕ, Some, Contains, ap, subst, sym, inl, inr, Ordering}
 use Rattle.std.proofs.lemmas.Bool.{cases_eq}
 use Rattle.std.specs.Cmp.{IsTotalOrder}
-use Rattle.iddqd.specs.Store.{Store, IsValid, inserted, next_index}
+use Rattle.iddqd.specs.Store.{Store, inserted, next_index}
 use Rattle.iddqd.proofs.LiveLemmas.{get-inserted_other}
 use Rattle.iddqd_hash.specs.HashTable.{Table}
 use Rattle.iddqd_hash.specs.MapHashTable.{filed, indexes_under}

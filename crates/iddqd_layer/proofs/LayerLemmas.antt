@@ -1,5 +1,5 @@
 -- What keeps the tables of a layer paired with its store.
-use Rattle.std.proofs.Common.{◌≡◌, ◌≢◌, ◌∙◌, ℕ, zero, suc, ◌+◌, ◌<◌, ◌≤◌, List, [], ◌∷◌, map, min, length, get_or, slice_index, refl, sym, ap, subst, arith, inl, inr, Some, None, Contains, All, Result, Ok, Err}
+use Rattle.std.proofs.Common.{◌≡◌, ◌∙◌, ℕ, zero, suc, ◌<◌, ◌≤◌, List, [], ◌∷◌, min, length, get_or, slice_index, refl, sym, ap, subst, arith, inl, inr, Some, None, Contains, All, Result, Ok, Err}
 use Rattle.std.specs.Prelude.{OnOk, OnErr}
 use Rattle.std.proofs.Common.{IsSome, set, get_or-set_other, get_or-set_same, length-set}
 use Rattle.std.proofs.lemmas.Bool.{cases_eq, cases_lt}
@@ -14,15 +14,15 @@ use Rattle.iddqd.specs.Clones.{IsItemClone, IsStoreClone}
 use Rattle.iddqd.specs.Compaction.{compacted, rank}
 use Rattle.iddqd.specs.Store.{Store, empty, slot_limit, cleared, IsValid, next_index, inserted, removed, get}
 use Rattle.iddqd_hash.specs.HashTable.{Table}
-use Rattle.iddqd_hash.specs.MapHashTable.{filed, Renames}
-use Rattle.iddqd_order.specs.MapBTreeTable.{Order, order_of, HasSameTree, without}
+use Rattle.iddqd_hash.specs.MapHashTable.{filed}
+use Rattle.iddqd_order.specs.MapBTreeTable.{Order, order_of, HasSameTree}
 use Rattle.iddqd_order.proofs.GapLemmas.{order-same}
 use Rattle.iddqd_order.proofs.SameTreeLemmas.{HasGap-same, gap_behind-same}
 use Rattle.iddqd_by_hash.specs.Hashed as by_hash
 use Rattle.iddqd_by_hash.proofs.HoldsLemmas as hash_lemmas
 use Rattle.iddqd_by_order.specs.Ordered as by_order
 use Rattle.iddqd_by_order.proofs.OrderedHoldsLemmas as order_lemmas
-use Rattle.iddqd_layer.specs.Layer.{Layer, IsPaired, store_of, hashed_of, ordered_of, Each, EachBy, ForgetsHashed, ForgetsOrdered, RenamesHashed, RenamesOrdered, IsFiled, IsPlaced, IsRefiled, IsTakenOut, IsUnfiled, ShrinksOrdered, LeadsToGap, SameFiled, SameOrder, descent_of, gap_at, least_of}
+use Rattle.iddqd_layer.specs.Layer.{Layer, IsPaired, store_of, hashed_of, ordered_of, Each, EachBy, ForgetsHashed, ForgetsOrdered, RenamesHashed, RenamesOrdered, IsFiled, IsPlaced, IsRefiled, IsTakenOut, IsUnfiled, ShrinksOrdered, LeadsToGap, SameFiled, SameOrder, descent_of, least_of}
 use Rattle.iddqd_layer.specs.declared.way.Way.{Way}
 
 -- each table has exactly the live indexes

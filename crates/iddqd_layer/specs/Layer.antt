@@ -1,8 +1,7 @@
 -- What a contract sees of a layer: a store of indexes without items, and for each key a table of them.
-use Rattle.std.specs.Prelude.{◌≡◌, ◌≢◌, ◌↔◌, ◌+◌, ◌<◌, ◌≤◌, ℕ, List, [], length, insert, map, max, min, slice_index, slice_index_or}
+use Rattle.std.specs.Prelude.{◌≡◌, ◌<◌, ◌≤◌, ℕ, List, [], length, insert, map, max, min, slice_index, slice_index_or}
 use Rattle.std.specs.List.{AllZip, fold}
 use Rattle.std.specs.FinMap as finite
-use Rattle.iddqd.specs.Compaction.{rank}
 use Rattle.iddqd.specs.ItemSet.{SizedStore}
 use Rattle.iddqd.specs.ItemSet as slots
 use Rattle.iddqd.specs.Store.{Store, IsValid}

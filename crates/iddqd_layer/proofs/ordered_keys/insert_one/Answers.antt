@@ -1,4 +1,4 @@
-use Rattle.std.proofs.Common.{◌≡◌, ◌∙◌, ℕ, ◌+◌, ◌-◌, ◌<◌, ◌≤◌, [], Some, None, Contains, IsSome, length, get_or, slice_index, slice_index_or, refl, sym, ap, subst, arith, rules, inl, inr, le_refl}
+use Rattle.std.proofs.Common.{arith}
 use Rattle.iddqd_order.proofs.GapLemmas.{none-below}
 use Rattle.iddqd_layer.proofs.ordered_keys.insert_one.Goals as goal
 

@@ -1,9 +1,7 @@
-use Rattle.std.proofs.Common.{◌≡◌, ◌∙◌, ℕ, ◌+◌, ◌-◌, ◌<◌, ◌≤◌, [], Some, None, Contains, IsSome, length, get_or, slice_index, slice_index_or, refl, sym, ap, subst, arith, rules, inl, inr, le_refl}
+use Rattle.std.proofs.Common.{◌≡◌, ◌∙◌, ◌<◌, [], length, get_or, subst, arith, rules, inl, inr}
 use Rattle.std.proofs.lemmas.List.{get_or_default}
-use Rattle.std.proofs.lemmas.Bool.{cases_lt, false≢true}
-use Rattle.iddqd_order.specs.MapBTreeTable.{Order}
-use Rattle.iddqd_order.specs.Stepping.{HasGap}
-use Rattle.iddqd_layer.specs.Layer.{LeadsToGap, descent_of}
+use Rattle.std.proofs.lemmas.Bool.{cases_lt}
+use Rattle.iddqd_layer.specs.Layer.{LeadsToGap}
 use Rattle.iddqd_layer.specs.declared.way.Way.{Way}
 use Rattle.iddqd_layer.proofs.ordered_keys.lead_to_gaps.Goals as goal
 

@@ -1,5 +1,5 @@
-use Rattle.std.proofs.Common.{◌≡◌, ◌∙◌, ℕ, ◌+◌, ◌-◌, ◌<◌, ◌≤◌, [], Some, None, Contains, IsSome, length, get_or, slice_index, slice_index_or, refl, sym, ap, subst, arith, rules, inl, inr, le_refl}
-use Rattle.std.proofs.lemmas.Bool.{cases_lt, false≢true}
+use Rattle.std.proofs.Common.{◌≡◌, ◌∙◌, ◌<◌, length, get_or, ap, arith, rules, inl, inr, le_refl}
+use Rattle.std.proofs.lemmas.Bool.{cases_lt}
 use Rattle.iddqd_order.specs.MapBTreeTable.{room}
 use Rattle.iddqd_layer.specs.Layer.{least_of}
 use Rattle.iddqd_layer.proofs.LayerLemmas.{least-at, on_any_err}

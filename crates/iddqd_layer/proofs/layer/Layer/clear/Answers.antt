@@ -1,4 +1,3 @@
-use Rattle.std.proofs.Common.{◌≡◌, ◌∙◌, ℕ, ◌+◌, ◌-◌, ◌<◌, ◌≤◌, [], Some, None, Contains, IsSome, length, get_or, slice_index, slice_index_or, refl, sym, ap, subst, arith, rules, inl, inr, le_refl}
 use Rattle.iddqd.proofs.StoreLemmas.{IsValid-cleared}
 use Rattle.iddqd.specs.Store.{cleared}
 use Rattle.iddqd_layer.proofs.LayerLemmas.{hashed-cleared, ordered-cleared, paired}

@@ -1,11 +1,9 @@
-use Rattle.std.proofs.Common.{◌≡◌, ◌∙◌, ℕ, ◌+◌, ◌-◌, ◌<◌, ◌≤◌, [], Some, None, Contains, IsSome, length, get_or, slice_index, slice_index_or, refl, sym, ap, subst, arith, rules, inl, inr, le_refl}
+use Rattle.std.proofs.Common.{◌∙◌}
 use Rattle.iddqd.specs.Compaction.{compacted, rank}
 use Rattle.iddqd.proofs.CompactionLemmas.{IsValid-compacted}
-use Rattle.iddqd_hash.specs.MapHashTable.{filed}
-use Rattle.iddqd_order.specs.MapBTreeTable.{order_of}
 use Rattle.iddqd_by_hash.proofs.HoldsLemmas as by_hash
 use Rattle.iddqd_by_order.proofs.OrderedHoldsLemmas as by_order
-use Rattle.iddqd_layer.specs.Layer.{Each, RenamesHashed, RenamesOrdered, hashed_of, ordered_of}
+use Rattle.iddqd_layer.specs.Layer.{Each, RenamesHashed, RenamesOrdered}
 use Rattle.iddqd_layer.proofs.layer.Layer.compact.Goals.{After-rename_ordered}
 use Rattle.iddqd_layer.proofs.LayerLemmas.{hashed-compacted, ordered-compacted, paired}
 use Rattle.iddqd_layer.proofs.layer.Layer.compact.Goals as goal

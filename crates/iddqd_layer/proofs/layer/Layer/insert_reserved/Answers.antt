@@ -1,4 +1,4 @@
-use Rattle.std.proofs.Common.{◌≡◌, ◌∙◌, ℕ, ◌+◌, ◌-◌, ◌<◌, ◌≤◌, [], Some, None, Contains, IsSome, length, get_or, slice_index, slice_index_or, refl, sym, ap, subst, arith, rules, inl, inr, le_refl}
+use Rattle.std.proofs.Common.{◌≡◌, ◌≤◌, None, Contains, get_or, sym, subst, arith}
 use Rattle.iddqd.specs.ItemSet as slots
 use Rattle.iddqd_hash.specs.HashTable as hash_table
 use Rattle.iddqd_order.specs.MapBTreeTable as order_table

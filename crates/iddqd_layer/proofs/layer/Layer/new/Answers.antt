@@ -1,4 +1,4 @@
-use Rattle.std.proofs.Common.{◌≡◌, ◌∙◌, ℕ, ◌+◌, ◌-◌, ◌<◌, ◌≤◌, [], Some, None, Contains, IsSome, length, get_or, slice_index, slice_index_or, refl, sym, ap, subst, arith, rules, inl, inr, le_refl}
+use Rattle.std.proofs.Common.{ap, arith}
 use Rattle.iddqd.proofs.StoreLemmas.{IsValid-empty}
 use Rattle.iddqd.specs.Store.{Store, empty, slot_limit}
 use Rattle.iddqd_layer.proofs.LayerLemmas.{hashed-empty, ordered-empty, paired}

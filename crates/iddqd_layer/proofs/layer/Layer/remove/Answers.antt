@@ -1,12 +1,11 @@
-use Rattle.std.proofs.Common.{◌≡◌, ◌∙◌, ℕ, ◌+◌, ◌-◌, ◌<◌, ◌≤◌, [], Some, None, Contains, IsSome, length, get_or, slice_index, slice_index_or, refl, sym, ap, subst, arith, rules, inl, inr, le_refl}
-use Rattle.iddqd.specs.ItemSet as slots
+use Rattle.std.proofs.Common.{◌≡◌, ◌<◌, Some, Contains, length, get_or, refl, sym, ap, subst, arith}
 use Rattle.iddqd_hash.specs.HashTable as hash_table
 use Rattle.iddqd_order.specs.MapBTreeTable as order_table
 use Rattle.iddqd.specs.Store.{get, removed}
 use Rattle.iddqd.proofs.StoreLemmas.{IsValid-removed}
 use Rattle.iddqd_order.specs.MapBTreeTable.{order_of}
 use Rattle.iddqd_order.proofs.MoveLemmas.{without-fewer}
-use Rattle.iddqd_layer.specs.Layer.{FitsItsMemory, least_of}
+use Rattle.iddqd_layer.specs.Layer.{FitsItsMemory}
 use Rattle.iddqd_layer.proofs.LayerLemmas.{hashed-removed, least-above, ordered-removed, paired}
 use Rattle.iddqd_layer.proofs.layer.Layer.remove.Goals as goal
 

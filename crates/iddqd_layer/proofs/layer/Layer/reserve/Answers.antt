@@ -1,9 +1,9 @@
-use Rattle.std.proofs.Common.{◌≡◌, ◌∙◌, ℕ, ◌+◌, ◌-◌, ◌<◌, ◌≤◌, length, get_or, min, refl, sym, ap, subst, arith, le_refl}
+use Rattle.std.proofs.Common.{◌<◌, ◌≤◌, min, subst, arith, le_refl}
 use Rattle.iddqd.specs.ItemSet as slots
 use Rattle.iddqd.specs.Sizes.{insertable}
 use Rattle.iddqd_hash.specs.HashTable as hash_table
 use Rattle.iddqd_order.specs.MapBTreeTable as order_table
-use Rattle.iddqd_layer.specs.Layer.{Layer, least_of, room, store_of}
+use Rattle.iddqd_layer.specs.Layer.{least_of, room, store_of}
 use Rattle.iddqd_layer.proofs.LayerLemmas.{hashed-same, least-above, least-below, least-start, on_any_err, on_err, on_ok, ordered-same, paired}
 use Rattle.iddqd_layer.proofs.layer.Layer.reserve.Goals as goal
 
