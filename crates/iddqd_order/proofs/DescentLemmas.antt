@@ -122,11 +122,11 @@ pub child_is : (n : Node) (i : ℕ) (k : Node) → i < length (children n) → k
 child_is n i k lt e = e ∙ get_or_default (children n) i k n lt
 
 -- where the i-th index of a node stands in its list
-abbrev row_place : ℕ → Node → ℕ → ℕ
+abbrev pub row_place : ℕ → Node → ℕ → ℕ
 row_place zero n i = i
 row_place (suc h) n i = index_place i (row n) (lists h (children n))
 
-row-part : (l : ℕ) (n : Node) → IsFormed l n → Embeds (row n) (flat l n) (λ i. row_place l n i)
+pub row-part : (l : ℕ) (n : Node) → IsFormed l n → Embeds (row n) (flat l n) (λ i. row_place l n i)
 unfolding flat
 row-part zero n f = record { within = λ i lt. lt; at = λ i lt. refl; rises = λ i j lt within. lt }
 row-part (suc h) n f =

@@ -9,6 +9,7 @@ mod GapLeftLemmas
 pub mod GapLemmas
 mod GapNumberLemmas
 pub mod GatherLemmas
+pub mod GuideLemmas
 pub mod IndexListLemmas
 mod InnerLemmas
 pub mod InsertLemmas
@@ -31,7 +32,9 @@ mod RoomLemmas
 pub mod SearchLemmas
 pub mod TableLemmas
 pub mod TreeLemmas
+pub mod SameTreeLemmas
 mod SpotCursorLemmas
 mod SpotLemmas
+pub mod SteppingLemmas
 pub mod WeaveLemmas
 mod WeaveRemovalLemmas

@@ -1,5 +1,5 @@
 -- Walks between places, which are found by answers of which none is Equal.
-use Rattle.iddqd_order.proofs.Names.{◌≡◌, ◌≢◌, ◌↔◌, ℕ, ◌-◌, ◌≤◌, List, [], length, drop, slice_index, refl, ap, Option, Bool, arith, None, Err, length-drop, take_all, Ordering, Less, Equal, Greater, ordering_then, Mut, Asking, AsksWithin, Askable, IsTrue, IsRising, IsSteadyRising, Searches, SearchesWithin, Node, IsTree, in_order, Steps, Stands, gap_of, next_behind, part, false, Back, Front}
+use Rattle.iddqd_order.proofs.Names.{◌≡◌, ◌≢◌, ◌↔◌, ℕ, ◌-◌, ◌≤◌, List, [], length, drop, take, slice_index, refl, ap, Option, Bool, arith, None, Err, length-drop, take_all, Ordering, Less, Equal, Greater, ordering_then, Mut, Asking, AsksWithin, Askable, IsTrue, IsRising, IsSteadyRising, Searches, SearchesWithin, Node, IsTree, in_order, Steps, Stands, gap_of, next_behind, part, false, Back, Front}
 use Rattle.std.specs.Iterator.{YieldsFirst, YieldsLast}
 use Rattle.std.specs.declared.ops.Bound.{Bound}
 use Rattle.std.specs.declared.ops.Bound.TheVariants.{Included, Excluded, Unbounded}
@@ -204,3 +204,7 @@ part-back i j k xs r ne le within s =
     let l = left-back (k - i) i j k xs r ne (omega arith) within s in
     let at = l.0 in let same : k - i - 1 ≡ j - i = omega arith in
     (omega arith, rw same at l.1)
+
+-- what stands before a gap
+pub part-first : (i : ℕ) (xs : List ℕ) → part 0 i xs ≡ take i xs
+part-first i xs = let all : i - 0 ≡ i = omega arith in ap (λ k. take k xs) all

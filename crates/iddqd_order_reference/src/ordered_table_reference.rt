@@ -30,6 +30,7 @@ mod iter;
 mod prepared_insert;
 mod prepared_remove;
 mod retain;
+pub mod stepping;
 
 use iddqd::index_remap::IndexRemap;
 use iddqd::item_index::ItemIndex;

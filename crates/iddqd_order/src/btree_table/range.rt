@@ -66,7 +66,7 @@ impl<'a> Range<'a> {
     ghost use Rattle.iddqd_order.specs.Tree.{IsTree, in_order};
 
     // The indexes of a tree between two gaps.
-    fn new(
+    pub(super) fn new(
         root: &'a Option<Node>,
         height: usize,
         front: &Cursor<'a>,
@@ -362,7 +362,7 @@ impl MapBTreeTable {
     }
 
     // The cursor at the first or last gap.
-    fn end_cursor(&self, end: End) -> Cursor<'_>
+    pub(super) fn end_cursor(&self, end: End) -> Cursor<'_>
         ensures tree { IsTree self.now.root self.now.height }
         ensures stands { Stands self.now.root self.now.height result }
         ensures gap { gap_of self.now.root self.now.height result ≡ edge_of end (length (order_of self.now)) }

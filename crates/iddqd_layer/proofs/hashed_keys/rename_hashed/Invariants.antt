@@ -1,0 +1,7 @@
+use Rattle.iddqd.specs.Compaction.{remapped}
+use Rattle.iddqd_hash.specs.MapHashTable.{Renames, filed}
+use Rattle.iddqd_layer.proofs.LoopLemmas.{Halfway}
+use Rattle.iddqd_layer.proofs.hashed_keys.rename_hashed.Given as goal
+
+abbrev pub invariant-loop-i : goal.invariant-loop-i
+invariant-loop-i l = Halfway (λ k old new. Renames (remapped l.remap) (filed old) (filed new)) l.i l.fn.tables.items l.tables.items

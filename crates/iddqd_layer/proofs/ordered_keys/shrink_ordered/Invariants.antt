@@ -1,0 +1,6 @@
+use Rattle.iddqd_layer.specs.Layer.{ShrinksOrdered}
+use Rattle.iddqd_layer.proofs.LoopLemmas.{Halfway}
+use Rattle.iddqd_layer.proofs.ordered_keys.shrink_ordered.Given as goal
+
+abbrev pub invariant-loop-i : goal.invariant-loop-i
+invariant-loop-i l = Halfway (λ k old new. ShrinksOrdered l.least old new) l.i l.fn.tables.items l.tables.items
