@@ -17,5 +17,6 @@ mod handle;
 mod index;
 mod keyed;
 mod numbers;
+mod second_key;
 mod table;
 mod version;
