@@ -162,7 +162,7 @@ fn the_other_calls_on_items_take_no_memory() {
     assert_eq!(of_keyed(|items| Some(items.remove(0))), 0);
     assert_eq!(of_keyed(|items| Some((items.set_value(1, 8), items.set_value(0, 8)))), 0);
     assert_eq!(of_keyed(|items| Some((items.len(), items.is_empty(), items.room() > 0))), 0);
-    assert_eq!(of_keyed(|items| Some((items.iter().count(), items.range(50).next(), (&*items).into_iter().last()))), 0);
+    assert_eq!(of_keyed(|items| Some((items.iter().count(), items.range(50..).next(), (&*items).into_iter().last()))), 0);
     assert_eq!(of_keyed(|items| Some(write!(sink(), "{items:?}").is_ok())), 0);
     let cleared = |items: &mut Keyed| {
         items.clear();

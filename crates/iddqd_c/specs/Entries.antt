@@ -8,7 +8,11 @@ use Rattle.iddqd_keys.specs.Scan.{HasNoHit, AnswersScan, AreApart, IsHit}
 use Rattle.iddqd_map.specs.Groups.{CountsHits}
 use Rattle.iddqd_map.specs.Map.{IsOnly, RemovesAt, RemovesHit, room}
 use Rattle.iddqd_map.specs.Memory.{MakesRoom, ReservesItems}
+use Rattle.iddqd_map.specs.PairConflict.{Reports, first_of, second_of}
 use Rattle.iddqd_map.specs.Ranges.{LeavesOthers}
+use Rattle.iddqd_map.specs.declared.pair_conflict.PairConflict.{PairConflict}
+use Rattle.iddqd_map.specs.declared.refusal.InsertRefusal.{InsertRefusal}
+use Rattle.iddqd_map.specs.declared.refusal.InsertRefusal.TheVariants.{Duplicate, Full, Memory}
 use Rattle.iddqd_ord_map.specs.OrderedSteps.{most_cells as most_ordered}
 use Rattle.iddqd_codes.specs.declared.TheConstants.{OK, MISSING, DUPLICATE, FULL, MEMORY, SMALL}
 use Rattle.iddqd_c.specs.Held.{Items, Taken}
@@ -67,12 +71,12 @@ pub record FillsAnswers {X : Type 0} (P : X → Row → Type 0) (asked : List X)
 
 -- what a look-up of many keys answers for one of them: what the look-up of this key answers, with the row for no entry
 -- if it misses
-abbrev pub Reports : (ℕ → Row → Type 0) → Row → Type 0
-Reports finds row = finds OK row ⊎ (finds MISSING row × (row ≡ no_row))
+abbrev pub ReportsRow : (ℕ → Row → Type 0) → Row → Type 0
+ReportsRow finds row = finds OK row ⊎ (finds MISSING row × (row ≡ no_row))
 
 -- what it answers for a second key
 abbrev pub AnswersSecond : Items → ℕ → Row → Type 0
-AnswersSecond m second = Reports (λ code row. FindsSecond second code row m)
+AnswersSecond m second = ReportsRow (λ code row. FindsSecond second code row m)
 
 -- what a look-up of many second keys answers: `SMALL`, if the buffer has fewer places than there are keys
 abbrev pub FindsMany : List ℕ → ℕ → List Row → List Row → Items → Type 0
@@ -90,7 +94,7 @@ HasSpan bytes start end = (start ≤ end) × (end ≤ length bytes)
 
 -- what a look-up of many first keys answers for the one with these bytes
 abbrev pub AnswersFirst : Items → List ℕ → Row → Type 0
-AnswersFirst m bytes = Reports (λ code row. FindsFirst bytes code row m)
+AnswersFirst m bytes = ReportsRow (λ code row. FindsFirst bytes code row m)
 
 -- what a look-up of many first keys answers for a span of its bytes: for the key there, if the bytes have this span,
 -- otherwise as for a missing key
@@ -178,6 +182,24 @@ Reserves = ReservesCells (λ count. most_cells count + most_ordered count)
 -- what an insert leaves of the memory: what the map may take for one more item
 abbrev pub TakesMemory : Items → Items → Type 0
 TakesMemory old new = MakesRoom most_cells old new.memory
+
+-- What the key index of second keys reports of an entry, if it reports anything, has this index: that of the entry that
+-- stands in the way.
+abbrev pub SaysSecond :
+    {C : Type 0} → (Entry → Entry → Bool) → (Store Entry → Entry → C → Type 0) → Taken → Option C → Option ℕ → Type 0
+SaysSecond alike conflicts taken at other =
+    (s : Store Entry) (entry : Entry) → Reports alike conflicts s entry at → AnswersScan s (taken entry.second) other
+
+-- The code says why the map refused an entry, and of a duplicate the conflict says which indexes it reports.
+abbrev pub SaysRefusal :
+    {C : Type 0} → (Entry → Entry → Bool) → (Store Entry → Entry → C → Type 0) → Taken → ℕ → Conflict
+    → InsertRefusal Entry (PairConflict ℕ C) → Type 0
+SaysRefusal alike conflicts taken code conflict (Duplicate entry at) =
+    (code ≡ DUPLICATE) × (conflict.first ≡ number_of (first_of at))
+    × ((other : Option ℕ) × (conflict.second ≡ number_of other) × (IsSome (second_of at) → IsSome other)
+    × SaysSecond alike conflicts taken (second_of at) other)
+SaysRefusal alike conflicts taken code conflict (Full entry) = code ≡ FULL
+SaysRefusal alike conflicts taken code conflict (Memory entry) = code ≡ MEMORY
 
 -- `taken second` says which entries stand in the way of another one with this second key
 module _ (taken : Taken) where

@@ -24,7 +24,7 @@ mod replaces;
 mod validation;
 mod values;
 
-use crate::entry::{Entries, Entry};
+use crate::entry::Entry;
 use crate::handle::{CTable, make, put, take};
 use crate::table::{Keyed, Table};
 use iddqd_byte_keys::Seed;
@@ -129,15 +129,15 @@ fn clear(table: &mut Table) -> u32
     ensures clears { ChangesKeyed (Clears result) (Some table.old) result (Some table.new) }
 {
     match table {
-        Table::Unique(keyed) => clear_entries(&mut keyed.entries),
-        Table::Shared(keyed) => clear_entries(&mut keyed.entries),
+        Table::Unique(keyed) => clear_entries(keyed),
+        Table::Shared(keyed) => clear_entries(keyed),
         Table::Index(_) => HANDLE,
     }
 }
 
-fn clear_entries<B: Upkeep<Entry, RandomState>>(entries: &mut Entries<B>) -> u32
-    ensures { Clears result entries.old entries.new }
+fn clear_entries<B: Upkeep<Entry, RandomState>>(keyed: &mut Keyed<B>) -> u32
+    ensures { Clears result keyed.old.entries keyed.new.entries }
 {
-    entries.clear();
+    keyed.entries.clear();
     OK
 }

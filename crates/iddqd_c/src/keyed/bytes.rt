@@ -5,9 +5,9 @@ ghost use Rattle.iddqd_c.specs.Entries.{WritesKey};
 ghost use Rattle.iddqd_c.specs.Held.{ReadsKeyed};
 ghost use Rattle.iddqd_c.specs.Rows.{CopiesBytes};
 
-use crate::entry::{Entries, Entry};
+use crate::entry::Entry;
 use crate::handle::{CTable, put, take};
-use crate::table::Table;
+use crate::table::{Keyed, Table};
 use iddqd::item_index::ItemIndex;
 use iddqd_codes::{HANDLE, MISSING, OK, SMALL};
 use iddqd_map::key_index::KeyIndex;
@@ -46,20 +46,20 @@ fn key_at(table: &Table, index: u32, key: &mut [u8], len: &mut usize) -> u32
     ensures len_kept { result ≢ OK → result ≢ SMALL → len.new ≡ len.old }
 {
     match table {
-        Table::Unique(keyed) => write(&keyed.entries, ItemIndex::new(index), key, len),
-        Table::Shared(keyed) => write(&keyed.entries, ItemIndex::new(index), key, len),
+        Table::Unique(keyed) => write(keyed, ItemIndex::new(index), key, len),
+        Table::Shared(keyed) => write(keyed, ItemIndex::new(index), key, len),
         Table::Index(_) => HANDLE,
     }
 }
 
-fn write<B>(entries: &Entries<B>, ix: ItemIndex, key: &mut [u8], len: &mut usize) -> u32
+fn write<B>(keyed: &Keyed<B>, ix: ItemIndex, key: &mut [u8], len: &mut usize) -> u32
 where
     B: KeyIndex<Entry, RandomState>,
-    ensures writes { WritesKey ix result len.new key.old key.new entries.now }
+    ensures writes { WritesKey ix result len.new key.old key.new keyed.now.entries }
     ensures key_kept { result ≢ OK → key.new ≡ key.old }
     ensures len_kept { result ≢ OK → result ≢ SMALL → len.new ≡ len.old }
 {
-    match entries.get_at(ix) {
+    match keyed.entries.get_at(ix) {
         Some(entry) => copy(entry.first.bytes.as_slice(), key, len),
         None => MISSING,
     }

@@ -5,9 +5,9 @@ ghost use Rattle.iddqd_codes.specs.declared.TheConstants.{OK, SMALL};
 ghost use Rattle.iddqd_c.specs.Compacting.{CompactsInto, name_in};
 ghost use Rattle.iddqd_c.specs.Held.{ChangesKeyed};
 
-use crate::entry::{Entries, Entry};
+use crate::entry::Entry;
 use crate::handle::{CTable, put, take};
-use crate::table::Table;
+use crate::table::{Keyed, Table};
 use iddqd::index_remap::IndexRemap;
 use iddqd::item_index::ItemIndex;
 use iddqd_codes::{HANDLE, MEMORY, OK, SMALL};
@@ -48,26 +48,26 @@ fn compact(table: &mut Table, indexes: &mut [u32], count: &mut usize) -> u32
     ensures count_kept { result ≢ OK → result ≢ SMALL → count.new ≡ count.old }
 {
     match table {
-        Table::Unique(keyed) => close_up(&mut keyed.entries, indexes, count),
-        Table::Shared(keyed) => close_up(&mut keyed.entries, indexes, count),
+        Table::Unique(keyed) => close_up(keyed, indexes, count),
+        Table::Shared(keyed) => close_up(keyed, indexes, count),
         Table::Index(_) => HANDLE,
     }
 }
 
 // The compaction of entries whose second keys go by `B`.
-fn close_up<B>(entries: &mut Entries<B>, indexes: &mut [u32], count: &mut usize) -> u32
+fn close_up<B>(keyed: &mut Keyed<B>, indexes: &mut [u32], count: &mut usize) -> u32
 where
     B: Upkeep<Entry, RandomState>,
-    ensures compacts { CompactsInto result count.new indexes.old indexes.new entries.old entries.new }
+    ensures compacts { CompactsInto result count.new indexes.old indexes.new keyed.old.entries keyed.new.entries }
     ensures indexes_kept { result ≢ OK → indexes.new ≡ indexes.old }
     ensures count_kept { result ≢ OK → result ≢ SMALL → count.new ≡ count.old }
 {
-    let slots = entries.parts().items.slot_count();
+    let slots = keyed.entries.parts().items.slot_count();
     if indexes.len() < slots {
         *count = slots;
         return SMALL;
     }
-    match entries.compact() {
+    match keyed.entries.compact() {
         Ok(remap) => {
             *count = slots;
             write_all(&remap, slots, indexes);

@@ -1,13 +1,14 @@
 //! Look-ups. They copy no key and take no memory.
 ghost use Rattle.std.specs.Prelude.{◌≡◌, ◌≢◌, Some};
 ghost use Rattle.iddqd_codes.specs.declared.TheConstants.{OK};
-ghost use Rattle.iddqd_c.specs.Entries.{FindsFirst, FindsSecond, GetsRow};
+ghost use Rattle.iddqd_c.specs.Entries.{FindsFirst, FindsLeast, FindsSecond, GetsRow};
 ghost use Rattle.iddqd_c.specs.Held.{ReadsKeyed};
+ghost use Rattle.iddqd_c.specs.Keys.{has_second};
 
-use crate::entry::{ByFirst, Entries, Entry, Row};
+use crate::entry::{ByFirst, Entry, Row};
 use crate::handle::{CTable, put, take};
 use crate::second_key::SecondKey;
-use crate::table::Table;
+use crate::table::{Keyed, Table};
 use iddqd::item_index::ItemIndex;
 use iddqd_byte_keys::ByteKeyQuery;
 use iddqd_codes::{HANDLE, MISSING, OK};
@@ -38,21 +39,24 @@ fn find1(table: &Table, key: &[u8], row: &mut Row) -> u32
     ensures kept { result ≢ OK → row.new ≡ row.old }
 {
     match table {
-        Table::Unique(keyed) => find_first(&keyed.entries, key, row),
-        Table::Shared(keyed) => find_first(&keyed.entries, key, row),
+        Table::Unique(keyed) => find_first(keyed, key, row),
+        Table::Shared(keyed) => find_first(keyed, key, row),
         Table::Index(_) => HANDLE,
     }
 }
 
 /// Writes the row of the entry whose first key has these bytes, if there is one.
-pub(super) fn find_first<B>(entries: &Entries<B>, key: &[u8], row: &mut Row) -> u32
+pub(super) fn find_first<B>(keyed: &Keyed<B>, key: &[u8], row: &mut Row) -> u32
 where
     B: KeyIndex<Entry, RandomState>,
-    ensures finds { FindsFirst key.now result row.new entries.now }
+    ensures finds { FindsFirst key.now result row.new keyed.now.entries }
     ensures kept { result ≢ OK → row.new ≡ row.old }
 {
-    match entries.find_by::<ByFirst, _>(ByteKeyQuery { bytes: key }) {
-        Some(ix) => report(entries, ix, row),
+    match keyed
+        .entries
+        .find_by::<ByFirst, _>(ByteKeyQuery { bytes: key })
+    {
+        Some(ix) => report(keyed, ix, row),
         None => MISSING,
     }
 }
@@ -85,21 +89,29 @@ fn find2(table: &Table, second: u64, row: &mut Row) -> u32
     ensures kept { result ≢ OK → row.new ≡ row.old }
 {
     match table {
-        Table::Unique(keyed) => find_second(&keyed.entries, second, row),
-        Table::Shared(keyed) => find_second(&keyed.entries, second, row),
+        Table::Unique(keyed) => find_second(keyed, second, row),
+        Table::Shared(keyed) => find_second(keyed, second, row),
         Table::Index(_) => HANDLE,
     }
 }
 
 /// Writes the row of the entry with the least index among those that have this second key, if there is one.
-pub(super) fn find_second<B: SecondKey>(entries: &Entries<B>, second: u64, row: &mut Row) -> u32
-    ensures finds { FindsSecond second result row.new entries.now }
+pub(super) fn find_second<B: SecondKey>(keyed: &Keyed<B>, second: u64, row: &mut Row) -> u32
+    ensures finds { FindsSecond second result row.new keyed.now.entries }
     ensures kept { result ≢ OK → row.new ≡ row.old }
 {
-    match B::least(entries, second) {
-        Some(ix) => report(entries, ix, row),
+    match least(keyed, second) {
+        Some(ix) => report(keyed, ix, row),
         None => MISSING,
     }
+}
+
+/// The least index of the entries that have this second key.
+pub(super) fn least<B: SecondKey>(keyed: &Keyed<B>, second: u64) -> Option<ItemIndex>
+    ensures { FindsLeast keyed.now.entries.store (has_second second) result }
+{
+    let parts = keyed.entries.parts();
+    parts.indexes.second.least(parts.items, parts.state, second)
 }
 
 /// The row of the item at an index.
@@ -125,22 +137,18 @@ fn get(table: &Table, index: u32, row: &mut Row) -> u32
     ensures kept { result ≢ OK → row.new ≡ row.old }
 {
     match table {
-        Table::Unique(keyed) => report(&keyed.entries, ItemIndex::new(index), row),
-        Table::Shared(keyed) => report(&keyed.entries, ItemIndex::new(index), row),
+        Table::Unique(keyed) => report(keyed, ItemIndex::new(index), row),
+        Table::Shared(keyed) => report(keyed, ItemIndex::new(index), row),
         Table::Index(_) => HANDLE,
     }
 }
 
 // Writes the row of the item at the index, if it is live.
-fn report<B: KeyIndex<Entry, RandomState>>(
-    entries: &Entries<B>,
-    ix: ItemIndex,
-    row: &mut Row,
-) -> u32
-    ensures gets { GetsRow ix result row.new entries.now }
+fn report<B: KeyIndex<Entry, RandomState>>(keyed: &Keyed<B>, ix: ItemIndex, row: &mut Row) -> u32
+    ensures gets { GetsRow ix result row.new keyed.now.entries }
     ensures kept { result ≢ OK → row.new ≡ row.old }
 {
-    let Some(entry) = entries.get_at(ix) else {
+    let Some(entry) = keyed.entries.get_at(ix) else {
         return MISSING;
     };
     *row = Row::of(ix, entry);

@@ -4,11 +4,11 @@ ghost use Rattle.iddqd_codes.specs.declared.TheConstants.{OK};
 ghost use Rattle.iddqd_c.specs.Entries.{CountsGroup, RemovesGroup};
 ghost use Rattle.iddqd_c.specs.Held.{ChangesKeyed, ReadsKeyed};
 
-use crate::entry::Entries;
+use crate::entry::BySecond;
 use crate::handle::{CTable, put, take};
-use crate::second_key::SecondKey;
 use crate::table::Table;
 use iddqd_codes::{HANDLE, OK};
+use iddqd_ord_map::in_order::InOrder;
 use std::alloc::Global;
 
 /// How many items have a second key. It costs a step for each of them.
@@ -39,18 +39,16 @@ fn count_group(table: &Table, second: u64, count: &mut usize) -> u32
     ensures kept { result ≢ OK → count.new ≡ count.old }
 {
     match table {
-        Table::Unique(keyed) => count_in(&keyed.entries, second, count),
-        Table::Shared(keyed) => count_in(&keyed.entries, second, count),
+        Table::Unique(keyed) => {
+            *count = keyed.entries.count_by::<BySecond, _>(&second);
+            OK
+        }
+        Table::Shared(keyed) => {
+            *count = keyed.entries.count_by::<BySecond, _>(&second);
+            OK
+        }
         Table::Index(_) => HANDLE,
     }
-}
-
-fn count_in<B: SecondKey>(entries: &Entries<B>, second: u64, count: &mut usize) -> u32
-    ensures counts { CountsGroup second result count.new entries.now }
-    ensures kept { result ≢ OK → count.new ≡ count.old }
-{
-    *count = B::count(entries, second);
-    OK
 }
 
 /// Removes all items with a second key, and writes how many they were. It takes no memory.
@@ -82,16 +80,18 @@ fn remove_group(table: &mut Table, second: u64, count: &mut usize) -> u32
     ensures kept { result ≢ OK → count.new ≡ count.old }
 {
     match table {
-        Table::Unique(keyed) => remove_in(&mut keyed.entries, second, count),
-        Table::Shared(keyed) => remove_in(&mut keyed.entries, second, count),
+        Table::Unique(keyed) => {
+            *count = keyed
+                .entries
+                .remove_group_by::<BySecond, _, _>(&second, |_entry| ());
+            OK
+        }
+        Table::Shared(keyed) => {
+            *count = keyed
+                .entries
+                .remove_group_by::<BySecond, _, _>(&second, |_entry| ());
+            OK
+        }
         Table::Index(_) => HANDLE,
     }
-}
-
-fn remove_in<B: SecondKey>(entries: &mut Entries<B>, second: u64, count: &mut usize) -> u32
-    ensures removes { RemovesGroup second result count.new entries.old entries.new }
-    ensures kept { result ≢ OK → count.new ≡ count.old }
-{
-    *count = B::remove_group(entries, second);
-    OK
 }

@@ -8,15 +8,15 @@ ghost use Rattle.iddqd.specs.Store.{IsFull, Store};
 ghost use Rattle.iddqd_keys.specs.Scan.{AnswersScan};
 ghost use Rattle.iddqd_map.specs.PairConflict.{Reports, second_of};
 ghost use Rattle.iddqd_codes.specs.declared.TheConstants.{OK, DUPLICATE};
-ghost use Rattle.iddqd_c.specs.Entries.{InsertsAt, RefusesAt, TakesMemory};
+ghost use Rattle.iddqd_c.specs.Entries.{InsertsAt, RefusesAt, SaysRefusal, TakesMemory};
 ghost use Rattle.iddqd_c.specs.Held.{ChangesEach, ChangesKeyed};
 ghost use Rattle.iddqd_c.specs.Rows.{number_of};
 ghost use Rattle.iddqd_c.specs.declared.entry.Entry.{Entry};
 
-use crate::entry::{ByFirst, Conflict, Entries, Entry};
+use crate::entry::{ByFirst, Conflict, Entry};
 use crate::handle::{CTable, put, take};
 use crate::second_key::SecondKey;
-use crate::table::Table;
+use crate::table::{Keyed, Table};
 use iddqd::item_index::ItemIndex;
 use iddqd_byte_keys::{ByteKey, ByteKeyQuery};
 use iddqd_codes::{DUPLICATE, FULL, HANDLE, MEMORY, OK};
@@ -69,15 +69,15 @@ fn insert(
     ensures found_kept { result ≢ DUPLICATE → found.new ≡ found.old }
 {
     match table {
-        Table::Unique(keyed) => store(&mut keyed.entries, alloc, key, second, value, at, found),
-        Table::Shared(keyed) => store(&mut keyed.entries, alloc, key, second, value, at, found),
+        Table::Unique(keyed) => store(keyed, alloc, key, second, value, at, found),
+        Table::Shared(keyed) => store(keyed, alloc, key, second, value, at, found),
         Table::Index(_) => HANDLE,
     }
 }
 
 // The insert into entries whose second keys go by `B`.
 fn store<B: SecondKey>(
-    entries: &mut Entries<B>,
+    keyed: &mut Keyed<B>,
     alloc: Global,
     key: &[u8],
     second: u64,
@@ -85,60 +85,86 @@ fn store<B: SecondKey>(
     at: &mut u32,
     found: &mut Conflict,
 ) -> u32
-    ensures inserts { InsertsAt B.taken key.now second value result at.new found.new entries.old entries.new }
-    ensures memory { TakesMemory entries.old entries.new }
+    ensures inserts { InsertsAt B.taken key.now second value result at.new found.new keyed.old.entries keyed.new.entries }
+    ensures memory { TakesMemory keyed.old.entries keyed.new.entries }
     ensures at_kept { result ≢ OK → at.new ≡ at.old }
     ensures found_kept { result ≢ DUPLICATE → found.new ≡ found.old }
 {
     let Ok(bytes) = Vec::from_slice(alloc, key) else {
-        return without_copy(entries, key, second, found);
+        return without_copy(keyed, key, second, found);
     };
     let new = Entry {
         first: ByteKey { bytes },
         second,
         value,
     };
-    match entries.insert_unique(new) {
+    match keyed.entries.insert_unique(new) {
         Ok(ix) => {
             *at = ix.as_u32();
             OK
         }
-        Err(InsertRefusal::Duplicate { at, .. }) => {
-            *found = conflict_of(at.first(), second_in_the_way::<B>(&at));
+        Err(refusal) => report::<B>(&refusal, found),
+    }
+}
+
+// The code of a refusal; of a duplicate also the indexes that it reports.
+fn report<B: SecondKey>(
+    refusal: &InsertRefusal<Entry, PairConflict<ItemIndex, B::Conflict>>,
+    found: &mut Conflict,
+) -> u32
+    ensures says { SaysRefusal B.alike B.conflicts B.taken result found.new refusal.now }
+    ensures found_kept { result ≢ DUPLICATE → found.new ≡ found.old }
+{
+    match refusal {
+        InsertRefusal::Duplicate { at, .. } => {
+            *found = conflict_of(at.first(), second_in_the_way::<B>(at));
             DUPLICATE
         }
-        Err(InsertRefusal::Full(_)) => FULL,
-        Err(InsertRefusal::Memory(_)) => MEMORY,
+        InsertRefusal::Full(_) => FULL,
+        InsertRefusal::Memory(_) => MEMORY,
     }
 }
 
 // Why an item can't be inserted for whose first key there is no memory.
 fn without_copy<B: SecondKey>(
-    entries: &Entries<B>,
+    keyed: &Keyed<B>,
     key: &[u8],
     second: u64,
     found: &mut Conflict,
 ) -> u32
-    ensures refuses { RefusesAt B.taken key.now second result found.new entries.now }
+    ensures refuses { RefusesAt B.taken key.now second result found.new keyed.now.entries }
     ensures found_kept { result ≢ DUPLICATE → found.new ≡ found.old }
 {
-    let first_at = entries.find_by::<ByFirst, _>(ByteKeyQuery { bytes: key });
-    let second_at = B::in_the_way(entries, second);
+    let first_at = keyed
+        .entries
+        .find_by::<ByFirst, _>(ByteKeyQuery { bytes: key });
+    let second_at = in_the_way(keyed, second);
     if first_at.is_some() || second_at.is_some() {
         *found = conflict_of(first_at, second_at);
         return DUPLICATE;
     }
-    if is_full(entries) {
+    if is_full(keyed) {
         return FULL;
     }
     MEMORY
 }
 
-// Whether no index is left.
-fn is_full<B: SecondKey>(entries: &Entries<B>) -> bool
-    ensures { (result ≡ true) ↔ IsFull entries.now.store }
+/// The index of the entry that stands in the way of another one with this second key.
+pub(super) fn in_the_way<B: SecondKey>(keyed: &Keyed<B>, second: u64) -> Option<ItemIndex>
+    ensures { AnswersScan keyed.now.entries.store (B.taken second) result }
 {
-    let items = entries.parts().items;
+    let parts = keyed.entries.parts();
+    parts
+        .indexes
+        .second
+        .in_the_way(parts.items, parts.state, second)
+}
+
+// Whether no index is left.
+fn is_full<B: SecondKey>(keyed: &Keyed<B>) -> bool
+    ensures { (result ≡ true) ↔ IsFull keyed.now.entries.store }
+{
+    let items = keyed.entries.parts().items;
     items.len() == items.limit()
 }
 

@@ -5,10 +5,10 @@ ghost use Rattle.iddqd_c.specs.Entries.{AnswersSecond, FindsMany, FillsAnswers};
 ghost use Rattle.iddqd_c.specs.Held.{ReadsKeyed};
 
 use super::finds::find_second;
-use crate::entry::{Entries, Row};
+use crate::entry::Row;
 use crate::handle::{CTable, put, take};
 use crate::second_key::SecondKey;
-use crate::table::Table;
+use crate::table::{Keyed, Table};
 use iddqd_codes::{HANDLE, OK, SMALL};
 use std::alloc::Global;
 
@@ -41,38 +41,38 @@ fn find_many(table: &Table, seconds: &[u64], rows: &mut [Row]) -> u32
     ensures kept { result ≢ OK → rows.new ≡ rows.old }
 {
     match table {
-        Table::Unique(keyed) => find_all(&keyed.entries, seconds, rows),
-        Table::Shared(keyed) => find_all(&keyed.entries, seconds, rows),
+        Table::Unique(keyed) => find_all(keyed, seconds, rows),
+        Table::Shared(keyed) => find_all(keyed, seconds, rows),
         Table::Index(_) => HANDLE,
     }
 }
 
-fn find_all<B: SecondKey>(entries: &Entries<B>, seconds: &[u64], rows: &mut [Row]) -> u32
-    ensures finds { FindsMany seconds.now result rows.old rows.new entries.now }
+fn find_all<B: SecondKey>(keyed: &Keyed<B>, seconds: &[u64], rows: &mut [Row]) -> u32
+    ensures finds { FindsMany seconds.now result rows.old rows.new keyed.now.entries }
     ensures kept { result ≢ OK → rows.new ≡ rows.old }
 {
     if rows.len() < seconds.len() {
         return SMALL;
     }
-    fill(entries, seconds, rows);
+    fill(keyed, seconds, rows);
     OK
 }
 
 // Writes a row for each of the second keys.
-fn fill<B: SecondKey>(entries: &Entries<B>, seconds: &[u64], rows: &mut [Row])
+fn fill<B: SecondKey>(keyed: &Keyed<B>, seconds: &[u64], rows: &mut [Row])
     requires { length seconds.now ≤ length rows.old }
-    ensures { FillsAnswers (AnswersSecond entries.now) seconds.now rows.old rows.new }
+    ensures { FillsAnswers (AnswersSecond keyed.now.entries) seconds.now rows.old rows.new }
 {
     for at in 0..seconds.len() {
-        rows[at] = answer(entries, seconds[at]);
+        rows[at] = answer(keyed, seconds[at]);
     }
 }
 
 // The row for this second key, or the one for none.
-fn answer<B: SecondKey>(entries: &Entries<B>, second: u64) -> Row
-    ensures { AnswersSecond entries.now second result }
+fn answer<B: SecondKey>(keyed: &Keyed<B>, second: u64) -> Row
+    ensures { AnswersSecond keyed.now.entries second result }
 {
     let mut row = Row::none();
-    find_second(entries, second, &mut row);
+    find_second(keyed, second, &mut row);
     row
 }

@@ -5,9 +5,9 @@ ghost use Rattle.iddqd_c.specs.Entries.{AnswersFirst, AnswersSpan, FindsManyFirs
 ghost use Rattle.iddqd_c.specs.Held.{ReadsKeyed};
 
 use super::finds::find_first;
-use crate::entry::{Entries, Entry, Row};
+use crate::entry::{Entry, Row};
 use crate::handle::{CTable, put, take};
-use crate::table::Table;
+use crate::table::{Keyed, Table};
 use iddqd_codes::{HANDLE, OK, SMALL};
 use iddqd_map::key_index::KeyIndex;
 use std::alloc::Global;
@@ -47,58 +47,58 @@ fn find_many(table: &Table, bytes: &[u8], ends: &[usize], rows: &mut [Row]) -> u
     ensures kept { result ≢ OK → rows.new ≡ rows.old }
 {
     match table {
-        Table::Unique(keyed) => find_all(&keyed.entries, bytes, ends, rows),
-        Table::Shared(keyed) => find_all(&keyed.entries, bytes, ends, rows),
+        Table::Unique(keyed) => find_all(keyed, bytes, ends, rows),
+        Table::Shared(keyed) => find_all(keyed, bytes, ends, rows),
         Table::Index(_) => HANDLE,
     }
 }
 
-fn find_all<B>(entries: &Entries<B>, bytes: &[u8], ends: &[usize], rows: &mut [Row]) -> u32
+fn find_all<B>(keyed: &Keyed<B>, bytes: &[u8], ends: &[usize], rows: &mut [Row]) -> u32
 where
     B: KeyIndex<Entry, RandomState>,
-    ensures finds { FindsManyFirst bytes.now ends.now result rows.old rows.new entries.now }
+    ensures finds { FindsManyFirst bytes.now ends.now result rows.old rows.new keyed.now.entries }
     ensures kept { result ≢ OK → rows.new ≡ rows.old }
 {
     if rows.len() < ends.len() {
         return SMALL;
     }
-    fill(entries, bytes, ends, rows);
+    fill(keyed, bytes, ends, rows);
     OK
 }
 
 // Writes a row for each of the keys that end at these offsets.
-fn fill<B>(entries: &Entries<B>, bytes: &[u8], ends: &[usize], rows: &mut [Row])
+fn fill<B>(keyed: &Keyed<B>, bytes: &[u8], ends: &[usize], rows: &mut [Row])
 where
     B: KeyIndex<Entry, RandomState>,
     requires { length ends.now ≤ length rows.old }
-    ensures { FillsAnswers (AnswersSpan entries.now bytes.now) (spans ends.now) rows.old rows.new }
+    ensures { FillsAnswers (AnswersSpan keyed.now.entries bytes.now) (spans ends.now) rows.old rows.new }
 {
     let mut start = 0;
     for at in 0..ends.len() {
         let end = ends[at];
-        rows[at] = answer(entries, bytes, start, end);
+        rows[at] = answer(keyed, bytes, start, end);
         start = end;
     }
 }
 
 // The row of the item with the first key in this span, or the one for none.
-fn answer<B>(entries: &Entries<B>, bytes: &[u8], start: usize, end: usize) -> Row
+fn answer<B>(keyed: &Keyed<B>, bytes: &[u8], start: usize, end: usize) -> Row
 where
     B: KeyIndex<Entry, RandomState>,
-    ensures { AnswersSpan entries.now bytes.now (start, end) result }
+    ensures { AnswersSpan keyed.now.entries bytes.now (start, end) result }
 {
     if start <= end && end <= bytes.len() {
-        find(entries, &bytes[start..end])
+        find(keyed, &bytes[start..end])
     } else {
         Row::none()
     }
 }
 
 // The row of the item whose first key has these bytes, or the one for none.
-fn find<B: KeyIndex<Entry, RandomState>>(entries: &Entries<B>, key: &[u8]) -> Row
-    ensures { AnswersFirst entries.now key.now result }
+fn find<B: KeyIndex<Entry, RandomState>>(keyed: &Keyed<B>, key: &[u8]) -> Row
+    ensures { AnswersFirst keyed.now.entries key.now result }
 {
     let mut row = Row::none();
-    find_first(entries, key, &mut row);
+    find_first(keyed, key, &mut row);
     row
 }

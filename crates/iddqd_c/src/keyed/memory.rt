@@ -5,9 +5,9 @@ ghost use Rattle.iddqd_hash.specs.Sizes.{most_cells};
 ghost use Rattle.iddqd_c.specs.Entries.{CountsRoom, Reserves, ReservesCells};
 ghost use Rattle.iddqd_c.specs.Held.{ChangesKeyed, ReadsKeyed};
 
-use crate::entry::{Entries, Entry};
+use crate::entry::Entry;
 use crate::handle::{CTable, put, take};
-use crate::table::Table;
+use crate::table::{Keyed, Table};
 use iddqd_codes::{HANDLE, MEMORY, OK};
 use iddqd_map::key_index::Upkeep;
 use std::alloc::{AllocError, Global};
@@ -34,17 +34,17 @@ fn reserve(table: &mut Table, additional: usize) -> u32
     ensures reserves { ChangesKeyed (Reserves additional result) (Some table.old) result (Some table.new) }
 {
     match table {
-        Table::Unique(keyed) => reserve_for(&mut keyed.entries, additional),
-        Table::Shared(keyed) => reserve_for(&mut keyed.entries, additional),
+        Table::Unique(keyed) => reserve_for(keyed, additional),
+        Table::Shared(keyed) => reserve_for(keyed, additional),
         Table::Index(_) => HANDLE,
     }
 }
 
-fn reserve_for<B: Upkeep<Entry, RandomState>>(entries: &mut Entries<B>, additional: usize) -> u32
-    ensures { ReservesCells (λ count. most_cells count + B.most count) additional result entries.old
-        entries.new }
+fn reserve_for<B: Upkeep<Entry, RandomState>>(keyed: &mut Keyed<B>, additional: usize) -> u32
+    ensures { ReservesCells (λ count. most_cells count + B.most count) additional result keyed.old.entries
+        keyed.new.entries }
 {
-    match entries.reserve(additional) {
+    match keyed.entries.reserve(additional) {
         Ok(()) => OK,
         Err(AllocError) => MEMORY,
     }

@@ -2,22 +2,21 @@
 //!
 //! No pointer into the table is held between two calls. A caller goes on from the place of the last row that it got, up
 //! or down.
-ghost use Rattle.std.specs.Prelude.{◌≡◌, ◌≢◌, ◌∷◌, [], ℕ, Option, Some, filter, IfSome, IfNone};
-ghost use Rattle.std.specs.Option.{option_map};
+ghost use Rattle.std.specs.Prelude.{◌≡◌, ◌≢◌, ◌∷◌, [], Some, filter, IfSome, IfNone};
 ghost use Rattle.iddqd_codes.specs.declared.TheConstants.{OK};
-ghost use Rattle.iddqd_ord_map.specs.InOrder.{shown};
 ghost use Rattle.iddqd_c.specs.Held.{ReadsKeyed};
-ghost use Rattle.iddqd_c.specs.Ranges.{WritesRange, GetsFirst, GetsLast, SaysEnd, along, bound_of, ends_behind, is_above, is_below, lies_at, lies_before, lies_behind, lies_between, starts_at};
-ghost use Rattle.iddqd_c.specs.Rows.{FillsRows};
+ghost use Rattle.iddqd_c.specs.Ranges.{WritesRange, GetsFirst, GetsLast, along, bound_of, ends_behind, is_above, is_below, lies_at, lies_before, lies_behind, lies_between, starts_at};
+ghost use Rattle.iddqd_c.specs.Rows.{FillsRows, row_of};
+ghost use Rattle.std.specs.Range.Bound.{bound_map};
 ghost use Rattle.iddqd_c.specs.declared.entry.Direction.TheVariants.{Up, Down};
 
-use crate::entry::{Direction, End, Entries, Entry, IN, OPEN, Row};
+use crate::entry::{BySecond, Direction, End, Entry, IN, OPEN, Row};
 use crate::handle::{CTable, put, take};
-use crate::second_key::SecondKey;
 use crate::table::Table;
 use iddqd::item_index::ItemIndex;
 use iddqd_by_order::ordered_walk::Range;
 use iddqd_codes::{HANDLE, MISSING, OK};
+use iddqd_ord_map::in_order::InOrder;
 use std::alloc::Global;
 use std::ops::Bound;
 
@@ -130,36 +129,32 @@ fn range(
     ensures kept { result ≢ OK → (rows.new ≡ rows.old) × (count.new ≡ count.old) }
 {
     match table {
-        Table::Unique(keyed) => write(&keyed.entries, direction, from, to, rows, count),
-        Table::Shared(keyed) => write(&keyed.entries, direction, from, to, rows, count),
+        Table::Unique(keyed) => {
+            let range = keyed
+                .entries
+                .range_by::<BySecond, _>(bound(from), bound(to));
+            *count = fill(range, direction, from, to, rows);
+            OK
+        }
+        Table::Shared(keyed) => {
+            let range = keyed
+                .entries
+                .range_by::<BySecond, _>(bound(from), bound(to));
+            *count = fill(range, direction, from, to, rows);
+            OK
+        }
         Table::Index(_) => HANDLE,
     }
 }
 
-fn write<B: SecondKey>(
-    entries: &Entries<B>,
-    direction: Direction,
-    from: &End,
-    to: &End,
-    rows: &mut [Row],
-    count: &mut usize,
-) -> u32
-    ensures writes { WritesRange direction from.now to.now result count.new rows.old rows.new entries.now }
-    ensures kept { result ≢ OK → (rows.new ≡ rows.old) × (count.new ≡ count.old) }
-{
-    let range = B::range(entries, bound(from), bound(to));
-    *count = fill(range, direction, from, to, rows);
-    OK
-}
-
 // What an end says of second keys alone.
-fn bound(end: &End) -> Bound<u64>
-    ensures { result ≡ bound_of end.now }
+fn bound(end: &End) -> Bound<&u64>
+    ensures { bound_map (λ second. second.now) result ≡ bound_of end.now }
 {
     if end.side == OPEN {
         Bound::Unbounded
     } else {
-        Bound::Included(end.second)
+        Bound::Included(&end.second)
     }
 }
 
@@ -278,8 +273,14 @@ fn first(table: &Table, row: &mut Row) -> u32
     ensures kept { result ≢ OK → row.new ≡ row.old }
 {
     match table {
-        Table::Unique(keyed) => report(SecondKey::first(&keyed.entries), row),
-        Table::Shared(keyed) => report(SecondKey::first(&keyed.entries), row),
+        Table::Unique(keyed) => match keyed.entries.first_by::<BySecond>() {
+            Some((ix, entry)) => report(ix, entry, row),
+            None => MISSING,
+        },
+        Table::Shared(keyed) => match keyed.entries.first_by::<BySecond>() {
+            Some((ix, entry)) => report(ix, entry, row),
+            None => MISSING,
+        },
         Table::Index(_) => HANDLE,
     }
 }
@@ -307,23 +308,23 @@ fn last(table: &Table, row: &mut Row) -> u32
     ensures kept { result ≢ OK → row.new ≡ row.old }
 {
     match table {
-        Table::Unique(keyed) => report(SecondKey::last(&keyed.entries), row),
-        Table::Shared(keyed) => report(SecondKey::last(&keyed.entries), row),
+        Table::Unique(keyed) => match keyed.entries.last_by::<BySecond>() {
+            Some((ix, entry)) => report(ix, entry, row),
+            None => MISSING,
+        },
+        Table::Shared(keyed) => match keyed.entries.last_by::<BySecond>() {
+            Some((ix, entry)) => report(ix, entry, row),
+            None => MISSING,
+        },
         Table::Index(_) => HANDLE,
     }
 }
 
-// Writes the row of an entry at an end of the order, if there is one.
-fn report(found: Option<(ItemIndex, &Entry)>, row: &mut Row) -> u32
-    ensures says { (finds : Option (ℕ × Entry) → Type 0) → finds (option_map shown found)
-        → SaysEnd finds result row.new }
-    ensures kept { result ≢ OK → row.new ≡ row.old }
+// Writes the row of an entry.
+fn report(ix: ItemIndex, entry: &Entry, row: &mut Row) -> u32
+    ensures done { result ≡ OK }
+    ensures row { row.new ≡ row_of ix entry.now }
 {
-    match found {
-        Some((ix, entry)) => {
-            *row = Row::of(ix, entry);
-            OK
-        }
-        None => MISSING,
-    }
+    *row = Row::of(ix, entry);
+    OK
 }

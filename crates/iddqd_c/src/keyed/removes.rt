@@ -4,10 +4,11 @@ ghost use Rattle.iddqd_codes.specs.declared.TheConstants.{OK};
 ghost use Rattle.iddqd_c.specs.Entries.{RemovesFirst, RemovesSecond, RemovesIndex};
 ghost use Rattle.iddqd_c.specs.Held.{ChangesKeyed};
 
-use crate::entry::{ByFirst, Entries, Entry, Row};
+use super::finds::least;
+use crate::entry::{ByFirst, Entry, Row};
 use crate::handle::{CTable, put, take};
 use crate::second_key::SecondKey;
-use crate::table::Table;
+use crate::table::{Keyed, Table};
 use iddqd::item_index::ItemIndex;
 use iddqd_byte_keys::ByteKeyQuery;
 use iddqd_codes::{HANDLE, MISSING, OK};
@@ -43,19 +44,19 @@ fn remove(table: &mut Table, index: u32, row: &mut Row) -> u32
     ensures kept { result ≢ OK → row.new ≡ row.old }
 {
     match table {
-        Table::Unique(keyed) => remove_at(&mut keyed.entries, ItemIndex::new(index), row),
-        Table::Shared(keyed) => remove_at(&mut keyed.entries, ItemIndex::new(index), row),
+        Table::Unique(keyed) => remove_at(keyed, ItemIndex::new(index), row),
+        Table::Shared(keyed) => remove_at(keyed, ItemIndex::new(index), row),
         Table::Index(_) => HANDLE,
     }
 }
 
-fn remove_at<B>(entries: &mut Entries<B>, ix: ItemIndex, row: &mut Row) -> u32
+fn remove_at<B>(keyed: &mut Keyed<B>, ix: ItemIndex, row: &mut Row) -> u32
 where
     B: Changes<Entry, RandomState>,
-    ensures removes { RemovesIndex ix result row.new entries.old entries.new }
+    ensures removes { RemovesIndex ix result row.new keyed.old.entries keyed.new.entries }
     ensures kept { result ≢ OK → row.new ≡ row.old }
 {
-    match entries.remove_at(ix) {
+    match keyed.entries.remove_at(ix) {
         Some(entry) => {
             *row = Row::of(ix, &entry);
             OK
@@ -93,20 +94,23 @@ fn remove1(table: &mut Table, key: &[u8], row: &mut Row) -> u32
     ensures kept { result ≢ OK → row.new ≡ row.old }
 {
     match table {
-        Table::Unique(keyed) => remove_first(&mut keyed.entries, key, row),
-        Table::Shared(keyed) => remove_first(&mut keyed.entries, key, row),
+        Table::Unique(keyed) => remove_first(keyed, key, row),
+        Table::Shared(keyed) => remove_first(keyed, key, row),
         Table::Index(_) => HANDLE,
     }
 }
 
-fn remove_first<B>(entries: &mut Entries<B>, key: &[u8], row: &mut Row) -> u32
+fn remove_first<B>(keyed: &mut Keyed<B>, key: &[u8], row: &mut Row) -> u32
 where
     B: Changes<Entry, RandomState>,
-    ensures removes { RemovesFirst key.now result row.new entries.old entries.new }
+    ensures removes { RemovesFirst key.now result row.new keyed.old.entries keyed.new.entries }
     ensures kept { result ≢ OK → row.new ≡ row.old }
 {
-    match entries.find_by::<ByFirst, _>(ByteKeyQuery { bytes: key }) {
-        Some(ix) => remove_at(entries, ix, row),
+    match keyed
+        .entries
+        .find_by::<ByFirst, _>(ByteKeyQuery { bytes: key })
+    {
+        Some(ix) => remove_at(keyed, ix, row),
         None => MISSING,
     }
 }
@@ -140,18 +144,18 @@ fn remove2(table: &mut Table, second: u64, row: &mut Row) -> u32
     ensures kept { result ≢ OK → row.new ≡ row.old }
 {
     match table {
-        Table::Unique(keyed) => remove_second(&mut keyed.entries, second, row),
-        Table::Shared(keyed) => remove_second(&mut keyed.entries, second, row),
+        Table::Unique(keyed) => remove_second(keyed, second, row),
+        Table::Shared(keyed) => remove_second(keyed, second, row),
         Table::Index(_) => HANDLE,
     }
 }
 
-fn remove_second<B: SecondKey>(entries: &mut Entries<B>, second: u64, row: &mut Row) -> u32
-    ensures removes { RemovesSecond second result row.new entries.old entries.new }
+fn remove_second<B: SecondKey>(keyed: &mut Keyed<B>, second: u64, row: &mut Row) -> u32
+    ensures removes { RemovesSecond second result row.new keyed.old.entries keyed.new.entries }
     ensures kept { result ≢ OK → row.new ≡ row.old }
 {
-    match B::least(entries, second) {
-        Some(ix) => remove_at(entries, ix, row),
+    match least(keyed, second) {
+        Some(ix) => remove_at(keyed, ix, row),
         None => MISSING,
     }
 }

@@ -11,11 +11,11 @@ ghost use Rattle.iddqd_c.specs.Held.{ChangesEach};
 ghost use Rattle.iddqd_c.specs.Replacing.{Replaces};
 ghost use Rattle.iddqd_c.specs.declared.entry.Entry.{Entry};
 
-use super::inserts::conflict_of;
-use crate::entry::{ByFirst, Conflict, Entries, Entry};
+use super::inserts::{conflict_of, in_the_way};
+use crate::entry::{ByFirst, Conflict, Entry};
 use crate::handle::{CTable, put, take};
 use crate::second_key::SecondKey;
-use crate::table::Table;
+use crate::table::{Keyed, Table};
 use iddqd::item_index::ItemIndex;
 use iddqd_byte_keys::{ByteKey, ByteKeyQuery};
 use iddqd_codes::{DUPLICATE, HANDLE, MEMORY, MISSING, OK};
@@ -65,15 +65,15 @@ fn replace(
 {
     let ix = ItemIndex::new(index);
     match table {
-        Table::Unique(keyed) => rebind(&mut keyed.entries, alloc, ix, key, second, value, found),
-        Table::Shared(keyed) => rebind(&mut keyed.entries, alloc, ix, key, second, value, found),
+        Table::Unique(keyed) => rebind(keyed, alloc, ix, key, second, value, found),
+        Table::Shared(keyed) => rebind(keyed, alloc, ix, key, second, value, found),
         Table::Index(_) => HANDLE,
     }
 }
 
 // The replacement in entries whose second keys go by `B`.
 fn rebind<B: SecondKey + Moves<Entry, RandomState>>(
-    entries: &mut Entries<B>,
+    keyed: &mut Keyed<B>,
     alloc: Global,
     ix: ItemIndex,
     key: &[u8],
@@ -81,14 +81,19 @@ fn rebind<B: SecondKey + Moves<Entry, RandomState>>(
     value: u64,
     found: &mut Conflict,
 ) -> u32
-    ensures replaces { Replaces B.taken ix key.now second value result found.new entries.old entries.new }
+    ensures replaces { Replaces B.taken ix key.now second value result found.new keyed.old.entries keyed.new.entries }
     ensures found_kept { result ≢ DUPLICATE → found.new ≡ found.old }
 {
-    if entries.get_at(ix).is_none() {
+    if keyed.entries.get_at(ix).is_none() {
         return MISSING;
     }
-    let first_at = other_than(ix, entries.find_by::<ByFirst, _>(ByteKeyQuery { bytes: key }));
-    let second_at = other_than(ix, B::in_the_way(entries, second));
+    let first_at = other_than(
+        ix,
+        keyed
+            .entries
+            .find_by::<ByFirst, _>(ByteKeyQuery { bytes: key }),
+    );
+    let second_at = other_than(ix, in_the_way(keyed, second));
     if first_at.is_some() || second_at.is_some() {
         *found = conflict_of(first_at, second_at);
         return DUPLICATE;
@@ -101,7 +106,7 @@ fn rebind<B: SecondKey + Moves<Entry, RandomState>>(
         second,
         value,
     };
-    match entries.replace_at(ix, new) {
+    match keyed.entries.replace_at(ix, new) {
         Ok(_was) => OK,
         // The index is live, and no other item stands in the way, so no other reason is left.
         Err(_refusal) => MEMORY,

@@ -3,10 +3,10 @@ ghost use Rattle.std.specs.Prelude.{◌≡◌, ◌≢◌, Some};
 ghost use Rattle.iddqd_c.specs.Entries.{SaysSound};
 ghost use Rattle.iddqd_c.specs.Held.{ReadsEach};
 
-use crate::entry::{Entries, Entry};
+use crate::entry::Entry;
 use crate::handle::{CTable, put, take};
 use crate::second_key::SecondKey;
-use crate::table::Table;
+use crate::table::{Keyed, Table};
 use iddqd::internal::{ValidateCompact, ValidateRefusal};
 use iddqd_codes::{HANDLE, MEMORY, OK, UNSOUND};
 use iddqd_map::key_index::Upkeep;
@@ -38,18 +38,18 @@ fn validate(table: &Table) -> u32
     ensures says { ReadsEach (λ taken. SaysSound taken result) (Some table.now) result }
 {
     match table {
-        Table::Unique(keyed) => check(&keyed.entries),
-        Table::Shared(keyed) => check(&keyed.entries),
+        Table::Unique(keyed) => check(keyed),
+        Table::Shared(keyed) => check(keyed),
         Table::Index(_) => HANDLE,
     }
 }
 
-fn check<B: SecondKey + Upkeep<Entry, RandomState>>(entries: &Entries<B>) -> u32
-    ensures { SaysSound B.taken result entries.now }
+fn check<B: SecondKey + Upkeep<Entry, RandomState>>(keyed: &Keyed<B>) -> u32
+    ensures { SaysSound B.taken result keyed.now.entries }
 {
     // Its contract has what every map keeps, which that of the check lacks.
-    let _count = entries.len();
-    match entries.validate(ValidateCompact::NonCompact) {
+    let _count = keyed.entries.len();
+    match keyed.entries.validate(ValidateCompact::NonCompact) {
         Ok(()) => OK,
         Err(ValidateRefusal::Invalid(_)) => UNSOUND,
         Err(ValidateRefusal::Memory(_)) => MEMORY,

@@ -3,9 +3,9 @@ ghost use Rattle.std.specs.Prelude.{◌≡◌, ◌≢◌, Some};
 ghost use Rattle.iddqd_c.specs.Entries.{SetsValue, with_value};
 ghost use Rattle.iddqd_c.specs.Held.{ChangesKeyed};
 
-use crate::entry::{Entries, Entry};
+use crate::entry::Entry;
 use crate::handle::{CTable, put, take};
-use crate::table::Table;
+use crate::table::{Keyed, Table};
 use iddqd::item_index::ItemIndex;
 use iddqd_codes::{HANDLE, MISSING, OK};
 use iddqd_map::key_index::IndexLaws;
@@ -37,23 +37,19 @@ fn set_value(table: &mut Table, index: u32, value: u64) -> u32
     ensures sets { ChangesKeyed (SetsValue index value result) (Some table.old) result (Some table.new) }
 {
     match table {
-        Table::Unique(keyed) => set(&mut keyed.entries, ItemIndex::new(index), value),
-        Table::Shared(keyed) => set(&mut keyed.entries, ItemIndex::new(index), value),
+        Table::Unique(keyed) => set(keyed, ItemIndex::new(index), value),
+        Table::Shared(keyed) => set(keyed, ItemIndex::new(index), value),
         Table::Index(_) => HANDLE,
     }
 }
 
-fn set<B: IndexLaws<Entry, RandomState>>(
-    entries: &mut Entries<B>,
-    ix: ItemIndex,
-    value: u64,
-) -> u32
-    ensures { SetsValue ix value result entries.old entries.new }
+fn set<B: IndexLaws<Entry, RandomState>>(keyed: &mut Keyed<B>, ix: ItemIndex, value: u64) -> u32
+    ensures { SetsValue ix value result keyed.old.entries keyed.new.entries }
 {
     let change = |entry: &mut Entry|
         ensures { entry.new ≡ with_value entry.old value }
     { entry.value = value };
-    match entries.modify_at(ix, change) {
+    match keyed.entries.modify_at(ix, change) {
         Some(()) => OK,
         None => MISSING,
     }
