@@ -1,4 +1,5 @@
 mod Words
+pub mod AnswerLemmas
 pub mod CopyLemmas
 pub mod ManyLemmas
 pub mod CompactingLemmas

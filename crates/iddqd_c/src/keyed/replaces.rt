@@ -81,7 +81,7 @@ fn rebind<B: SecondKey + Moves<Entry, RandomState>>(
     value: u64,
     found: &mut Conflict,
 ) -> u32
-    ensures replaces { Replaces B.taken ix key.now second value result found.new keyed.old.entries keyed.new.entries }
+    ensures replaces { Replaces B.SecondKey.taken ix key.now second value result found.new keyed.old.entries keyed.new.entries }
     ensures found_kept { result ≢ DUPLICATE → found.new ≡ found.old }
 {
     if keyed.entries.get_at(ix).is_none() {
@@ -117,8 +117,6 @@ fn rebind<B: SecondKey + Moves<Entry, RandomState>>(
 fn other_than(ix: ItemIndex, found: Option<ItemIndex>) -> Option<ItemIndex>
     ensures { (s : Store Entry) (test : Entry → Bool) → AnswersScan s test found → AnswersOther s test ix result }
 {
-    match found {
-        Some(at) if at != ix => Some(at),
-        _ => None,
-    }
+    let at = found?;
+    if at == ix { None } else { Some(at) }
 }
