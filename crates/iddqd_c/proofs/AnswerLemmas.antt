@@ -2,9 +2,9 @@
 use Rattle.std.proofs.Common.{◌≡◌, ◌≢◌, ◌⊎◌, ◌∙◌, ◌+◌, ◌≤◌, ℕ, Bool, true, false, List, Option, Some, None, IsSome, inl, inr, refl, sym, ap, subst, arith, true≢false}
 use Rattle.std.specs.Prelude.{◌||◌}
 use Rattle.std.specs.Str.{bytes_eq}
-use Rattle.iddqd.specs.Store.{Store, get}
+use Rattle.iddqd.specs.Store.{Store, get, live_count}
 use Rattle.iddqd_hash.specs.Sizes.{most_cells}
-use Rattle.iddqd_keys.specs.Scan.{AnswersScan, HasNoHit, IsHit}
+use Rattle.iddqd_keys.specs.Scan.{AnswersScan, AreApart, HasNoHit, IsHit}
 use Rattle.iddqd_map.specs.Map.{RemovesHit, RemovesAt}
 use Rattle.iddqd_map.specs.Memory.{MakesRoom}
 use Rattle.iddqd_map.specs.PairConflict.{Reports}
@@ -67,7 +67,8 @@ module _ (ix code : ℕ) (row : Row) where
   removes_second second old new (hit, least) (Some entry, says, removes) =
       inl (says.0, (ix, (entry, record { live = removes.0; hit = hit; least = least }, says.1, removes)))
   removes_second second old new (hit, least) (None, says, removes) =
-      let both : Some hit.0 ≡ None = sym hit.1.0 ∙ removes.0 in
+      let (entry, live, passes) = hit in
+      let both : Some entry ≡ None = sym live ∙ removes.0 in
       cc
 
 -- a table that stayed took no memory
@@ -84,13 +85,15 @@ takes_none old new same = subst (TakesMemory old) (sym same) (record {
 pub takes_hashed :
     (old new : Items) (grown : ℕ → ℕ) → ((count : ℕ) → grown count ≡ 0)
     → MakesRoom (λ n. most_cells n + grown n) old new.memory → TakesMemory old new
-takes_hashed old new grown none takes = record {
-  had_room = takes.had_room;
-  slots_at_least = takes.slots_at_least;
-  capacity_at_least = takes.capacity_at_least;
-  few_slots = takes.few_slots;
-  few_cells = omega (arith, takes.few_cells, none _);
-}
+takes_hashed old new grown none takes =
+    let zero : grown (live_count old.store + 1) ≡ 0 = none (live_count old.store + 1) in
+    record {
+      had_room = takes.had_room;
+      slots_at_least = takes.slots_at_least;
+      capacity_at_least = takes.capacity_at_least;
+      few_slots = takes.few_slots;
+      few_cells = omega (arith, takes.few_cells, zero);
+    }
 
 or_first : (a b : Bool) → a ≡ true → (a || b) ≡ true
 or_first true b is = refl
@@ -118,6 +121,13 @@ module _ (taken : Taken) (alike : Entry → Entry → Bool) (same : (x y : Entry
   new_second s entry none ix (other, live, passes) =
       none ix (other, live, or_second _ _ (same entry other ∙ passes))
 
+  -- and of entries of which no two share a unique key
+  pub apart_first : (s : Store Entry) → AreApart (either_key alike_first alike) s → AreApart (λ x. has_first x.first.bytes.items) s
+  apart_first s apart i j x y at_i at_j shared = apart i j x y at_i at_j (or_first _ _ shared)
+
+  pub apart_second : (s : Store Entry) → AreApart (either_key alike_first alike) s → AreApart (λ x. taken x.second) s
+  apart_second s apart i j x y at_i at_j shared = apart i j x y at_i at_j (or_second _ _ (same x y ∙ shared))
+
 -- what the table of hashes reports of an entry is what a scan for its first key answers
 pub scans_first :
     (s : Store Entry) (entry : Entry) (at : Option ℕ)
@@ -125,3 +135,8 @@ pub scans_first :
     → AnswersScan s (has_first entry.first.bytes.items) at
 scans_first s entry None none = none
 scans_first s entry (Some ix) scan = scan
+
+-- what a scan answers has the least index of all that pass, since no other passes
+pub scan_least : (s : Store Entry) (test : Entry → Bool) (r : Option ℕ) → AnswersScan s test r → FindsLeast s test r
+scan_least s test None none = none
+scan_least s test (Some ix) scan = ((scan ix).1 refl, λ j hit. (let here : j ≡ ix = (scan j).0 hit in omega (arith, here)))

@@ -240,6 +240,7 @@ module _ (taken : Taken) where
         pub not_full : IsFull old.store → ⊥
         pub index : at ≡ next_index old.store
         pub stored : new.store ≡ inserted old.store entry
+        pub live : get new.store at ≡ Some entry
 
       -- What an insert answers and leaves, by its code. A duplicate is reported before a full table, and both even
       -- where there is no memory.

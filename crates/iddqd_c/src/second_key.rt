@@ -45,10 +45,13 @@ pub trait SecondKey: Changes<Entry, RandomState> {
         requires indexed { Self.KeyIndex.indexes self.now state.now items.now.store }
         ensures { FindsLeast items.now.store (has_second second) result };
 
-    // An entry is refused by its second key as `taken` says, and the table of second keys takes no cells for an insert.
+    // An entry is refused by its second key as `taken` says, the table of second keys takes no cells for an insert, and
+    // it files an entry by no more than its second key.
     ghost alike_is_taken: { (x y : Entry) → Self.KeyIndex.alike x y ≡ taken x.second y };
 
     ghost grows_by_none: { (count : ℕ) → Self.KeyIndex.grown count ≡ 0 };
+
+    ghost files_by_second: { (x y : Entry) → x.second ≡ y.second → Self.KeyIndex.keys x ≡ Self.KeyIndex.keys y };
 }
 
 impl SecondKey for Unique {
@@ -83,6 +86,8 @@ impl SecondKey for Unique {
     ghost alike_is_taken = { λ x y. refl };
 
     ghost grows_by_none = { λ count. refl };
+
+    ghost files_by_second = { λ x y same. same };
 }
 
 impl SecondKey for Shared {
@@ -117,4 +122,6 @@ impl SecondKey for Shared {
     ghost alike_is_taken = { λ x y. refl };
 
     ghost grows_by_none = { λ count. refl };
+
+    ghost files_by_second = { λ x y same. same };
 }

@@ -20,9 +20,11 @@ use crate::table::{Keyed, Table};
 use iddqd::item_index::ItemIndex;
 use iddqd_byte_keys::{ByteKey, ByteKeyQuery};
 use iddqd_codes::{DUPLICATE, FULL, HANDLE, MEMORY, OK};
+use iddqd_map::key_index::IndexLaws;
 use iddqd_map::pair_conflict::PairConflict;
 use iddqd_map::refusal::InsertRefusal;
 use std::alloc::Global;
+use std::hash::RandomState;
 
 /// Inserts an item with a copy of the key, if no item stands in its way, and writes its index. For a duplicate it
 /// writes the indexes of the items that stand in its way.
@@ -76,7 +78,7 @@ fn insert(
 }
 
 // The insert into entries whose second keys go by `B`.
-fn store<B: SecondKey>(
+fn store<B: SecondKey + IndexLaws<Entry, RandomState>>(
     keyed: &mut Keyed<B>,
     alloc: Global,
     key: &[u8],
@@ -98,6 +100,8 @@ fn store<B: SecondKey>(
         second,
         value,
     };
+    // Its contract has that the store is valid, which that of the insert lacks.
+    let _count = keyed.entries.len();
     match keyed.entries.insert_unique(new) {
         Ok(ix) => {
             *at = ix.as_u32();
@@ -126,7 +130,7 @@ fn report<B: SecondKey>(
 }
 
 // Why an item can't be inserted for whose first key there is no memory.
-fn without_copy<B: SecondKey>(
+fn without_copy<B: SecondKey + IndexLaws<Entry, RandomState>>(
     keyed: &Keyed<B>,
     key: &[u8],
     second: u64,
@@ -161,11 +165,10 @@ pub(super) fn in_the_way<B: SecondKey>(keyed: &Keyed<B>, second: u64) -> Option<
 }
 
 // Whether no index is left.
-fn is_full<B: SecondKey>(keyed: &Keyed<B>) -> bool
+fn is_full<B: IndexLaws<Entry, RandomState>>(keyed: &Keyed<B>) -> bool
     ensures { (result ≡ true) ↔ IsFull keyed.now.entries.store }
 {
-    let items = keyed.entries.parts().items;
-    items.len() == items.limit()
+    keyed.entries.len() == keyed.entries.parts().items.limit()
 }
 
 // The index that the map reports by the second key of an item, if it reports one.

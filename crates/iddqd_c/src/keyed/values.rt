@@ -5,6 +5,7 @@ ghost use Rattle.iddqd_c.specs.Held.{ChangesKeyed};
 
 use crate::entry::Entry;
 use crate::handle::{CTable, put, take};
+use crate::second_key::SecondKey;
 use crate::table::{Keyed, Table};
 use iddqd::item_index::ItemIndex;
 use iddqd_codes::{HANDLE, MISSING, OK};
@@ -43,7 +44,11 @@ fn set_value(table: &mut Table, index: u32, value: u64) -> u32
     }
 }
 
-fn set<B: IndexLaws<Entry, RandomState>>(keyed: &mut Keyed<B>, ix: ItemIndex, value: u64) -> u32
+fn set<B: SecondKey + IndexLaws<Entry, RandomState>>(
+    keyed: &mut Keyed<B>,
+    ix: ItemIndex,
+    value: u64,
+) -> u32
     ensures { SetsValue ix value result keyed.old.entries keyed.new.entries }
 {
     let change = |entry: &mut Entry|

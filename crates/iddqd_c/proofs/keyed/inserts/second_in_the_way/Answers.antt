@@ -9,4 +9,4 @@ returns-in-Some-clause-answers g c s entry reports =
 pub returns-in-None-clause-answers : goal.returns-in-None-clause-answers
 returns-in-None-clause-answers g c s entry reports ix (other, live, passes) =
     let none = subst (Reports g.B.KeyIndex.alike g.B.Changes.conflicts s entry) (sym c.in-None.ensures) reports in
-    none ix (other, live, g.B.SecondKey.alike_is_taken entry other ∙ passes)
+    none ix (other, live, g.met.B.SecondKey.alike_is_taken entry other ∙ passes)

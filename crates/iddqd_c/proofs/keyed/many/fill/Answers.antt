@@ -5,15 +5,15 @@ use Rattle.iddqd_c.proofs.ManyLemmas.{IsAnswered-start, IsAnswered-step, answere
 use Rattle.iddqd_c.proofs.keyed.many.fill.Goals as goal
 
 pub loop-at-init : goal.loop-at-init
-loop-at-init c = IsAnswered-start _ _ _
+loop-at-init g c = IsAnswered-start _ _ _
 
 pub loop-at-preserved : goal.loop-at-preserved
-loop-at-preserved c =
+loop-at-preserved g c =
     IsAnswered-step (AnswersSecond c.args.keyed.now.entries) c.args.seconds.now c.loop-at.at c.args.rows.now c.loop-at.rows
     0 c.answer.result c.loop-at.invariant c.loop-at-test.true (omega (arith, c.loop-at-test.true, c.requires)) c.answer.ensures
 
 pub returns : goal.returns
-returns c =
+returns g c =
     let is = c.loop-at.invariant in
     let end : c.loop-at.at ≡ length c.args.seconds.now = omega (arith, c.loop-at.auto.at-end, c.loop-at-test.false) in
     record {

@@ -5,7 +5,7 @@ use Rattle.iddqd_c.proofs.ManyLemmas.{IsAnswered-step, answered_all, length-span
 use Rattle.iddqd_c.proofs.keyed.many_first.fill.Goals as goal
 
 pub loop-at-preserved : goal.loop-at-preserved
-loop-at-preserved c =
+loop-at-preserved g c =
     let ends = c.args.ends.now in
     let at = c.loop-at.at in
     let now = c.loop-at.rows in
@@ -18,7 +18,7 @@ loop-at-preserved c =
     )
 
 pub returns : goal.returns
-returns c =
+returns g c =
     let is = c.loop-at.invariant.0 in
     let asked = spans c.args.ends.now in
     let answers = AnswersSpan c.args.keyed.now.entries c.args.bytes.now in
