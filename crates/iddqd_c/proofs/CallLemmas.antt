@@ -1,5 +1,5 @@
 -- What a look-up and an insert answer of one first key, one after the other.
-use Rattle.std.proofs.Common.{◌≡◌, ◌≢◌, ◌×◌, ◌∙◌, ℕ, Bool, List, Option, Some, None, inl, inr, refl, sym, ap, subst, arith}
+use Rattle.std.proofs.Common.{◌≡◌, ◌≢◌, ◌∙◌, ℕ, Bool, List, Option, Some, None, inl, inr, refl, sym, ap, subst, arith}
 use Rattle.std.specs.Str.{bytes_eq}
 use Rattle.std.specs.Cmp.Lexicographic.{bytes_decides}
 use Rattle.iddqd.specs.Store.{get}
@@ -69,7 +69,7 @@ module _ (bytes : List ℕ) (second value looked done at : ℕ) (row : Row) (con
       found_held old new ok finds (subst (λ h. ChangesEach (λ taken. InsertsAt taken bytes second value done at conflict) h done new) same inserts)
 
   -- what was inserted is found
-  IsInserted : Type 0
+  abbrev pub IsInserted : Type 0
   IsInserted = (looked ≡ OK) × (row ≡ record { second = second; value = value; index = at })
 
   inserted_here : (taken : Taken) (old new : Items)
@@ -86,10 +86,10 @@ module _ (bytes : List ℕ) (second value looked done at : ℕ) (row : Row) (con
       by_look : FindsFirst bytes looked row new → IsHit new.store (has_first bytes) at → (entry : Entry) → get new.store at ≡ Some entry
           → entry.second ≡ second → entry.value ≡ value → IsInserted
       by_look (inr (missed, none)) hit entry live has_second has_value = absurd (none at hit)
-      by_look (inl (done, (ix, (found, only, is_row)))) hit entry live has_second has_value =
+      by_look (inl (done, (ix, (first, only, is_row)))) hit entry live has_second has_value =
           let there : at ≡ ix = (only.only at).0 hit in
-          let both : Some found ≡ Some entry = sym only.live ∙ ap (get new.store) (sym there) ∙ live in
-          let same : found ≡ entry = cc in
+          let both : Some first ≡ Some entry = sym only.live ∙ ap (get new.store) (sym there) ∙ live in
+          let same : first ≡ entry = cc in
           (done, is_row ∙ (λ i. record { second = (ap (λ (e : Entry). e.second) same ∙ has_second) i; value = (ap (λ (e : Entry). e.value) same ∙ has_value) i; index = sym there i }))
   inserted_here taken old new ok (inr (inl refused)) looks = absurd (omega (arith, ok, refused.0))
   inserted_here taken old new ok (inr (inr (inl refused))) looks = absurd (omega (arith, ok, refused.0))

@@ -114,7 +114,7 @@ impl SecondKey for Shared {
         match StepsAt::<Here, &u64, Entry, RandomState>::first_between(
             self, items, state, from, to,
         ) {
-            Some((ix, _)) => Some(ix),
+            Some(at) => Some(at.0),
             None => None,
         }
     }

@@ -274,11 +274,11 @@ fn first(table: &Table, row: &mut Row) -> u32
 {
     match table {
         Table::Unique(keyed) => match keyed.entries.first_by::<BySecond>() {
-            Some((ix, entry)) => report(ix, entry, row),
+            Some(at) => report(at.0, at.1, row),
             None => MISSING,
         },
         Table::Shared(keyed) => match keyed.entries.first_by::<BySecond>() {
-            Some((ix, entry)) => report(ix, entry, row),
+            Some(at) => report(at.0, at.1, row),
             None => MISSING,
         },
         Table::Index(_) => HANDLE,
@@ -309,11 +309,11 @@ fn last(table: &Table, row: &mut Row) -> u32
 {
     match table {
         Table::Unique(keyed) => match keyed.entries.last_by::<BySecond>() {
-            Some((ix, entry)) => report(ix, entry, row),
+            Some(at) => report(at.0, at.1, row),
             None => MISSING,
         },
         Table::Shared(keyed) => match keyed.entries.last_by::<BySecond>() {
-            Some((ix, entry)) => report(ix, entry, row),
+            Some(at) => report(at.0, at.1, row),
             None => MISSING,
         },
         Table::Index(_) => HANDLE,

@@ -1,6 +1,9 @@
-use Rattle.std.proofs.Common.{rules, ◌⊎◌, inl, inr, IsSome, refl, sym}
+use Rattle.std.proofs.Common.{rules, ◌⊎◌, false, inl, inr, IsSome, refl, sym}
+use Rattle.std.specs.Prelude.{◌||◌}
 use Rattle.iddqd_keys.specs.Scan.{IsLive}
-use Rattle.iddqd_c.proofs.ReplaceLemmas.{alone, stays}
+use Rattle.iddqd_map.specs.Several.{both_keys, either_key}
+use Rattle.iddqd_c.proofs.AnswerLemmas.{alike_first}
+use Rattle.iddqd_c.proofs.ReplaceLemmas.{alone, stays, taken_both}
 use Rattle.iddqd_c.proofs.keyed.replaces.rebind.Goals as goal
 use Rattle.iddqd_c.proofs.keyed.replaces.rebind.Goals.{then-is_some-via-then-is_some, then-is_some-via-else-is_some+then-is_some-2}
 
@@ -65,5 +68,7 @@ returns-in-Err-clause-replaces g c =
       refl,
       alone _ c.args.ix c.args.key.now c.args.second c.args.keyed.now.entries _ _ live (sym c.if-is_some.ensures) (sym c.if-is_some-2.ensures)
           (c.other_than-first_at.ensures store _ c.find_by.ensures) (c.other_than-second_at.ensures store _ c.in_the_way.ensures),
-      stays _ _ _ _ c.args.keyed.now.entries c.replace_at.new.self c.args.ix _ c.in-Err._refusal c.in-Err.ensures.replaces,
+      stays (either_key alike_first g.B.KeyIndex.alike) (both_keys alike_first g.B.KeyIndex.same_keys)
+          (false || g.B.KeyIndex.may_need_memory)
+          (taken_both g.B.KeyIndex.alike g.B.Moves.taken) c.args.keyed.now.entries c.replace_at.new.self c.args.ix _ c.in-Err._refusal c.in-Err.ensures.replaces,
     )))
