@@ -1,19 +1,18 @@
 -- What functions on entries answer, from what the calls of the map answer.
-use Rattle.std.proofs.Common.{◌≡◌, ◌≢◌, ◌⊎◌, ◌∙◌, ◌+◌, ◌≤◌, ℕ, Bool, true, false, List, Option, Some, None, IsSome, inl, inr, refl, sym, ap, subst, arith, true≢false}
+use Rattle.std.proofs.Common.{◌≡◌, ◌∙◌, ◌+◌, ℕ, Bool, true, false, List, Option, Some, None, inl, refl, sym, subst, arith, true≢false}
 use Rattle.std.specs.Prelude.{◌||◌}
 use Rattle.std.specs.Str.{bytes_eq}
 use Rattle.iddqd.specs.Store.{Store, get, live_count}
 use Rattle.iddqd_hash.specs.Sizes.{most_cells}
-use Rattle.iddqd_keys.specs.Scan.{AnswersScan, AreApart, HasNoHit, IsHit}
-use Rattle.iddqd_map.specs.Map.{RemovesHit, RemovesAt}
+use Rattle.iddqd_keys.specs.Scan.{AnswersScan, AreApart, HasNoHit}
+use Rattle.iddqd_map.specs.Map.{RemovesHit}
 use Rattle.iddqd_map.specs.Memory.{MakesRoom}
 use Rattle.iddqd_map.specs.PairConflict.{Reports}
 use Rattle.iddqd_map.specs.Several.{either_key}
-use Rattle.iddqd_codes.specs.declared.TheConstants.{OK, MISSING}
-use Rattle.iddqd_c.specs.Entries.{FindsFirst, FindsLeast, FindsSecond, IsLeast, RemovesFirst, RemovesIndex, RemovesSecond, TakesMemory}
+use Rattle.iddqd_c.specs.Entries.{FindsFirst, FindsLeast, FindsSecond, RemovesFirst, RemovesIndex, RemovesSecond, TakesMemory}
 use Rattle.iddqd_c.specs.Held.{Items, Taken}
 use Rattle.iddqd_c.specs.Keys.{has_first, has_second}
-use Rattle.iddqd_c.specs.Rows.{SaysRow, row_of}
+use Rattle.iddqd_c.specs.Rows.{SaysRow}
 use Rattle.iddqd_c.specs.declared.entry.Entry.{Entry}
 use Rattle.iddqd_c.specs.declared.entry.Row.{Row}
 

@@ -1,5 +1,5 @@
 -- The first entry in the order of second keys among those that have one of them: the one with the least index.
-use Rattle.std.proofs.Common.{◌≡◌, ◌≢◌, ◌∙◌, ◌<◌, ◌≤◌, inl, inr, ℕ, Bool, true, Option, Some, None, refl, sym, ap, subst, arith}
+use Rattle.std.proofs.Common.{◌≡◌, ◌≢◌, ◌∙◌, ◌<◌, inl, inr, ℕ, true, Option, Some, None, refl, sym, ap, arith}
 use Rattle.std.specs.Prelude.{◌&&◌, not}
 use Rattle.std.specs.Option.{option_cmp, option_map}
 use Rattle.std.specs.Ordering.{is_eq, is_gt, is_lt, nat_cmp, ordering_then}
@@ -8,7 +8,7 @@ use Rattle.std.specs.declared.cmp.Ordering.TheVariants.{Less, Equal, Greater}
 use Rattle.std.specs.declared.ops.Bound.TheVariants.{Included}
 use Rattle.std.proofs.lemmas.Bool.{cases_lt}
 use Rattle.std.proofs.lemmas.Cmp.{ranked}
-use Rattle.iddqd.specs.Store.{Store, get}
+use Rattle.iddqd.specs.Store.{Store}
 use Rattle.iddqd_keys.specs.KeyWalk.{ComesBefore, IsFirstHit}
 use Rattle.iddqd_keys.specs.OrderedQuery.{is_within}
 use Rattle.iddqd_keys.specs.Scan.{IsHit, itself}

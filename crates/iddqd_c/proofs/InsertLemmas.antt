@@ -1,7 +1,6 @@
 -- What an insert answers, from what the map answers.
-use Rattle.std.proofs.Common.{◌≡◌, ◌⊎◌, ◌+◌, ◌∙◌, ℕ, Bool, List, Option, Some, IsSome, Err, inl, inr, refl, sym, subst}
+use Rattle.std.proofs.Common.{◌≡◌, ◌⊎◌, ℕ, Bool, List, Some, Err, inl, inr, subst}
 use Rattle.iddqd.specs.Store.{Store}
-use Rattle.iddqd_hash.specs.Sizes.{most_cells}
 use Rattle.iddqd_keys.specs.Scan.{AnswersScan, HasNoHit}
 use Rattle.iddqd_map.specs.Calls.{Inserts}
 use Rattle.iddqd_map.specs.PairConflict.{ReportBoth, first_of, second_of}

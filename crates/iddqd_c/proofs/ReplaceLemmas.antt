@@ -1,5 +1,5 @@
 -- What a replacement answers, from what look-ups and the map answer.
-use Rattle.std.proofs.Common.{◌≡◌, ◌≢◌, ◌⊎◌, ◌∙◌, ℕ, Bool, false, List, Option, Some, None, IsSome, is_some, Err, inl, inr, refl, sym, subst, true≢false}
+use Rattle.std.proofs.Common.{◌≡◌, ◌≢◌, ℕ, Bool, false, List, Option, Some, None, is_some, Err, true≢false}
 use Rattle.iddqd.specs.Store.{Store}
 use Rattle.iddqd_keys.specs.Scan.{AnswersScan, IsLive}
 use Rattle.iddqd_map.specs.Calls.{ReplacesIfLive}

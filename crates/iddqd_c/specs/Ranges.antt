@@ -1,5 +1,5 @@
 -- The entries in the order of their second keys and then of their indexes, between two ends, by buffers.
-use Rattle.std.specs.Prelude.{◌≡◌, ◌⊎◌, ◌==◌, ◌&&◌, ◌||◌, ℕ, Bool, List, Option, Some, None, filter, reverse, nat_le, nat_lt, if◌then◌else◌}
+use Rattle.std.specs.Prelude.{◌≡◌, ◌⊎◌, ◌==◌, ◌&&◌, ◌||◌, ℕ, Bool, List, Option, Some, None, filter, reverse, nat_lt, if◌then◌else◌}
 use Rattle.std.specs.declared.ops.Bound.{Bound}
 use Rattle.std.specs.declared.ops.Bound.TheVariants.{Included, Unbounded}
 use Rattle.iddqd.specs.Store.{sentinel}

@@ -1,5 +1,5 @@
 -- What the replacement of an entry by one with other keys answers and leaves.
-use Rattle.std.specs.Prelude.{◌≡◌, ◌⊎◌, ℕ, List, Option, None, Some, IsSome}
+use Rattle.std.specs.Prelude.{◌≡◌, ◌⊎◌, ℕ, List, Option, None, IsSome}
 use Rattle.iddqd.specs.Store.{get, rebound}
 use Rattle.iddqd_keys.specs.Scan.{IsLive}
 use Rattle.iddqd_map.specs.Several.{AnswersOther, HasNoOther}

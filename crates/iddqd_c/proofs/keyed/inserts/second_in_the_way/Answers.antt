@@ -1,4 +1,4 @@
-use Rattle.std.proofs.Common.{◌∙◌, Some, None, sym, subst}
+use Rattle.std.proofs.Common.{◌∙◌, sym, subst}
 use Rattle.iddqd_map.specs.PairConflict.{Reports}
 use Rattle.iddqd_c.proofs.keyed.inserts.second_in_the_way.Goals as goal
 

@@ -1,4 +1,4 @@
-use Rattle.std.proofs.Common.{◌∙◌, inl, refl, sym, ap, subst, Some}
+use Rattle.std.proofs.Common.{◌∙◌, inl, refl}
 use Rattle.iddqd.proofs.LiveLemmas.{get-inserted_at}
 use Rattle.iddqd.specs.Store.{get}
 use Rattle.iddqd_c.specs.Keys.{IsEntry}

@@ -8,5 +8,6 @@ returns-in-Some-clause-gets c =
 pub returns-in-Some-last_by-clause-gets : goal.returns-in-Some-last_by-clause-gets
 returns-in-Some-last_by-clause-gets c =
     rw c.in-Shared.is (inl (
-      c.report-in-Some-last_by.ensures.done, (_, (_, c.in-Some-last_by.ensures, c.report-in-Some-last_by.ensures.row))
+      c.report-in-Some-last_by.ensures.done,
+      (_, (_, c.in-Some-last_by.ensures, c.report-in-Some-last_by.ensures.row)),
     ))

@@ -1,4 +1,4 @@
-use Rattle.std.proofs.Common.{rules, ◌∙◌, sym, refl, subst}
+use Rattle.std.proofs.Common.{rules, subst}
 use Rattle.iddqd_keys.specs.Scan.{AnswersScan}
 use Rattle.iddqd_c.proofs.keyed.replaces.other_than.Goals as goal
 
