@@ -14,7 +14,7 @@
  * A table lives behind a handle of two words, `iddqd_table`. A handle begins as IDDQD_NONE, which is also what zeroed
  * memory is; `iddqd_keyed_new`, `iddqd_keyed_new_shared` and `iddqd_index_new` open it, and `iddqd_free` closes it. Every
  * other function on a handle that is closed, or that has a table of another kind, returns IDDQD_HANDLE and does nothing.
- * A function that takes a `iddqd_table *` changes nothing of the table.
+ * Reads take the handle as one to write to, too: each function takes the table out of it and puts it back.
  *
  * A function writes through a pointer that it got for an answer only where its comment says so; with any other code the
  * memory there stays as it was.
