@@ -37,7 +37,7 @@
  * - What a function may write overlaps nothing else that the same call is given.
  * - A handle is written by these functions alone. It may be moved: its bytes may be copied to another place, if the old
  *   place is then forgotten, which means that no function gets it again as it is. Never use two copies of a handle.
- * - One call at a time works on a table.
+ * - One call at a time works on a table, in the thread that made it.
  * - malloc, realloc and free are one sound allocator, and malloc aligns as C asks it to.
  * - No function is called from a signal handler, or in a child that a process with threads forked.
  */
