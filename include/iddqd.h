@@ -1,128 +1,264 @@
-/* Proved tables for C and C++. docs/FROM_C.md says what is proved of these functions. iddqd_codes.h has the codes that
- * they return, what they report of an item, and what a caller owes.
+/* Proved tables for C and C++. docs/FROM_C.md says what of these functions is proved.
  *
- * A table lives behind a handle of two words, `iddqd_table`. A handle begins as IDDQD_NONE; `iddqd_keyed_new` and
- * `iddqd_index_new` open it, and `iddqd_free` closes it. Every other function on a handle that is closed, or that has a
- * table of another kind, returns IDDQD_HANDLE and does nothing.
+ *     iddqd_table users = IDDQD_NONE;
+ *     iddqd_conflict found;
+ *     iddqd_row row;
+ *     uint32_t at;
+ *     iddqd_keyed_new(&users, seed1, seed2);
+ *     iddqd_keyed_insert(&users, (const uint8_t *)"ada", 3, 1815, 100, &at, &found);
+ *     if (iddqd_keyed_find1(&users, (const uint8_t *)"ada", 3, &row) == IDDQD_OK)
+ *         printf("ada: born %u, value %u\n", (unsigned)row.second, (unsigned)row.value);
+ *     iddqd_keyed_set_value(&users, row.index, 200);
+ *     iddqd_free(&users);
+ *
+ * A table lives behind a handle of two words, `iddqd_table`. A handle begins as IDDQD_NONE, which is also what zeroed
+ * memory is; `iddqd_keyed_new`, `iddqd_keyed_new_shared` and `iddqd_index_new` open it, and `iddqd_free` closes it. Every
+ * other function on a handle that is closed, or that has a table of another kind, returns IDDQD_HANDLE and does nothing.
+ * Reads take the handle as one to write to, too: each function takes the table out of it and puts it back.
+ *
+ * A function writes through a pointer that it got for an answer only where its comment says so; with any other code the
+ * memory there stays as it was.
+ *
+ * ---- A buffer is filled from its start, and the places that aren't filled stay as they were. If it has fewer places
+ * than the answer needs, a function that can be called again for what is left fills it, and any other function writes
+ * nothing to it:
+ *
+ *     functions                       places needed          a shorter buffer           *count or *len
+ *     keyed_range, _range_down        the rows there are     is filled; OK              the rows that were written
+ *     keyed_group                     the rows there are     is filled; OK              the rows that were written
+ *     index_under                     the numbers there are  is filled; OK              the numbers there are
+ *     keyed_key                       the bytes of the key   stays as it was; SMALL     the bytes of the key
+ *     keyed_compact                   the slots              stays as it was; SMALL     the slots
+ *     keyed_find_many, _find_many1    the keys               stays as it was; SMALL     (there is none)
+ *
+ * ---- What a caller owes, and nothing checks:
+ * - Each pointer is aligned, and points to whole values: of a slice to as many as its length says. No pointer is null
+ *   but one to a key or a buffer of length 0.
+ * - What a function may write overlaps nothing else that the same call is given.
+ * - A handle is written by these functions alone. It may be moved: its bytes may be copied to another place, if the old
+ *   place is then forgotten, which means that no function gets it again as it is. Never use two copies of a handle.
+ * - One call at a time works on a table, in the thread that made it.
+ * - malloc, realloc and free are one sound allocator, and malloc aligns as C asks it to.
+ * - No function is called from a signal handler, or in a child that a process with threads forked.
  */
 #ifndef IDDQD_H
 #define IDDQD_H
 
-#include "iddqd_codes.h"
+#include <stddef.h>
+#include <stdint.h>
 
 #ifdef __cplusplus
 extern "C" {
 #endif
 
-/* A table, or none. Write neither field; iddqd_codes.h says when a handle may be moved. */
+/* The version of this header, and that of the library. They differ if a program was compiled with another header. */
+#define IDDQD_VERSION UINT32_C(2)
+uint32_t iddqd_version(void);
+
+/* What the functions return, as a uint32_t. */
+typedef enum iddqd_code {
+    IDDQD_OK = 0,        /* it is done */
+    IDDQD_MISSING = 1,   /* no item has the key or the index, or the number isn't under the hash; nothing changed */
+    IDDQD_DUPLICATE = 2, /* an item has a key of the new one that no two may have; nothing changed */
+    IDDQD_FULL = 3,      /* there are as many items as there can be; nothing changed */
+    IDDQD_MEMORY = 4,    /* memory ran out; no item changed */
+    IDDQD_HANDLE = 5,    /* no table, or one of another kind; of a function that makes one: the handle isn't zero */
+    IDDQD_SMALL = 6,     /* the buffer is too short; nothing was written to it, and nothing changed */
+    IDDQD_UNSOUND = 7    /* a check failed: something else has written to the memory of the table */
+} iddqd_code;
+
+/* A table, or none. Write neither field. */
 typedef struct iddqd_table {
     void *at;
     uint64_t state;
 } iddqd_table;
 
-/* The version of this header, and that of the library. They differ if a program was compiled with another header. */
-#define IDDQD_VERSION UINT32_C(1)
-uint32_t iddqd_version(void);
+/* A handle without a table: iddqd_table table = IDDQD_NONE; or table = IDDQD_NONE; where the handle is closed. */
+#ifdef __cplusplus
+#define IDDQD_NONE (iddqd_table{ 0, 0 })
+#else
+#define IDDQD_NONE ((iddqd_table){ 0, 0 })
+#endif
 
-/* Frees the table, whatever its kind, and makes the handle zero. Of a handle without a table it does nothing. */
+/* The index that no item has. */
+#define IDDQD_SENTINEL UINT32_C(4294967295)
+
+/* What the functions report of an item. */
+typedef struct iddqd_row {
+    uint64_t second;
+    uint64_t value;
+    uint32_t index;
+} iddqd_row;
+
+/* Frees the table, whatever its kind, and makes the handle zero. Of a handle without a table it does nothing.
+ * Cost: a step for each slot, and the memory of each key. */
 void iddqd_free(iddqd_table *table);
 
 /* ---- Keyed items
  *
  * Each item has a first key of bytes, which is looked up by its hash, a second key, which is looked up by its order,
- * and a value. No two items share a first key, and no two share a second key. The table has copies of the first keys.
+ * and a value. No two items share a first key. Second keys are unique in a table that `iddqd_keyed_new` made, and any
+ * number of items may share one in a table that `iddqd_keyed_new_shared` made; every function serves both. The table has
+ * copies of the first keys.
  *
  * An item keeps its index until it is removed, or the table is compacted or cleared. Indexes are below IDDQD_SENTINEL,
  * and one that is free is used again. A table has a slot for each index that it has used since it was made, or last
  * compacted or cleared: the slots are 0, 1 and so on, and one whose item was removed is vacant.
+ *
+ * The order of the items is that of their second keys, and of their indexes where these are equal.
+ *
+ * Costs: a look-up by a first key hashes it once, and compares it with keys of the same hash alone. A search of the
+ * order compares second keys, a number of times that grows as the logarithm of the number of items. Where nothing is
+ * said of memory, a function takes none.
  */
 
-/* The indexes of the items that have a key of a new one: the first and the second. IDDQD_SENTINEL is none. The item
- * that a new one would replace isn't reported. */
+/* The indexes of the items that stand in the way of a new one: by the first key, and by the second. IDDQD_SENTINEL is
+ * none, as it always is for a second key that items may share. The item that a new one would replace isn't reported. */
 typedef struct iddqd_conflict {
     uint32_t first;
     uint32_t second;
 } iddqd_conflict;
 
-/* Makes an empty table, where the handle is zero: OK, MEMORY, or HANDLE where it isn't.
+/* An end of a range: a place in the order, and whether an item there is in the range. A zeroed one is no end. */
+typedef struct iddqd_end {
+    uint64_t second;
+    uint32_t index;
+    uint32_t side; /* an iddqd_side; any other number means IDDQD_OUT */
+} iddqd_end;
+
+typedef enum iddqd_side {
+    IDDQD_OPEN = 0, /* there is no end at this side */
+    IDDQD_IN = 1,   /* an item at the place is in the range */
+    IDDQD_OUT = 2   /* an item at the place is out of the range */
+} iddqd_side;
+
+/* Makes an empty table, where the handle is zero: OK, MEMORY, or HANDLE where it isn't. In the first kind no two items
+ * share a second key; in the other several may.
  *
  * The seed decides how first keys are hashed, and nothing but time depends on it. Where keys come from strangers, give
  * it 16 bytes that they can't know, as getentropy makes them. With a seed that they know, they can choose keys that
- * make each look-up pass all of them. */
+ * make each look-up pass all of them.
+ * Cost: takes memory for the block behind the handle. */
 uint32_t iddqd_keyed_new(iddqd_table *table, uint64_t seed1, uint64_t seed2);
+uint32_t iddqd_keyed_new_shared(iddqd_table *table, uint64_t seed1, uint64_t seed2);
 
 /* Inserts an item, with a copy of the key. OK: *at is its index. DUPLICATE: *found has the indexes of the items that
- * have one of its keys, and nothing was copied. FULL. MEMORY. A duplicate is reported before a full table, and both
- * before memory is asked for. */
+ * stand in its way. FULL. MEMORY. A duplicate is reported before a full table, and both even where there is no memory.
+ * Cost: hashes the first key once, looks it up once, and searches the order once; copies the key, for a duplicate too;
+ * takes memory for the copy, and for the table where it has no room. Only without memory for the copy are the keys
+ * looked up again. */
 uint32_t iddqd_keyed_insert(iddqd_table *table, const uint8_t *key, size_t len, uint64_t second, uint64_t value,
                             uint32_t *at, iddqd_conflict *found);
 
-/* Look up by the first key, by the second key, or by the index. OK: *row is the item. MISSING. */
+/* Look up by the first key, by the second key, or by the index. OK: *row is the item; of several with the second key,
+ * the one with the least index. MISSING.
+ * Cost: a look-up; a search of the order; a few steps. */
 uint32_t iddqd_keyed_find1(iddqd_table *table, const uint8_t *key, size_t len, iddqd_row *row);
 uint32_t iddqd_keyed_find2(iddqd_table *table, uint64_t second, iddqd_row *row);
 uint32_t iddqd_keyed_get(iddqd_table *table, uint32_t index, iddqd_row *row);
 
-/* Look up `len` second keys in one call. OK: rows[i] is the item with seconds[i], or has the index IDDQD_SENTINEL if no
- * item has that key; the other fields of such a row are 0. The places behind them stay. SMALL: `size`, the number of
- * places of the buffer, is less than len. */
-uint32_t iddqd_keyed_find_many(iddqd_table *table, const uint64_t *seconds, size_t len, iddqd_row *rows, size_t size);
+/* Look up `len` second keys in one call. OK: rows[i] is what iddqd_keyed_find2 reports of seconds[i], or has the index
+ * IDDQD_SENTINEL if no item has that key; the other fields of such a row are 0. SMALL: `size`, the number of places of
+ * the buffer, is less than len.
+ * Cost: a search of the order for each key. */
+uint32_t iddqd_keyed_find_many(iddqd_table *table, const uint64_t *seconds, size_t len, iddqd_row *rows,
+                               size_t size);
 
 /* Look up `len` first keys in one call. Their bytes stand one after the other in a buffer of `total` bytes: key i ends
  * at the offset ends[i] and begins where the key before it ends, key 0 at 0. OK: rows[i] is the item with key i, or has
  * the index IDDQD_SENTINEL if no item has that key, or if the key ends before it begins or past the buffer; the other
- * fields of such a row are 0. The places behind them stay. SMALL: `size`, the number of places for rows, is less than
- * len. */
-uint32_t iddqd_keyed_find_many1(iddqd_table *table, const uint8_t *bytes, size_t total, const size_t *ends, size_t len,
-                                iddqd_row *rows, size_t size);
+ * fields of such a row are 0. SMALL: `size`, the number of places for rows, is less than len.
+ * Cost: a look-up for each key. */
+uint32_t iddqd_keyed_find_many1(iddqd_table *table, const uint8_t *bytes, size_t total, const size_t *ends,
+                                size_t len, iddqd_row *rows, size_t size);
 
-/* Remove by the first key, by the second key, or by the index. OK: *row was the item. MISSING. */
+/* Remove by the first key, by the second key, or by the index. OK: *row was the item; of several with the second key,
+ * the one with the least index. MISSING.
+ * Cost: a look-up; a search of the order; a few steps; then the item's first key is hashed and the order searched once
+ * more. It gives back the memory of the key. */
 uint32_t iddqd_keyed_remove1(iddqd_table *table, const uint8_t *key, size_t len, iddqd_row *row);
 uint32_t iddqd_keyed_remove2(iddqd_table *table, uint64_t second, iddqd_row *row);
 uint32_t iddqd_keyed_remove(iddqd_table *table, uint32_t index, iddqd_row *row);
 
-/* The first key of the item at an index. OK: its *len bytes are at the start of the buffer of `size` bytes, and the
- * others stay. SMALL: *len is how many bytes it has. MISSING. */
+/* The first key of the item at an index. OK: its *len bytes are at the start of the buffer of `size` bytes. SMALL: *len
+ * is how many bytes it has. MISSING.
+ * Cost: copies the bytes. */
 uint32_t iddqd_keyed_key(iddqd_table *table, uint32_t index, uint8_t *key, size_t size, size_t *len);
 
-/* Sets the value of the item at an index. OK. MISSING. */
+/* Sets the value of the item at an index. OK. MISSING.
+ * Cost: a few steps. */
 uint32_t iddqd_keyed_set_value(iddqd_table *table, uint32_t index, uint64_t value);
 
 /* Replaces the item at an index by one with a copy of the key, this second key and this value. The index stays, and the
- * item may keep one of its keys or both. OK. MISSING. DUPLICATE: *found has the indexes of the other items that have
- * one of the keys, and nothing was copied. MEMORY: for the copy, or for the place of a new second key; the item stays.
+ * item may keep one of its keys or both. OK. MISSING. DUPLICATE: *found has the indexes of the other items that stand in
+ * the way, and nothing was copied. MEMORY: for the copy, or for the place of a new second key; the item stays.
  *
  * To change an item, call this function rather than a removal and an insert. The insert may run out of memory where
- * this function doesn't, and the item is gone by then. */
+ * this function doesn't, and the item is gone by then.
+ * Cost: looks each key up twice, and of each key that changes a removal and an insertion; takes memory for the copy. */
 uint32_t iddqd_keyed_replace(iddqd_table *table, uint32_t index, const uint8_t *key, size_t len, uint64_t second,
                              uint64_t value, iddqd_conflict *found);
 
-/* The items whose second keys are at least `from`, in the order of these keys, as many as the buffer of `len` rows
- * has places for. OK: *count is how many were written, and the places behind them stay as they were. To go on, call it
- * again with the last second key plus 1, unless that was UINT64_MAX; to go over all items, begin with 0. */
-uint32_t iddqd_keyed_range(iddqd_table *table, uint64_t from, iddqd_row *rows, size_t len, size_t *count);
+/* The items between two ends, in order, as many as the buffer of `len` rows has places for: from the lower end upwards,
+ * or from the upper end downwards. OK: *count is how many were written.
+ *
+ * With two zeroed ends it goes over all items. Of second keys alone, the index 0 stands before all items with that key
+ * and IDDQD_SENTINEL behind them. To go on, make the last row the end that it went away from:
+ * { row.second, row.index, IDDQD_OUT }.
+ * Cost: a search of the order for each end that there is, then a step for each row, and for each item that has the
+ * second key of an end and lies beyond it. */
+uint32_t iddqd_keyed_range(iddqd_table *table, const iddqd_end *from, const iddqd_end *to, iddqd_row *rows,
+                           size_t len, size_t *count);
+uint32_t iddqd_keyed_range_down(iddqd_table *table, const iddqd_end *from, const iddqd_end *to, iddqd_row *rows,
+                                size_t len, size_t *count);
+
+/* The items with a second key, by index, from `index` on, as many as the buffer of `len` rows has places for. OK: *count
+ * is how many were written. Begin with the index 0. To go on, call it again with the index of the last row plus 1.
+ * Cost: two searches of the order, then a step for each row, and for each item with that key and a lesser index. */
+uint32_t iddqd_keyed_group(iddqd_table *table, uint64_t second, uint32_t index, iddqd_row *rows, size_t len,
+                           size_t *count);
+
+/* The first item in order, and the last one. OK: *row is the item. MISSING: there is none.
+ * Cost: a few steps. */
+uint32_t iddqd_keyed_first(iddqd_table *table, iddqd_row *row);
+uint32_t iddqd_keyed_last(iddqd_table *table, iddqd_row *row);
+
+/* How many items have a second key. OK: *count is their number.
+ * Cost: two searches of the order, and a step for each of them. */
+uint32_t iddqd_keyed_count(iddqd_table *table, uint64_t second, size_t *count);
+
+/* Removes all items with a second key. OK: *count is how many they were.
+ * Cost: one search of the order; for each of them its first key is hashed once. */
+uint32_t iddqd_keyed_remove_group(iddqd_table *table, uint64_t second, size_t *count);
 
 /* Makes room in the table for so many more items, or for as many as there can be. OK. MEMORY: the items stay. With room
- * for n items the next n inserts need memory for the copies of their first keys alone. */
+ * for n items the next n inserts need memory for the copies of their first keys alone.
+ * Cost: moves what grows; takes memory where there is less room. */
 uint32_t iddqd_keyed_reserve(iddqd_table *table, size_t additional);
 
-/* How many items the table has room for beside those that it has. OK: *count is their number. */
+/* How many items the table has room for beside those that it has. OK: *count is their number.
+ * Cost: a few steps. */
 uint32_t iddqd_keyed_room(iddqd_table *table, size_t *count);
 
-/* Whether each item is found by both of its keys, and no two items share one. OK. UNSOUND. MEMORY: the check takes
- * some, and time as sorting does. It changes nothing. */
+/* Whether each item is found by both of its keys, and no two items share a key that is unique. OK. MEMORY. UNSOUND:
+ * something else has written to the memory of the table; these functions alone never lead to it, which is proved.
+ * Cost: a step for each slot and a sort of the indexes; takes memory for two lists of the indexes. */
 uint32_t iddqd_keyed_validate(iddqd_table *table);
 
-/* How many items there are. OK: *count is their number. */
+/* How many items there are. OK: *count is their number.
+ * Cost: a few steps. */
 uint32_t iddqd_keyed_len(iddqd_table *table, size_t *count);
 
 /* Moves the items down in the order of their indexes, so that these are 0, 1 and so on, and no slot is vacant. OK:
  * indexes[i] is the new index of the item that had the index i, or IDDQD_SENTINEL if that slot was vacant; *count is
- * the number of the slots that there were, and the places behind them stay. If no slot was vacant, each index is as it
- * was. SMALL: there are *count slots, and the buffer of `len` numbers has fewer places. MEMORY: there is none for a
- * list of the new indexes, which a table without a vacant slot doesn't need; nothing changed. */
+ * the number of the slots that there were. If no slot was vacant, each index is as it was. SMALL: there are *count
+ * slots, and the buffer of `len` numbers has fewer places. MEMORY: there is none for a list of the new indexes, which a
+ * table without a vacant slot doesn't need; nothing changed.
+ * Cost: a step for each slot and each entry of the table; takes memory for that list. */
 uint32_t iddqd_keyed_compact(iddqd_table *table, uint32_t *indexes, size_t len, size_t *count);
 
-/* Forgets all items, and keeps the memory of the table. The next index is 0. OK. */
+/* Forgets all items, and keeps the memory of the table. The next index is 0. OK.
+ * Cost: a step for each slot; gives back the memory of each key. */
 uint32_t iddqd_keyed_clear(iddqd_table *table);
 
 /* ---- An index: numbers under hashes
@@ -135,30 +271,35 @@ uint32_t iddqd_keyed_clear(iddqd_table *table);
  *
  * Each call on a hash goes through numbers that are filed under it. So to remove n numbers under one hash, one call
  * each, takes time that grows with the square of n: 30,000 of them take 1.4 to 2.5 seconds. If many records share a
- * key, file the first of them alone and chain the others to it in the records, or take `iddqd_multi.h`, which removes a
- * group in one call. If all numbers go, call `iddqd_index_clear`.
+ * key, file the first of them alone and chain the others to it in the records, or take a table of keyed items that
+ * share it as their second key, which removes a group in one call. If all numbers go, call `iddqd_index_clear`.
  */
 
-/* Makes an empty index, where the handle is zero: OK, MEMORY, or HANDLE where it isn't. It takes no memory but that of
- * the block behind the handle. */
+/* Makes an empty index, where the handle is zero: OK, MEMORY, or HANDLE where it isn't.
+ * Cost: takes memory for the block behind the handle. */
 uint32_t iddqd_index_new(iddqd_table *table);
 
 /* Files a number under a hash. OK. MEMORY: there was no room for one more pair, and nothing changed. With room, as
- * there is after a removal, it takes no memory. */
+ * there is after a removal, it takes no memory.
+ * Cost: a few steps; where there is no room, moves the table and takes memory. */
 uint32_t iddqd_index_insert(iddqd_table *table, uint64_t hash, uint32_t number);
 
 /* Removes a number that is filed under a hash, once. OK. MISSING: it isn't filed there. It takes no memory and gives
- * none back, and leaves room for one more pair. */
+ * none back, and leaves room for one more pair.
+ * Cost: a step for each number under the hash, up to this one. */
 uint32_t iddqd_index_remove(iddqd_table *table, uint64_t hash, uint32_t number);
 
 /* The numbers under a hash, in no order that a caller can rely on, as many as the buffer of `len` numbers has places
- * for. OK: *count is how many there are, also past the buffer, and the places that none was written to stay. */
+ * for. OK: *count is how many there are, also past the buffer.
+ * Cost: a step for each number under the hash. */
 uint32_t iddqd_index_under(iddqd_table *table, uint64_t hash, uint32_t *numbers, size_t len, size_t *count);
 
-/* How many pairs are filed. OK: *count is their number. */
+/* How many pairs are filed. OK: *count is their number.
+ * Cost: a few steps. */
 uint32_t iddqd_index_len(iddqd_table *table, size_t *count);
 
-/* Forgets all pairs, and keeps the memory. OK. */
+/* Forgets all pairs, and keeps the memory. OK.
+ * Cost: clears the cells of the table. */
 uint32_t iddqd_index_clear(iddqd_table *table);
 
 #ifdef __cplusplus

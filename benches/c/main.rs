@@ -133,7 +133,7 @@ impl Table for Keyed {
     }
 
     fn range(&self, from: u64, sum: u64) -> u64 {
-        Keyed::range(self, from).take(ROWS).fold(sum, |sum, row| sum.wrapping_mul(3).wrapping_add(row.value))
+        Keyed::range(self, from..).take(ROWS).fold(sum, |sum, row| sum.wrapping_mul(3).wrapping_add(row.value))
     }
 
     fn remove(&mut self, first: &First) -> u64 {

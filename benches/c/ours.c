@@ -33,11 +33,14 @@ static uint64_t find_seconds(iddqd_table *table, const struct load *load) {
 }
 
 static uint64_t walk_ranges(iddqd_table *table, const struct load *load) {
+    const iddqd_end open = { 0, 0, IDDQD_OPEN };
+    iddqd_end from = { 0, 0, IDDQD_IN };
     iddqd_row rows[ROWS];
     uint64_t sum = 0;
     size_t count = 0;
     for (size_t i = 0; i < load->ranges; i++) {
-        iddqd_keyed_range(table, load->froms[i], rows, ROWS, &count);
+        from.second = load->froms[i];
+        iddqd_keyed_range(table, &from, &open, rows, ROWS, &count);
         for (size_t at = 0; at < count; at++)
             sum = sum * 3 + rows[at].value;
     }

@@ -1,9 +1,10 @@
 //! Items under two keys.
 
-use crate::raw::{self, Conflict, Handle, Row, DUPLICATE, FULL, MISSING, OK, SENTINEL, SMALL, UNSOUND};
+use crate::raw::{self, Conflict, End, Handle, Row, DUPLICATE, FULL, IN, MISSING, OK, OPEN, OUT, SENTINEL, SMALL, UNSOUND};
 use crate::{NewError, OutOfMemory};
 use std::error::Error;
 use std::fmt;
+use std::ops::{Bound, RangeBounds};
 
 /// How many rows a range reads at first: few, so that a short range costs little.
 const FIRST_ROWS: usize = 16;
@@ -13,7 +14,8 @@ const ROWS: usize = 64;
 /// Why an item was not inserted. Nothing changed.
 #[derive(Clone, Copy, Debug, PartialEq, Eq)]
 pub enum InsertError {
-    /// An item has one of its keys: the index of the item that has the first, and of the one that has the second.
+    /// An item stands in its way: the index of the item that has the first key, and of the one that has the second, if
+    /// second keys are unique.
     Duplicate {
         /// The item that has the first key.
         first: Option<u32>,
@@ -43,8 +45,8 @@ impl Error for InsertError {}
 pub enum ReplaceError {
     /// No item is at the index.
     Missing,
-    /// Another item has one of the keys: the index of another one that has the first, and of another one that has the
-    /// second.
+    /// Another item stands in the way: the index of another one that has the first key, and of another one that has the
+    /// second, if second keys are unique.
     Duplicate {
         /// Another item that has the first key.
         first: Option<u32>,
@@ -68,15 +70,24 @@ impl fmt::Display for ReplaceError {
 impl Error for ReplaceError {}
 
 /// Items that have a first key of bytes, which is looked up by its hash, a second key, which is looked up by its order,
-/// and a value. No two share a first key, and no two share a second key. An item keeps its index until it is removed or
-/// the items are compacted.
+/// and a value. No two share a first key. Second keys are unique or shared, as the items are made. An item keeps its
+/// index until it is removed or the items are compacted.
+///
+/// The order of items is that of their second keys, and of their indexes where these are equal.
 pub struct Keyed(Handle);
 
 impl Keyed {
-    /// Empty. Where strangers choose first keys, the seed is 16 bytes that they can't know; no answer depends on it.
+    /// Empty, for items of which no two share a second key. Where strangers choose first keys, the seed is 16 bytes that
+    /// they can't know; no answer depends on it.
     pub fn new(seed1: u64, seed2: u64) -> Result<Keyed, NewError> {
         // SAFETY: the handle is zero.
         Handle::open(|handle| unsafe { raw::iddqd_keyed_new(handle, seed1, seed2) }).map(Keyed)
+    }
+
+    /// Empty, for items of which several may share a second key; otherwise as `new`.
+    pub fn new_shared(seed1: u64, seed2: u64) -> Result<Keyed, NewError> {
+        // SAFETY: the handle is zero.
+        Handle::open(|handle| unsafe { raw::iddqd_keyed_new_shared(handle, seed1, seed2) }).map(Keyed)
     }
 
     /// Inserts an item with a copy of the key, and returns its index.
@@ -98,7 +109,7 @@ impl Keyed {
         row_of(|row| unsafe { raw::iddqd_keyed_find1(self.0.get(), first.as_ptr(), first.len(), row) })
     }
 
-    /// The item with this second key.
+    /// The item with this second key; of several, the one with the least index.
     pub fn find2(&self, second: u64) -> Option<Row> {
         // SAFETY: the pointer is to a row that nothing else uses.
         row_of(|row| unsafe { raw::iddqd_keyed_find2(self.0.get(), second, row) })
@@ -165,8 +176,8 @@ impl Keyed {
         count
     }
 
-    /// Whether each item is found by both of its keys, and no two items share one. It takes memory, and time as sorting
-    /// does.
+    /// Whether each item is found by both of its keys, and no two items share a key that is unique. It is true unless
+    /// something else has written to the memory of the items. It takes memory, and time as sorting does.
     pub fn validate(&self) -> Result<bool, OutOfMemory> {
         // SAFETY: the handle is open.
         match unsafe { raw::iddqd_keyed_validate(self.0.get()) } {
@@ -182,7 +193,7 @@ impl Keyed {
         row_of(|row| unsafe { raw::iddqd_keyed_remove1(self.0.get(), first.as_ptr(), first.len(), row) })
     }
 
-    /// Removes the item with this second key.
+    /// Removes the item with this second key; of several, the one with the least index.
     pub fn remove2(&mut self, second: u64) -> Option<Row> {
         // SAFETY: the pointer is to a row that nothing else uses.
         row_of(|row| unsafe { raw::iddqd_keyed_remove2(self.0.get(), second, row) })
@@ -214,14 +225,47 @@ impl Keyed {
         }
     }
 
-    /// The items whose second keys are at least `from`, in the order of these keys.
-    pub fn range(&self, from: u64) -> Range<'_> {
-        Range { items: self, from: Some(from), rows: [Row::default(); ROWS], places: FIRST_ROWS, at: 0, count: 0 }
+    /// The items whose second keys are within the bounds, in order, from both ends.
+    pub fn range(&self, bounds: impl RangeBounds<u64>) -> Range<'_> {
+        Range::new(self, lower_end(bounds.start_bound()), upper_end(bounds.end_bound()))
     }
 
-    /// All items, in the order of their second keys.
+    /// The items with this second key, in order, from both ends.
+    pub fn group(&self, second: u64) -> Range<'_> {
+        self.range(second..=second)
+    }
+
+    /// All items, in order, from both ends.
     pub fn iter(&self) -> Range<'_> {
-        self.range(0)
+        self.range(..)
+    }
+
+    /// The first item in order.
+    pub fn first(&self) -> Option<Row> {
+        // SAFETY: the pointer is to a row that nothing else uses.
+        row_of(|row| unsafe { raw::iddqd_keyed_first(self.0.get(), row) })
+    }
+
+    /// The last item in order.
+    pub fn last(&self) -> Option<Row> {
+        // SAFETY: the pointer is to a row that nothing else uses.
+        row_of(|row| unsafe { raw::iddqd_keyed_last(self.0.get(), row) })
+    }
+
+    /// How many items have this second key.
+    pub fn count(&self, second: u64) -> usize {
+        let mut count = 0;
+        // SAFETY: the pointer is to a number that nothing else uses.
+        unsafe { raw::iddqd_keyed_count(self.0.get(), second, &mut count) };
+        count
+    }
+
+    /// Removes the items with this second key, and returns how many there were.
+    pub fn remove_group(&mut self, second: u64) -> usize {
+        let mut count = 0;
+        // SAFETY: the pointer is to a number that nothing else uses.
+        unsafe { raw::iddqd_keyed_remove_group(self.0.get(), second, &mut count) };
+        count
     }
 
     /// The number of items.
@@ -281,12 +325,16 @@ impl<'a> IntoIterator for &'a Keyed {
     }
 }
 
-/// Items in the order of their second keys. It reads 16 into a buffer of its own, and then 64 at a time.
+/// Which way a buffer is read.
+#[derive(Clone, Copy, Debug)]
+enum Direction {
+    Up,
+    Down,
+}
+
+/// Rows that were read and not yet returned.
 #[derive(Clone, Debug)]
-pub struct Range<'a> {
-    items: &'a Keyed,
-    // The second key from which it goes on once the buffer is read; `None` at the end.
-    from: Option<u64>,
+struct Buffer {
     rows: [Row; ROWS],
     // How many rows it reads next.
     places: usize,
@@ -294,15 +342,48 @@ pub struct Range<'a> {
     count: usize,
 }
 
-impl Range<'_> {
-    // Reads on from a second key.
-    fn fill(&mut self, from: u64) {
-        (self.at, self.count) = (0, 0);
+impl Buffer {
+    const EMPTY: Buffer = Buffer { rows: [Row { second: 0, value: 0, index: 0 }; ROWS], places: FIRST_ROWS, at: 0, count: 0 };
+
+    // Reads the first rows between the ends in a direction, and returns the last of them if there may be more.
+    fn fill(&mut self, items: &Keyed, direction: Direction, from: &End, to: &End) -> Option<Row> {
         let (rows, places) = (self.rows.as_mut_ptr(), self.places);
-        // SAFETY: the pointers are to at least `places` rows and to a number that nothing else uses.
-        unsafe { raw::iddqd_keyed_range(self.items.0.get(), from, rows, places, &mut self.count) };
-        self.from = if self.count < places { None } else { self.rows[places - 1].second.checked_add(1) };
-        self.places = ROWS;
+        let read = match direction {
+            Direction::Up => raw::iddqd_keyed_range,
+            Direction::Down => raw::iddqd_keyed_range_down,
+        };
+        (self.at, self.count, self.places) = (0, 0, ROWS);
+        // SAFETY: the pointers are to two ends, to at least `places` rows and to a number that nothing else uses.
+        unsafe { read(items.0.get(), from, to, rows, places, &mut self.count) };
+        if self.count < places { None } else { Some(self.rows[places - 1]) }
+    }
+
+    fn first(&mut self) -> Option<Row> {
+        let row = self.rows[..self.count].get(self.at).copied()?;
+        self.at += 1;
+        Some(row)
+    }
+
+    fn last(&mut self) -> Option<Row> {
+        let row = self.rows[self.at..self.count].last().copied()?;
+        self.count -= 1;
+        Some(row)
+    }
+}
+
+/// Items in order, from both ends. At each end it reads 16 into a buffer of its own, and then 64 at a time.
+#[derive(Clone, Debug)]
+pub struct Range<'a> {
+    items: &'a Keyed,
+    // What was read from both ends, and the ends of what was not read yet; `None` once all was read.
+    front: Buffer,
+    unread: Option<(End, End)>,
+    back: Buffer,
+}
+
+impl<'a> Range<'a> {
+    fn new(items: &'a Keyed, from: End, to: End) -> Range<'a> {
+        Range { items, front: Buffer::EMPTY, unread: Some((from, to)), back: Buffer::EMPTY }
     }
 }
 
@@ -310,12 +391,46 @@ impl Iterator for Range<'_> {
     type Item = Row;
 
     fn next(&mut self) -> Option<Row> {
-        if self.at == self.count {
-            self.fill(self.from?);
+        if self.front.at == self.front.count {
+            if let Some((from, to)) = self.unread {
+                let last = self.front.fill(self.items, Direction::Up, &from, &to);
+                self.unread = last.map(|row| (behind(row), to));
+            }
         }
-        let row = self.rows[..self.count].get(self.at).copied()?;
-        self.at += 1;
-        Some(row)
+        self.front.first().or_else(|| self.back.last())
+    }
+}
+
+impl DoubleEndedIterator for Range<'_> {
+    fn next_back(&mut self) -> Option<Row> {
+        if self.back.at == self.back.count {
+            if let Some((from, to)) = self.unread {
+                let last = self.back.fill(self.items, Direction::Down, &from, &to);
+                self.unread = last.map(|row| (from, behind(row)));
+            }
+        }
+        self.back.first().or_else(|| self.front.last())
+    }
+}
+
+// The end beyond which a range goes on after a row, in either direction.
+fn behind(row: Row) -> End {
+    End { second: row.second, index: row.index, side: OUT }
+}
+
+fn lower_end(bound: Bound<&u64>) -> End {
+    match bound {
+        Bound::Included(second) => End { second: *second, index: 0, side: IN },
+        Bound::Excluded(second) => End { second: *second, index: SENTINEL, side: OUT },
+        Bound::Unbounded => End { second: 0, index: 0, side: OPEN },
+    }
+}
+
+fn upper_end(bound: Bound<&u64>) -> End {
+    match bound {
+        Bound::Included(second) => End { second: *second, index: SENTINEL, side: IN },
+        Bound::Excluded(second) => End { second: *second, index: 0, side: OUT },
+        Bound::Unbounded => End { second: 0, index: 0, side: OPEN },
     }
 }
 

@@ -1,8 +1,8 @@
 //! Tables whose code is proved, from Rust.
 //!
-//! [`Keyed`] has items under a key of bytes and a number. [`Index`] finds records of any type, in memory of the
+//! [`Keyed`] has items under a key of bytes and a number, unique or shared. [`Index`] finds records of any type, in memory of the
 //! caller's own, by the hash of their keys. Both are safe wrappers over the functions of `iddqd.h`, and their own code
-//! isn't proved: it keeps the duties that `iddqd_codes.h` lists. Neither type is `Send` nor `Sync`. A call that runs
+//! isn't proved: it keeps the duties that `iddqd.h` lists. Neither type is `Send` nor `Sync`. A call that runs
 //! out of memory returns an error and doesn't abort.
 //!
 //! ```
@@ -14,7 +14,7 @@
 //! assert_eq!(users.find1(b"ada").map(|row| row.value), Some(100));
 //! let duplicate = InsertError::Duplicate { first: Some(ada), second: None };
 //! assert_eq!(users.insert(b"ada", 1900, 300), Err(duplicate));
-//! assert_eq!(users.range(1900).map(|row| row.second).collect::<Vec<_>>(), [1912]);
+//! assert_eq!(users.range(1900..).map(|row| row.second).collect::<Vec<_>>(), [1912]);
 //! # Ok::<(), Box<dyn std::error::Error>>(())
 //! ```
 #![deny(missing_docs)]

@@ -5,7 +5,7 @@ use std::cell::UnsafeCell;
 use std::ptr::null_mut;
 
 /// The version of `iddqd.h` whose functions this file declares: its `IDDQD_VERSION`.
-pub(crate) const VERSION: u32 = 1;
+pub(crate) const VERSION: u32 = 2;
 
 /// What the functions return.
 pub(crate) const OK: u32 = 0;
@@ -36,6 +36,20 @@ pub(crate) struct Conflict {
     pub(crate) first: u32,
     pub(crate) second: u32,
 }
+
+/// An end of a range.
+#[repr(C)]
+#[derive(Clone, Copy, Debug)]
+pub(crate) struct End {
+    pub(crate) second: u64,
+    pub(crate) index: u32,
+    pub(crate) side: u32,
+}
+
+/// The sides of an end.
+pub(crate) const OPEN: u32 = 0;
+pub(crate) const IN: u32 = 1;
+pub(crate) const OUT: u32 = 2;
 
 #[repr(C)]
 pub(crate) struct Table {
@@ -85,6 +99,7 @@ unsafe extern "C" {
     fn iddqd_free(table: *mut Table);
 
     pub(crate) fn iddqd_keyed_new(table: *mut Table, seed1: u64, seed2: u64) -> u32;
+    pub(crate) fn iddqd_keyed_new_shared(table: *mut Table, seed1: u64, seed2: u64) -> u32;
     pub(crate) fn iddqd_keyed_insert(
         table: *mut Table,
         key: *const u8,
@@ -124,11 +139,24 @@ unsafe extern "C" {
     ) -> u32;
     pub(crate) fn iddqd_keyed_range(
         table: *mut Table,
-        from: u64,
+        from: *const End,
+        to: *const End,
         rows: *mut Row,
         len: usize,
         count: *mut usize,
     ) -> u32;
+    pub(crate) fn iddqd_keyed_range_down(
+        table: *mut Table,
+        from: *const End,
+        to: *const End,
+        rows: *mut Row,
+        len: usize,
+        count: *mut usize,
+    ) -> u32;
+    pub(crate) fn iddqd_keyed_first(table: *mut Table, row: *mut Row) -> u32;
+    pub(crate) fn iddqd_keyed_last(table: *mut Table, row: *mut Row) -> u32;
+    pub(crate) fn iddqd_keyed_count(table: *mut Table, second: u64, count: *mut usize) -> u32;
+    pub(crate) fn iddqd_keyed_remove_group(table: *mut Table, second: u64, count: *mut usize) -> u32;
     pub(crate) fn iddqd_keyed_validate(table: *mut Table) -> u32;
     pub(crate) fn iddqd_keyed_compact(table: *mut Table, indexes: *mut u32, len: usize, count: *mut usize) -> u32;
     pub(crate) fn iddqd_keyed_len(table: *mut Table, count: *mut usize) -> u32;

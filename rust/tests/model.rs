@@ -3,6 +3,7 @@
 use iddqd_proved::{Index, InsertError, Keyed, ReplaceError, Row};
 use std::collections::{BTreeMap, HashMap};
 use std::hash::{BuildHasherDefault, Hasher};
+use std::ops::Bound;
 use std::time::{Duration, Instant};
 
 const ITEMS: u64 = 100_000;
@@ -43,7 +44,7 @@ fn keyed_agrees_with_two_maps() {
     }
     assert!(items.iter().eq(by_second.values().map(|held| held.1)));
     let from = ITEMS / 2;
-    assert!(items.range(from).eq(by_second.range(from..).map(|(_, held)| held.1)));
+    assert!(items.range(from..).eq(by_second.range(from..).map(|(_, held)| held.1)));
     assert_eq!(items.len(), by_second.len());
     items.clear();
     assert!(items.is_empty() && items.iter().next().is_none());
@@ -56,9 +57,55 @@ fn a_range_ends_at_the_greatest_key() {
         items.insert(&[below], u64::MAX - u64::from(below), 0).unwrap();
     }
     for count in [1, 15, 16, 17, 63, 64] {
-        assert_eq!(items.range(u64::MAX - (count - 1)).count() as u64, count);
+        assert_eq!(items.range(u64::MAX - (count - 1)..).count() as u64, count);
     }
     assert_eq!(items.iter().count(), 64);
+}
+
+#[test]
+fn a_range_has_both_ends_and_goes_both_ways() {
+    let mut items = Keyed::new_shared(1, 2).unwrap();
+    let mut rows: Vec<Row> = Vec::new();
+    for number in 0..1000u64 {
+        let second = mixed(number) % 10;
+        let index = items.insert(&number.to_le_bytes(), second, number).unwrap();
+        rows.push(Row { second, value: number, index });
+    }
+    rows.sort_by_key(|row| (row.second, row.index));
+    assert!(items.iter().eq(rows.iter().copied()) && items.iter().rev().eq(rows.iter().rev().copied()));
+    let within = |from, to| rows.iter().copied().filter(move |row| from <= row.second && row.second <= to);
+    assert!(items.range(3..7).eq(within(3, 6)) && items.range(3..=7).rev().eq(within(3, 7).rev()));
+    assert!(items.range((Bound::Excluded(3), Bound::Unbounded)).eq(within(4, 9)));
+    assert!(items.range(..0).next().is_none() && items.range(..=0).eq(within(0, 0)));
+    // From both ends in turn: each row once.
+    let (mut range, mut front, mut back) = (items.iter(), Vec::new(), Vec::new());
+    while let Some(row) = range.next() {
+        front.push(row);
+        back.extend(range.next_back());
+        back.extend(range.next_back());
+    }
+    assert_eq!(range.next_back(), None);
+    front.extend(back.into_iter().rev());
+    assert_eq!(front, rows);
+}
+
+#[test]
+fn items_share_a_second_key() {
+    let mut items = Keyed::new_shared(1, 2).unwrap();
+    assert_eq!((items.first(), items.last()), (None, None));
+    for number in 0..100u64 {
+        items.insert(&number.to_le_bytes(), number % 4, number).unwrap();
+    }
+    let duplicate = InsertError::Duplicate { first: Some(7), second: None };
+    assert_eq!(items.insert(&7u64.to_le_bytes(), 1, 0), Err(duplicate));
+    assert_eq!(items.find2(2), Some(Row { second: 2, value: 2, index: 2 }));
+    assert_eq!(items.group(2).map(|row| row.index).collect::<Vec<_>>(), (2..100).step_by(4).collect::<Vec<_>>());
+    assert_eq!((items.first().unwrap().index, items.last().unwrap().index), (0, 99));
+    assert_eq!(items.remove2(2).map(|row| row.index), Some(2));
+    assert_eq!((items.count(2), items.remove_group(2), items.count(2)), (24, 24, 0));
+    assert_eq!(items.replace(0, b"zero", 3, 0), Ok(()));
+    assert_eq!((items.find2(3).unwrap().index, items.count(3), items.len()), (0, 26, 75));
+    assert_eq!(items.validate(), Ok(true));
 }
 
 #[test]

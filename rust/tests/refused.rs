@@ -153,8 +153,18 @@ fn a_call_on_items_that_takes_memory_is_refused() {
 }
 
 #[test]
+fn a_duplicate_is_reported_without_memory() {
+    let mut items = items();
+    let before = contents(&items);
+    BEFORE.set(Some(0));
+    let answer = items.insert(b"item 1", 500, 7);
+    assert_eq!(BEFORE.take(), None, "the copy of the key was not refused");
+    assert_eq!(answer, Err(InsertError::Duplicate { first: Some(1), second: None }));
+    assert_eq!(contents(&items), before);
+}
+
+#[test]
 fn the_other_calls_on_items_take_no_memory() {
-    assert_eq!(of_keyed(|items| unless_memory(items.insert(b"item 1", 500, 7), InsertError::Memory)), 0);
     assert_eq!(of_keyed(|items| unless_memory(items.replace(0, b"none", 500, 7), ReplaceError::Memory)), 0);
     assert_eq!(of_keyed(|items| unless_memory(items.key(0), OutOfMemory)), 0);
     assert_eq!(of_keyed(|items| Some([items.find1(b"item 1"), items.find2(2), items.get(3), items.find1(b"none")])), 0);
@@ -162,7 +172,7 @@ fn the_other_calls_on_items_take_no_memory() {
     assert_eq!(of_keyed(|items| Some(items.remove(0))), 0);
     assert_eq!(of_keyed(|items| Some((items.set_value(1, 8), items.set_value(0, 8)))), 0);
     assert_eq!(of_keyed(|items| Some((items.len(), items.is_empty(), items.room() > 0))), 0);
-    assert_eq!(of_keyed(|items| Some((items.iter().count(), items.range(50).next(), (&*items).into_iter().last()))), 0);
+    assert_eq!(of_keyed(|items| Some((items.iter().count(), items.range(50..).next(), (&*items).into_iter().last()))), 0);
     assert_eq!(of_keyed(|items| Some(write!(sink(), "{items:?}").is_ok())), 0);
     let cleared = |items: &mut Keyed| {
         items.clear();

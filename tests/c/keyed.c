@@ -21,6 +21,12 @@ static const iddqd_row NO_ROW = { 77, 77, 77 };
 /* The row of a key that is looked up with others and missing. */
 static const iddqd_row MISSED = { 0, 0, IDDQD_SENTINEL };
 static const iddqd_conflict NO_CONFLICT = { 77, 77 };
+static const iddqd_end OPEN = { 0, 0, IDDQD_OPEN };
+
+/* The lower end of a range that begins at a second key. */
+static iddqd_end from_key(uint64_t second) {
+    return (iddqd_end){ second, 0, IDDQD_IN };
+}
 
 static int same_row(const iddqd_row *left, const iddqd_row *right) {
     return left->second == right->second && left->value == right->value && left->index == right->index;
@@ -49,7 +55,12 @@ static void check_no_table(iddqd_table *table) {
     CHECK(iddqd_keyed_remove(table, 0, &row) == IDDQD_HANDLE);
     CHECK(iddqd_keyed_set_value(table, 0, 1) == IDDQD_HANDLE);
     CHECK(iddqd_keyed_replace(table, 0, bytes("a"), 1, 1, 1, &conflict) == IDDQD_HANDLE);
-    CHECK(iddqd_keyed_range(table, 0, rows, 2, &count) == IDDQD_HANDLE);
+    CHECK(iddqd_keyed_range(table, &OPEN, &OPEN, rows, 2, &count) == IDDQD_HANDLE);
+    CHECK(iddqd_keyed_range_down(table, &OPEN, &OPEN, rows, 2, &count) == IDDQD_HANDLE);
+    CHECK(iddqd_keyed_group(table, 1, 0, rows, 2, &count) == IDDQD_HANDLE);
+    CHECK(iddqd_keyed_first(table, &row) == IDDQD_HANDLE && iddqd_keyed_last(table, &row) == IDDQD_HANDLE);
+    CHECK(iddqd_keyed_count(table, 1, &count) == IDDQD_HANDLE);
+    CHECK(iddqd_keyed_remove_group(table, 1, &count) == IDDQD_HANDLE);
     CHECK(iddqd_keyed_len(table, &count) == IDDQD_HANDLE);
     CHECK(iddqd_keyed_key(table, 0, &byte, 1, &count) == IDDQD_HANDLE && byte == 77);
     CHECK(iddqd_keyed_reserve(table, 1) == IDDQD_HANDLE && iddqd_keyed_room(table, &count) == IDDQD_HANDLE);
@@ -178,12 +189,13 @@ static void check_buffers(void) {
     for (size_t len = 0; len <= 5; len++) {
         iddqd_row rows[5] = { NO_ROW, NO_ROW, NO_ROW, NO_ROW, NO_ROW };
         size_t count = 77;
-        CHECK(iddqd_keyed_range(&table, 0, rows, len, &count) == IDDQD_OK && count == (len < 3 ? len : 3));
+        const iddqd_end last = from_key(UINT64_MAX);
+        CHECK(iddqd_keyed_range(&table, &OPEN, &OPEN, rows, len, &count) == IDDQD_OK && count == (len < 3 ? len : 3));
         for (size_t at = 0; at < 5; at++) {
             iddqd_row want = { UINT64_MAX - 2 + at, 2 - at, (uint32_t)(2 - at) };
             CHECK(same_row(&rows[at], at < count ? &want : &NO_ROW));
         }
-        CHECK(iddqd_keyed_range(&table, UINT64_MAX, rows, len, &count) == IDDQD_OK && count == (len < 1 ? len : 1));
+        CHECK(iddqd_keyed_range(&table, &last, &OPEN, rows, len, &count) == IDDQD_OK && count == (len < 1 ? len : 1));
     }
     iddqd_free(&table);
 }
@@ -323,7 +335,8 @@ static void walk_all(iddqd_table *table, size_t most) {
     uint64_t from = 0;
     size_t count = most, at = 0;
     while (count == most) {
-        CHECK(iddqd_keyed_range(table, from, rows, most, &count) == IDDQD_OK && count <= most);
+        const iddqd_end begin = from_key(from);
+        CHECK(iddqd_keyed_range(table, &begin, &OPEN, rows, most, &count) == IDDQD_OK && count <= most);
         for (size_t i = 0; i < count; i++, seen++) {
             for (; !by_second[at]->is_there; at++) {
             }

@@ -14,6 +14,10 @@ class Row(ctypes.Structure):
     _fields_ = [("second", ctypes.c_uint64), ("value", ctypes.c_uint64), ("index", ctypes.c_uint32)]
 
 
+class End(ctypes.Structure):
+    _fields_ = [("second", ctypes.c_uint64), ("index", ctypes.c_uint32), ("side", ctypes.c_uint32)]
+
+
 class Conflict(ctypes.Structure):
     _fields_ = [("first", ctypes.c_uint32), ("second", ctypes.c_uint32)]
 
@@ -40,7 +44,8 @@ def main():
     assert library.iddqd_keyed_find1(at, *key(b"\0\xff"), ctypes.byref(row)) == OK and row.value == 200
     assert library.iddqd_keyed_find1(at, *key(b"\0"), ctypes.byref(row)) == MISSING
     rows, count = (Row * 5)(), ctypes.c_size_t()
-    assert library.iddqd_keyed_range(at, ctypes.c_uint64(0), rows, ctypes.c_size_t(5), ctypes.byref(count)) == OK
+    whole = ctypes.byref(End())
+    assert library.iddqd_keyed_range(at, whole, whole, rows, ctypes.c_size_t(5), ctypes.byref(count)) == OK
     assert [row.second for row in rows[:count.value]] == [7, 8]
     library.iddqd_free(at)
     assert insert(b"ada", 7, 100) == HANDLE

@@ -10,10 +10,11 @@ void *__real_realloc(void *at, size_t size);
 void __real_free(void *at);
 
 static long before_refusal; /* how many allocations pass; the next one fails; negative: none fails */
+static int refuses_all;     /* each fails */
 static long held;           /* how many blocks are held */
 
 static int is_refused(void) {
-    return before_refusal >= 0 && before_refusal-- == 0;
+    return refuses_all || (before_refusal >= 0 && before_refusal-- == 0);
 }
 
 void *__wrap_malloc(size_t size) {
@@ -62,16 +63,38 @@ static uint32_t compact(iddqd_table *table) {
     return iddqd_keyed_compact(table, indexes, ITEMS, &count);
 }
 
+/* While every allocation fails, a duplicate is reported as one, an item that stands in no way as want of memory, and
+ * what takes no memory is done. */
+static void check_without_memory(iddqd_table *table, long at) {
+    const long was = before_refusal;
+    iddqd_conflict conflict = { 77, 77 };
+    iddqd_row row;
+    uint32_t index = 77;
+    const uint64_t other = 10 * ITEMS;
+    refuses_all = 1;
+    for (uint64_t i = 0; i < ITEMS; i++) {
+        CHECK(iddqd_keyed_insert(table, (const uint8_t *)&i, sizeof i, other, 0, &index, &conflict) == IDDQD_DUPLICATE);
+        CHECK(conflict.first == i && conflict.second == IDDQD_SENTINEL);
+        CHECK(iddqd_keyed_find1(table, (const uint8_t *)&i, sizeof i, &row) == IDDQD_OK && row.index == i);
+    }
+    CHECK(iddqd_keyed_insert(table, (const uint8_t *)&other, sizeof other, other, 0, &index, &conflict) == IDDQD_MEMORY);
+    refuses_all = 0;
+    before_refusal = was;
+    CHECK(index == 77);
+}
+
+typedef uint32_t make_table(iddqd_table *table, uint64_t seed1, uint64_t seed2);
+
 /* Whether allocation `at` of the run was refused. */
-static int is_refused_at(long at) {
+static int is_refused_at(long at, make_table *make) {
     iddqd_table table = IDDQD_NONE;
     int refused = 0;
     before_refusal = at;
-    uint32_t answer = iddqd_keyed_new(&table, 1, 2);
+    uint32_t answer = make(&table, 1, 2);
     if (answer != IDDQD_OK) {
         CHECK(answer == IDDQD_MEMORY && table.at == NULL && table.state == 0);
         refused++;
-        CHECK(iddqd_keyed_new(&table, 1, 2) == IDDQD_OK);
+        CHECK(make(&table, 1, 2) == IDDQD_OK);
     }
     for (uint64_t i = 0; i < ITEMS; i++) {
         size_t count;
@@ -83,6 +106,7 @@ static int is_refused_at(long at) {
             CHECK(insert(&table, i) == IDDQD_OK);
         }
     }
+    check_without_memory(&table, at);
     for (uint64_t i = 0; i < ITEMS; i++) {
         iddqd_row row;
         CHECK(iddqd_keyed_find1(&table, (const uint8_t *)&i, sizeof i, &row) == IDDQD_OK && row.value == i);
@@ -149,13 +173,16 @@ static int is_index_refused_at(long at) {
 }
 
 int main(void) {
-    long refusals = 0, of_index = 0;
-    while (is_refused_at(refusals)) {
+    long refusals = 0, of_shared = 0, of_index = 0;
+    while (is_refused_at(refusals, iddqd_keyed_new)) {
         refusals++;
+    }
+    while (is_refused_at(of_shared, iddqd_keyed_new_shared)) {
+        of_shared++;
     }
     while (is_index_refused_at(of_index)) {
         of_index++;
     }
-    printf("refused: ok, %ld allocations, %ld of an index\n", refusals, of_index);
-    return refusals > ITEMS && of_index > 1 ? 0 : 1;
+    printf("refused: ok, %ld and %ld allocations, %ld of an index\n", refusals, of_shared, of_index);
+    return refusals > ITEMS && of_shared > ITEMS && of_index > 1 ? 0 : 1;
 }

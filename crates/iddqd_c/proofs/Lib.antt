@@ -1,10 +1,11 @@
 mod Words
-pub mod StepLemmas
-pub mod EntryLemmas
-pub mod CopyLemmas
+pub mod AnswerLemmas
+pub mod FirstLemmas
+pub mod InsertLemmas
+pub mod ReplaceLemmas
 pub mod CallLemmas
+pub mod CopyLemmas
 pub mod ManyLemmas
-pub mod ReplacingLemmas
 pub mod CompactingLemmas
 mod MixingLemmas
 mod FilingLemmas

@@ -1,36 +1,21 @@
 -- A buffer that a loop fills with the answers for keys, one after another.
-use Rattle.std.proofs.Common.{◌≡◌, ◌≢◌, ◌∙◌, ◌+◌, ◌<◌, ◌≤◌, ℕ, List, [], ◌∷◌, ◌++◌, length, get_or, slice_set, suc, refl, sym, ap, subst, arith}
-use Rattle.std.specs.Prelude.{take, drop, Option, Some, None}
+use Rattle.std.proofs.Common.{◌≡◌, ◌≢◌, ◌⊎◌, ◌∙◌, ◌+◌, ◌<◌, ◌≤◌, inl, inr, ℕ, List, [], ◌∷◌, ◌++◌, length, get_or, slice_set, suc, refl, sym, ap, subst, arith}
+use Rattle.std.specs.Prelude.{take, drop}
 use Rattle.std.proofs.lemmas.Slice.Zip.{get_or-zip, length-zip}
 use Rattle.std.proofs.Math.Seq.{set-append_seam}
 use Rattle.std.proofs.lemmas.List.{append_assoc, drop_more, length_push, take_all, take_more}
-use Rattle.std.proofs.Common.{nat_cmp}
-use Rattle.std.specs.contracts.prelude.DefaultHasherHasher.TheImpl as hasher
-use Rattle.std.specs.contracts.random_state.RandomStateBuildHasher.TheImpl as builder
-use Rattle.std.specs.declared.random_state.RandomState.{RandomState}
-use Rattle.iddqd_driver.specs.Keys.{Keys, keys_of}
-use Rattle.iddqd_byte_keys.specs.contracts.ByteKeyHash.TheImpl as hash
-use Rattle.iddqd_byte_keys.specs.contracts.ByteKeyPartialEq.TheImpl as equality
-use Rattle.iddqd_byte_keys.specs.declared.ByteKey.{ByteKey}
-use Rattle.iddqd_codes.specs.declared.TheConstants.{OK}
-use Rattle.iddqd_c.specs.Entries.{spans}
-use Rattle.iddqd_c.specs.Rows.{AreAlike, ReportsRow, SaysRow, no_row}
-use Rattle.iddqd_c.specs.contracts.entry.EntryKeyedItem.TheImpl as entry
-use Rattle.iddqd_c.specs.declared.entry.Entry.{Entry}
+use Rattle.iddqd_codes.specs.declared.TheConstants.{OK, MISSING}
+use Rattle.iddqd_c.specs.Entries.{ReportsRow, spans}
+use Rattle.iddqd_c.specs.Rows.{AreAlike, no_row}
 use Rattle.iddqd_c.specs.declared.entry.Row.{Row}
 
--- the keys of entries, as clauses name them
-abbrev pub entry_keys : Keys Entry ByteKey ℕ RandomState
-entry_keys =
-    keys_of entry.ghosts equality.ghosts.eq hash.ghosts.hash_input nat_cmp builder.ghosts hasher.ghosts
-
--- the code of a report and what it writes say in a row alone which entry was found, if the row said none before
+-- what a look-up of one key writes, if it was to write over the row for none
 pub reported :
-    (code : ℕ) (row was : Row) (found : Option (ℕ × Entry)) → SaysRow code row found → (code ≢ OK → row ≡ was)
-    → was ≡ no_row → ReportsRow row found
-reported code row was (Some (ix, entry)) says kept none = says.1
-reported code row was None says kept none =
-    kept (λ ok. absurd (omega (arith, ok, says))) ∙ none
+    (finds : ℕ → Row → Type 0) (code : ℕ) (row was : Row) → finds code row → (code ≡ OK) ⊎ (code ≡ MISSING)
+    → (code ≢ OK → row ≡ was) → was ≡ no_row → ReportsRow finds row
+reported finds code row was found (inl ok) kept none = inl (subst (λ c. finds c row) ok found)
+reported finds code row was found (inr missing) kept none =
+    inr (subst (λ c. finds c row) missing found, kept (λ ok. absurd (omega (arith, ok, missing))) ∙ none)
 
 pub length-spans : (ends : List ℕ) → length (spans ends) ≡ length ends
 length-spans ends = omega (arith, length-zip (0 ∷ ends) ends)

@@ -1,17 +1,12 @@
--- What a compaction answers and leaves: the new index of each old slot in a buffer, as a step of the keyed machine.
-use Rattle.std.specs.Prelude.{◌≡◌, ◌⊎◌, ◌≤◌, ◌<◌, ℕ, List, map, ◌++◌, drop, length, slice_index_or}
+-- What a compaction answers and leaves: the new index of each old slot in a buffer.
+use Rattle.std.specs.Prelude.{◌≡◌, ◌≢◌, ◌⊎◌, ◌≤◌, ◌<◌, ℕ, List, [], map, ◌++◌, drop, length, slice_index_or}
 use Rattle.iddqd.specs.Store.{Store, sentinel, slot_count}
 use Rattle.iddqd.specs.Compaction.{new_name, numbers}
 use Rattle.iddqd.specs.declared.index_remap.IndexRemap.{IndexRemap}
 use Rattle.iddqd.specs.declared.index_remap.IndexRemap.TheVariants.{Identity, Permuted}
-use Rattle.iddqd_driver.specs.Keys.{Keys}
-use Rattle.iddqd_driver.specs.State.{State}
-use Rattle.iddqd_driver.specs.Machine.{Step}
-use Rattle.iddqd_driver.specs.Memory.{SizedState}
-use Rattle.iddqd_driver.specs.declared.command.Command.TheVariants.{Compact}
-use Rattle.iddqd_driver.specs.declared.command.Reply.TheVariants.{Compacted, NoMemory}
+use Rattle.iddqd_map.specs.Calls.{Compacts}
 use Rattle.iddqd_codes.specs.declared.TheConstants.{OK, MEMORY, SMALL}
-use Rattle.iddqd_c.specs.declared.entry.Entry.{Entry}
+use Rattle.iddqd_c.specs.Held.{Items}
 
 -- the new index of a slot by a remap, `SENTINEL` for one that isn't listed
 abbrev pub name_in : IndexRemap → ℕ → ℕ
@@ -23,17 +18,11 @@ name_in (Permuted names) slot = slice_index_or names.items slot sentinel
 abbrev pub FillsNewIndexes : {T : Type 0} → Store T → List ℕ → List ℕ → Type 0
 FillsNewIndexes s was indexes = indexes ≡ map (new_name s) (numbers (slot_count s)) ++ drop (slot_count s) was
 
-module _ {S K1 : Type 0} (keys : Keys Entry K1 ℕ S) where
-  -- the machine compacts the entries
-  abbrev pub CompactsEntries : State Entry S → State Entry S → Type 0
-  CompactsEntries old new = (remap : IndexRemap) × Step keys old Compact (Compacted remap) new
-
-  -- What a compaction answers and leaves, by its code; the memory stays. At `SMALL` the buffer has fewer places than
-  -- there are slots. At `MEMORY` a slot is vacant, by the step.
-  abbrev pub CompactsInto : ℕ → ℕ → List ℕ → List ℕ → SizedState Entry S → SizedState Entry S → Type 0
-  CompactsInto code count was indexes old new =
-      let slots = slot_count old.state.store in
-      ((code ≡ OK) × (slots ≤ length was) × (count ≡ slots) × FillsNewIndexes old.state.store was indexes
-      × CompactsEntries old.state new.state × (new.memory ≡ old.memory))
-      ⊎ ((code ≡ SMALL) × (length was < slots) × (count ≡ slots) × (new ≡ old))
-      ⊎ ((code ≡ MEMORY) × (slots ≤ length was) × Step keys old.state Compact NoMemory new.state × (new ≡ old))
+-- What a compaction answers and leaves, by its code; the memory stays. At `SMALL` the buffer has fewer places than
+-- there are slots. At `MEMORY` a slot is vacant.
+abbrev pub CompactsInto : ℕ → ℕ → List ℕ → List ℕ → Items → Items → Type 0
+CompactsInto code count was indexes old new =
+    let slots = slot_count old.store in
+    ((code ≡ OK) × (slots ≤ length was) × (count ≡ slots) × FillsNewIndexes old.store was indexes × Compacts old new)
+    ⊎ ((code ≡ SMALL) × (length was < slots) × (count ≡ slots) × (new ≡ old))
+    ⊎ ((code ≡ MEMORY) × (slots ≤ length was) × (old.store.free ≢ []) × (new ≡ old))

@@ -1,61 +1,88 @@
--- What the functions on keyed items answer and leave, as steps of the keyed machine.
-use Rattle.std.specs.Prelude.{◌≡◌, ◌⊎◌, ◌≤◌, ◌<◌, ℕ, Bool, List, [], ◌∷◌, ◌++◌, drop, length, Option, None, IfSome, Ok, Some, Result, Err}
+-- What the functions on keyed items answer and leave, by the relations of the map.
+use Rattle.std.specs.Prelude.{◌≡◌, ◌⊎◌, ◌+◌, ◌≤◌, ◌<◌, ℕ, Bool, List, ◌∷◌, ◌++◌, drop, length, Option, Some, None, IsSome, Ok, Err, Result}
 use Rattle.std.specs.List.{slice_range, zip}
-use Rattle.std.specs.Ordering.{nat_cmp}
-use Rattle.std.specs.declared.ops.Bound.TheVariants.{Included, Unbounded}
 use Rattle.std.specs.declared.alloc.AllocError.{AllocError}
-use Rattle.iddqd.specs.Store.{get, live_count, IsFull}
-use Rattle.iddqd_keys.specs.OrderedQuery.{is_within}
-use Rattle.iddqd_keys.specs.Scan.{IsLive}
-use Rattle.iddqd_driver.specs.Keys.{Keys}
-use Rattle.iddqd_driver.specs.State.{State}
-use Rattle.iddqd_driver.specs.KeyIndexes.{AreInSync, first_key_index, second_key_index}
-use Rattle.iddqd_driver.specs.Machine.{Step}
-use Rattle.iddqd_driver.specs.Run.{Run}
-use Rattle.iddqd_driver.specs.Memory.{SizedState, IsNoLower, ReservesInMemory, TakesForOne, room}
-use Rattle.iddqd_driver.specs.Walks.{RangesWithin}
-use Rattle.iddqd_driver.specs.declared.command.Command.{Command}
-use Rattle.iddqd_driver.specs.declared.command.Command.TheVariants.{Insert, Find1, Find2, Remove, Remove1, Remove2, Overwrite, Clear}
-use Rattle.iddqd_driver.specs.declared.command.Reply.{Reply}
-use Rattle.iddqd_driver.specs.declared.command.Reply.TheVariants.{Inserted, Refused, Found, Removed, Overwritten, Cleared}
-use Rattle.iddqd_driver.specs.declared.keyed_items.InsertRefusal.{InsertRefusal}
-use Rattle.iddqd_driver.specs.declared.keyed_items.InsertRefusal.TheVariants.{Duplicate, Full, Memory}
-use Rattle.iddqd_codes.specs.declared.TheConstants.{OK, MISSING, DUPLICATE, FULL, MEMORY, SMALL, UNSOUND}
+use Rattle.iddqd.specs.Store.{IsFull, Store, get, live_count, next_index, inserted, rebound, cleared}
+use Rattle.iddqd_hash.specs.Sizes.{most_cells}
+use Rattle.iddqd_keys.specs.Scan.{HasNoHit, AnswersScan, AreApart, IsHit}
+use Rattle.iddqd_map.specs.Groups.{CountsHits}
+use Rattle.iddqd_map.specs.Map.{IsOnly, RemovesAt, RemovesHit, room}
+use Rattle.iddqd_map.specs.Memory.{MakesRoom, ReservesItems}
+use Rattle.iddqd_map.specs.PairConflict.{Reports, first_of, second_of}
+use Rattle.iddqd_map.specs.Ranges.{LeavesOthers}
+use Rattle.iddqd_map.specs.declared.pair_conflict.PairConflict.{PairConflict}
+use Rattle.iddqd_map.specs.declared.refusal.InsertRefusal.{InsertRefusal}
+use Rattle.iddqd_map.specs.declared.refusal.InsertRefusal.TheVariants.{Duplicate, Full, Memory}
+use Rattle.iddqd_ord_map.specs.OrderedSteps.{most_cells as most_ordered}
+use Rattle.iddqd_codes.specs.declared.TheConstants.{OK, MISSING, DUPLICATE, FULL, MEMORY, SMALL}
+use Rattle.iddqd_c.specs.Held.{Items, Taken}
+use Rattle.iddqd_c.specs.Keys.{IsEntry, has_first, has_second}
+use Rattle.iddqd_c.specs.Rows.{AreAlike, CopiesBytes, SaysRow, no_row, number_of, row_of}
 use Rattle.iddqd_c.specs.declared.entry.Conflict.{Conflict}
 use Rattle.iddqd_c.specs.declared.entry.Entry.{Entry}
 use Rattle.iddqd_c.specs.declared.entry.Row.{Row}
-use Rattle.iddqd_c.specs.Rows.{AreAlike, CopiesBytes, SaysRow, ReportsRow, entry_at, entry_found, no_row, number_of, FillsRows}
-
--- the entry's first key has these bytes
-abbrev pub HasBytes : List ℕ → Entry → Type 0
-HasBytes bytes entry = entry.first.bytes.items ≡ bytes
-
--- the entry has these keys and this value
-pub record IsEntry (bytes : List ℕ) (second value : ℕ) (entry : Entry) : Type 0 where
-  pub has_bytes : HasBytes bytes entry
-  pub has_second : entry.second ≡ second
-  pub has_value : entry.value ≡ value
 
 -- the entry with this value
 abbrev pub with_value : Entry → ℕ → Entry
 with_value entry value = record entry { value = value }
 
--- the code says why an entry was refused, and of a duplicate the conflict says what the look-ups found
-abbrev pub SaysRefusal : ℕ → Conflict → InsertRefusal Entry → Type 0
-SaysRefusal code conflict (Duplicate entry first other) =
-    (code ≡ DUPLICATE) × (conflict.first ≡ number_of first) × (conflict.second ≡ number_of other)
-SaysRefusal code conflict (Full entry) = code ≡ FULL
-SaysRefusal code conflict (Memory entry) = code ≡ MEMORY
+-- what a count answers
+abbrev pub Counts : ℕ → ℕ → Items → Type 0
+Counts code count m = (code ≡ OK) × (count ≡ live_count m.store)
 
--- whether a second key is this one or a greater one
-abbrev pub is_from : ℕ → ℕ → Bool
-is_from from = is_within nat_cmp (Included from) Unbounded
+-- what a question for the room answers
+abbrev pub CountsRoom : ℕ → ℕ → Items → Type 0
+CountsRoom code count m = (code ≡ OK) × (count ≡ room m)
+
+-- what a read of an index answers
+abbrev pub GetsRow : ℕ → ℕ → Row → Items → Type 0
+GetsRow ix code row m = SaysRow code row ix (get m.store ix)
+
+-- What a look-up by a first key answers: the row of the one entry that has it; or no entry has it.
+abbrev pub FindsFirst : List ℕ → ℕ → Row → Items → Type 0
+FindsFirst bytes code row m =
+    ((code ≡ OK) × ((ix : ℕ) × ((entry : Entry) × IsOnly m.store (has_first bytes) ix entry × (row ≡ row_of ix entry))))
+    ⊎ ((code ≡ MISSING) × HasNoHit m.store (has_first bytes))
+
+-- this is the entry at the index, it passes the test, and no entry at a lesser index does
+pub record IsLeast (s : Store Entry) (test : Entry → Bool) (ix : ℕ) (entry : Entry) : Type 0 where
+  pub live : get s ix ≡ Some entry
+  pub hit : IsHit s test ix
+  pub least : (j : ℕ) → IsHit s test j → ix ≤ j
+
+-- the least index whose entry passes the test; `None` if and only if no entry passes
+abbrev pub FindsLeast : Store Entry → (Entry → Bool) → Option ℕ → Type 0
+FindsLeast s test (Some ix) = IsHit s test ix × ((j : ℕ) → IsHit s test j → ix ≤ j)
+FindsLeast s test None = HasNoHit s test
+
+-- What a look-up by a second key answers: the row of the entry with the least index among those that have it; or no
+-- entry has it. In a table whose second keys are unique there is one such entry at most.
+abbrev pub FindsSecond : ℕ → ℕ → Row → Items → Type 0
+FindsSecond second code row m =
+    ((code ≡ OK)
+    × ((ix : ℕ) × ((entry : Entry) × IsLeast m.store (has_second second) ix entry × (row ≡ row_of ix entry))))
+    ⊎ ((code ≡ MISSING) × HasNoHit m.store (has_second second))
 
 -- The answers for these keys stand at the start of a buffer, and the places behind them are as they were.
 pub record FillsAnswers {X : Type 0} (P : X → Row → Type 0) (asked : List X) (was rows : List Row) : Type 0 where
   pub answers : List Row
   pub each : AreAlike P asked answers
   pub filled : rows ≡ answers ++ drop (length asked) was
+
+-- what a look-up of many keys answers for one of them: what the look-up of this key answers, with the row for no entry
+-- if it misses
+abbrev pub ReportsRow : (ℕ → Row → Type 0) → Row → Type 0
+ReportsRow finds row = finds OK row ⊎ (finds MISSING row × (row ≡ no_row))
+
+-- what it answers for a second key
+abbrev pub AnswersSecond : Items → ℕ → Row → Type 0
+AnswersSecond m second = ReportsRow (λ code row. FindsSecond second code row m)
+
+-- what a look-up of many second keys answers: `SMALL`, if the buffer has fewer places than there are keys
+abbrev pub FindsMany : List ℕ → ℕ → List Row → List Row → Items → Type 0
+FindsMany seconds code was rows m =
+    ((code ≡ OK) × (length seconds ≤ length was) × FillsAnswers (AnswersSecond m) seconds was rows)
+    ⊎ ((code ≡ SMALL) × (length was < length seconds) × (rows ≡ was))
 
 -- where keys that end at these offsets begin and end: each begins where the one before ends, and the first at 0
 abbrev pub spans : List ℕ → List (ℕ × ℕ)
@@ -65,174 +92,23 @@ spans ends = zip (0 ∷ ends) ends
 abbrev pub HasSpan : List ℕ → ℕ → ℕ → Type 0
 HasSpan bytes start end = (start ≤ end) × (end ≤ length bytes)
 
-module _ {S K1 : Type 0} (keys : Keys Entry K1 ℕ S) where
-  -- a step of the machine by the first key of each entry whose first key has these bytes
-  abbrev pub StepsByBytes : List ℕ → (K1 → Command Entry K1 ℕ) → State Entry S → Reply Entry → State Entry S → Type 0
-  StepsByBytes bytes command old reply new =
-      (entry : Entry) → HasBytes bytes entry → Step keys old (command (keys.first entry)) reply new
+-- what a look-up of many first keys answers for the one with these bytes
+abbrev pub AnswersFirst : Items → List ℕ → Row → Type 0
+AnswersFirst m bytes = ReportsRow (λ code row. FindsFirst bytes code row m)
 
-  -- What a look-up answers: the entry at the index that the machine finds, which is live.
-  pub record Finds (s : State Entry S) (steps : Reply Entry → Type 0) (code : ℕ) (row : Row) : Type 0 where
-    pub found : Option ℕ
-    pub says : SaysRow code row (entry_found s.store found)
-    pub live : IfSome found (IsLive s.store)
-    pub step : steps (Found found)
+-- what a look-up of many first keys answers for a span of its bytes: for the key there, if the bytes have this span,
+-- otherwise as for a missing key
+abbrev pub AnswersSpan : Items → List ℕ → ℕ × ℕ → Row → Type 0
+AnswersSpan m bytes (start, end) row =
+    (HasSpan bytes start end × AnswersFirst m (slice_range bytes start end) row)
+    ⊎ ((HasSpan bytes start end → ⊥) × (row ≡ no_row))
 
-  -- what a look-up by a first key with these bytes answers
-  abbrev pub FindsFirst : List ℕ → ℕ → Row → SizedState Entry S → Type 0
-  FindsFirst bytes code row k =
-      Finds k.state (λ reply. StepsByBytes bytes Find1 k.state reply k.state) code row
-
-  -- what a look-up by this second key answers
-  abbrev pub FindsSecond : ℕ → ℕ → Row → SizedState Entry S → Type 0
-  FindsSecond second code row k = Finds k.state (λ reply. Step keys k.state (Find2 second) reply k.state) code row
-
-  -- what a look-up of many second keys answers for one of them, as a step of the machine
-  pub record AnswersSecond (k : SizedState Entry S) (second : ℕ) (row : Row) : Type 0 where
-    pub found : Option ℕ
-    pub reports : ReportsRow row (entry_found k.state.store found)
-    pub live : IfSome found (IsLive k.state.store)
-    pub step : Step keys k.state (Find2 second) (Found found) k.state
-
-  -- what a look-up of many second keys answers: `SMALL`, if the buffer has fewer places than there are keys
-  abbrev pub FindsMany : List ℕ → ℕ → List Row → List Row → SizedState Entry S → Type 0
-  FindsMany seconds code was rows k =
-      ((code ≡ OK) × (length seconds ≤ length was) × FillsAnswers (AnswersSecond k) seconds was rows)
-      ⊎ ((code ≡ SMALL) × (length was < length seconds) × (rows ≡ was))
-
-  -- what a look-up of many first keys answers for the one with these bytes, as a step of the machine
-  pub record AnswersFirst (k : SizedState Entry S) (bytes : List ℕ) (row : Row) : Type 0 where
-    pub found : Option ℕ
-    pub reports : ReportsRow row (entry_found k.state.store found)
-    pub live : IfSome found (IsLive k.state.store)
-    pub step : StepsByBytes bytes Find1 k.state (Found found) k.state
-
-  -- what a look-up of many first keys answers for a span of its bytes: for the key there, if the bytes have this span,
-  -- otherwise as for a missing key
-  abbrev pub AnswersSpan : SizedState Entry S → List ℕ → ℕ × ℕ → Row → Type 0
-  AnswersSpan k bytes (start, end) row =
-      (HasSpan bytes start end × AnswersFirst k (slice_range bytes start end) row)
-      ⊎ ((HasSpan bytes start end → ⊥) × (row ≡ no_row))
-
-  -- What a look-up of many first keys answers, whose bytes stand one after the other and end at these offsets: `SMALL`,
-  -- if the buffer has fewer places than there are keys.
-  abbrev pub FindsManyFirst : List ℕ → List ℕ → ℕ → List Row → List Row → SizedState Entry S → Type 0
-  FindsManyFirst bytes ends code was rows k =
-      ((code ≡ OK) × (length ends ≤ length was) × FillsAnswers (AnswersSpan k bytes) (spans ends) was rows)
-      ⊎ ((code ≡ SMALL) × (length was < length ends) × (rows ≡ was))
-
-  -- What a removal answers and leaves: what the machine removes, and the memory stays.
-  pub record Removes
-      (old : SizedState Entry S) (steps : Reply Entry → Type 0) (code : ℕ) (row : Row) (new : SizedState Entry S)
-      : Type 0 where
-    pub removed : Option (ℕ × Entry)
-    pub says : SaysRow code row removed
-    pub step : steps (Removed removed)
-    pub memory : new.memory ≡ old.memory
-
-  -- what the removal of this index answers and leaves
-  abbrev pub RemovesIndex : ℕ → ℕ → Row → SizedState Entry S → SizedState Entry S → Type 0
-  RemovesIndex ix code row old new =
-      Removes old (λ reply. Step keys old.state (Remove ix) reply new.state) code row new
-
-  -- what a removal by a first key with these bytes answers and leaves
-  abbrev pub RemovesFirst : List ℕ → ℕ → Row → SizedState Entry S → SizedState Entry S → Type 0
-  RemovesFirst bytes code row old new =
-      Removes old (λ reply. StepsByBytes bytes Remove1 old.state reply new.state) code row new
-
-  -- what a removal by this second key answers and leaves
-  abbrev pub RemovesSecond : ℕ → ℕ → Row → SizedState Entry S → SizedState Entry S → Type 0
-  RemovesSecond second code row old new =
-      Removes old (λ reply. Step keys old.state (Remove2 second) reply new.state) code row new
-
-  -- What a change of the value at an index answers and leaves: the machine overwrites the entry there by one with the
-  -- same keys and this value; the memory stays. If the index isn't live, nothing changes.
-  abbrev pub SetsValue : ℕ → ℕ → ℕ → SizedState Entry S → SizedState Entry S → Type 0
-  SetsValue ix value code old new =
-      ((code ≡ OK) × (new.memory ≡ old.memory)
-      × ((was : Entry) × Step keys old.state (Overwrite ix (with_value was value)) (Overwritten (Ok was)) new.state))
-      ⊎ ((code ≡ MISSING) × (get old.state.store ix ≡ None) × (new ≡ old))
-
-  -- what a clear answers and leaves
-  abbrev pub Clears : ℕ → SizedState Entry S → SizedState Entry S → Type 0
-  Clears code old new = (code ≡ OK) × (new.memory ≡ old.memory) × Step keys old.state Clear Cleared new.state
-
-  -- What a range writes: the rows of the entries from a second key on, in its order, as far as the buffer goes.
-  pub record WritesRange (from code count : ℕ) (was rows : List Row) (k : SizedState Entry S) : Type 0 where
-    pub done : code ≡ OK
-    pub pairs : List (ℕ × Entry)
-    pub within : RangesWithin keys (is_from from) k.state pairs
-    pub fills : FillsRows pairs count was rows
-
-  -- What a check answers: whether each item is found by both of its keys and no two share one, unless memory ran out.
-  abbrev pub SaysSound : ℕ → SizedState Entry S → Type 0
-  SaysSound code k =
-      ((code ≡ OK) × AreInSync keys k.state)
-      ⊎ ((code ≡ UNSOUND) × (AreInSync keys k.state → ⊥))
-      ⊎ (code ≡ MEMORY)
-
-  module _ (bytes : List ℕ) (second value : ℕ) where
-    -- each entry with these keys and this value is refused so, as a step of the machine
-    abbrev pub RefusesEntry : (Entry → InsertRefusal Entry) → State Entry S → State Entry S → Type 0
-    RefusesEntry refusal old new =
-        (entry : Entry) → IsEntry bytes second value entry → Step keys old (Insert entry) (Refused (refusal entry)) new
-
-    -- an entry with these keys and this value was stored at the index
-    abbrev pub StoresEntry : ℕ → State Entry S → State Entry S → Type 0
-    StoresEntry at old new =
-        (entry : Entry) × IsEntry bytes second value entry × Step keys old (Insert entry) (Inserted at) new
-
-    -- each entry with these keys and this value is a duplicate, of the items at these indexes
-    abbrev pub ReportsConflict : Conflict → State Entry S → State Entry S → Type 0
-    ReportsConflict conflict old new =
-        (first other : Option ℕ)
-        × (conflict.first ≡ number_of first)
-        × (conflict.second ≡ number_of other)
-        × RefusesEntry (λ entry. Duplicate entry first other) old new
-
-    -- Memory ran out: the store isn't full, and no item has one of the keys, as far as look-ups find it. That is a step
-    -- of the machine.
-    pub record RunsOut (old new : State Entry S) : Type 0 where
-      pub first_missed :
-          (entry : Entry) → HasBytes bytes entry → (first_key_index keys).Finds old (keys.first entry) None
-      pub second_missed : (second_key_index keys).Finds old second None
-      pub not_full : IsFull old.store → ⊥
-      pub step : RefusesEntry Memory old new
-      pub contents : new ≡ old
-
-    -- What an insert answers and leaves, by its code. A duplicate is reported before a full table, and both before
-    -- memory is asked for.
-    abbrev pub InsertsAt : ℕ → ℕ → Conflict → SizedState Entry S → SizedState Entry S → Type 0
-    InsertsAt code at conflict old new =
-        ((code ≡ OK) × StoresEntry at old.state new.state)
-        ⊎ ((code ≡ DUPLICATE) × ReportsConflict conflict old.state new.state × (new ≡ old))
-        ⊎ ((code ≡ FULL) × IsFull old.state.store × RefusesEntry Full old.state new.state × (new ≡ old))
-        ⊎ ((code ≡ MEMORY) × RunsOut old.state new.state)
-
-    -- What an insert that is done and a look-up of its first key answer and leave: a run of the machine over these two
-    -- commands, with the replies that the index, the code and the row stand for.
-    pub record InsertsThenFinds (at code : ℕ) (row : Row) (old new : SizedState Entry S) : Type 0 where
-      pub entry : Entry
-      pub is_entry : IsEntry bytes second value entry
-      pub found : Option ℕ
-      pub says : SaysRow code row (entry_found new.state.store found)
-      pub run :
-          Run keys old.state (Insert entry ∷ Find1 (keys.first entry) ∷ []) (Inserted at ∷ Found found ∷ []) new.state
-
--- What an insert leaves of the memory: no part can hold less; with room for one more item it stays as it was; otherwise
--- no more is taken than one more item may need.
-pub record TakesMemory {S : Type 0} (old new : SizedState Entry S) : Type 0 where
-  pub no_lower : IsNoLower old.memory new.memory
-  pub had_room : 1 ≤ room old → new.memory ≡ old.memory
-  pub few : TakesForOne old.state.store.limit (live_count old.state.store) old.memory new.memory
-
--- what a read of an index answers
-abbrev pub GetsRow : {S : Type 0} → ℕ → ℕ → Row → SizedState Entry S → Type 0
-GetsRow ix code row k = SaysRow code row (entry_at k.state.store ix)
-
--- what a count answers
-abbrev pub Counts : {S : Type 0} → ℕ → ℕ → SizedState Entry S → Type 0
-Counts code count k = (code ≡ OK) × (count ≡ live_count k.state.store)
+-- What a look-up of many first keys answers, whose bytes stand one after the other and end at these offsets: `SMALL`,
+-- if the buffer has fewer places than there are keys.
+abbrev pub FindsManyFirst : List ℕ → List ℕ → ℕ → List Row → List Row → Items → Type 0
+FindsManyFirst bytes ends code was rows m =
+    ((code ≡ OK) × (length ends ≤ length was) × FillsAnswers (AnswersSpan m bytes) (spans ends) was rows)
+    ⊎ ((code ≡ SMALL) × (length was < length ends) × (rows ≡ was))
 
 -- the bytes of an entry's first key in a buffer, if there is an entry
 abbrev pub CopiesKey : Option Entry → ℕ → ℕ → List ℕ → List ℕ → Type 0
@@ -240,19 +116,137 @@ CopiesKey (Some entry) code count was buffer = CopiesBytes entry.first.bytes.ite
 CopiesKey None code count was buffer = code ≡ MISSING
 
 -- what a read of a first key answers
-abbrev pub WritesKey : {S : Type 0} → ℕ → ℕ → ℕ → List ℕ → List ℕ → SizedState Entry S → Type 0
-WritesKey ix code count was buffer k = CopiesKey (get k.state.store ix) code count was buffer
+abbrev pub WritesKey : ℕ → ℕ → ℕ → List ℕ → List ℕ → Items → Type 0
+WritesKey ix code count was buffer m = CopiesKey (get m.store ix) code count was buffer
+
+-- what the removal of an index answers and leaves
+abbrev pub RemovesIndex : ℕ → ℕ → Row → Items → Items → Type 0
+RemovesIndex ix code row old new =
+    (removed : Option Entry) × SaysRow code row ix removed × RemovesAt old ix removed new
+
+-- What a removal by a first key answers and leaves: the one entry that has it was removed; or no entry has it, and
+-- nothing changes.
+abbrev pub RemovesFirst : List ℕ → ℕ → Row → Items → Items → Type 0
+RemovesFirst bytes code row old new =
+    ((code ≡ OK)
+    × ((entry : Entry) × ((hit : RemovesHit old (has_first bytes) entry new) × (row ≡ row_of hit.ix entry))))
+    ⊎ ((code ≡ MISSING) × HasNoHit old.store (has_first bytes) × (new ≡ old))
+
+-- What a removal by a second key answers and leaves: the entry with the least index among those that have it was
+-- removed; or no entry has it, and nothing changes.
+abbrev pub RemovesSecond : ℕ → ℕ → Row → Items → Items → Type 0
+RemovesSecond second code row old new =
+    ((code ≡ OK)
+    × ((ix : ℕ) × ((entry : Entry) × IsLeast old.store (has_second second) ix entry × (row ≡ row_of ix entry)
+    × RemovesAt old ix (Some entry) new)))
+    ⊎ ((code ≡ MISSING) × HasNoHit old.store (has_second second) × (new ≡ old))
+
+-- What a change of the value at an index answers and leaves: the entry there has the same keys and this value, all
+-- others stay, and so does the memory. If the index isn't live, nothing changes.
+abbrev pub SetsValue : ℕ → ℕ → ℕ → Items → Items → Type 0
+SetsValue ix value code old new =
+    ((code ≡ OK) × (new.memory ≡ old.memory)
+    × ((was : Entry) × (get old.store ix ≡ Some was) × (new.store ≡ rebound old.store ix (with_value was value))))
+    ⊎ ((code ≡ MISSING) × (get old.store ix ≡ None) × (new ≡ old))
+
+-- what a count of a group answers
+abbrev pub CountsGroup : ℕ → ℕ → ℕ → Items → Type 0
+CountsGroup second code count m = (code ≡ OK) × CountsHits m.store (has_second second) count
+
+-- What the removal of a group answers and leaves: the entries with this second key are gone, and all others stay under
+-- their indexes; how many are gone; the memory stays.
+pub record RemovesGroup (second code count : ℕ) (old new : Items) : Type 0 where
+  pub done : code ≡ OK
+  pub left : LeavesOthers old.store (has_second second) new.store
+  pub counted : count + live_count new.store ≡ live_count old.store
+  pub memory : new.memory ≡ old.memory
+
+-- what a clear answers and leaves
+abbrev pub Clears : ℕ → Items → Items → Type 0
+Clears code old new = (code ≡ OK) × (new.store ≡ cleared old.store) × (new.memory ≡ old.memory)
 
 -- whether memory ran out, as a code
 abbrev pub SaysDone : {A E : Type 0} → ℕ → Result A E → Type 0
 SaysDone code (Ok done) = code ≡ OK
 SaysDone code (Err refused) = code ≡ MEMORY
 
--- what a reserve answers and leaves
-abbrev pub Reserves : {S : Type 0} → ℕ → ℕ → SizedState Entry S → SizedState Entry S → Type 0
-Reserves additional code old new =
-    (result : Result (Unit {0}) AllocError) × SaysDone code result × ReservesInMemory additional old result new
+-- what a reserve answers and leaves, for tables that have at most so many cells for a number of indexes
+abbrev pub ReservesCells : (ℕ → ℕ) → ℕ → ℕ → Items → Items → Type 0
+ReservesCells most additional code old new =
+    (result : Result (Unit {0}) AllocError) × SaysDone code result × ReservesItems most additional old result new
 
--- what a question for the room answers
-abbrev pub CountsRoom : {S : Type 0} → ℕ → ℕ → SizedState Entry S → Type 0
-CountsRoom code count k = (code ≡ OK) × (count ≡ room k)
+-- what a reserve answers and leaves: what the map promises of its two tables
+abbrev pub Reserves : ℕ → ℕ → Items → Items → Type 0
+Reserves = ReservesCells (λ count. most_cells count + most_ordered count)
+
+-- what an insert leaves of the memory: what the map may take for one more item
+abbrev pub TakesMemory : Items → Items → Type 0
+TakesMemory old new = MakesRoom most_cells old new.memory
+
+-- What the key index of second keys reports of an entry, if it reports anything, has this index: that of the entry that
+-- stands in the way.
+abbrev pub SaysSecond :
+    {C : Type 0} → (Entry → Entry → Bool) → (Store Entry → Entry → C → Type 0) → Taken → Option C → Option ℕ → Type 0
+SaysSecond alike conflicts taken at other =
+    (s : Store Entry) (entry : Entry) → Reports alike conflicts s entry at → AnswersScan s (taken entry.second) other
+
+-- The code says why the map refused an entry, and of a duplicate the conflict says which indexes it reports.
+abbrev pub SaysRefusal :
+    {C : Type 0} → (Entry → Entry → Bool) → (Store Entry → Entry → C → Type 0) → Taken → ℕ → Conflict
+    → InsertRefusal Entry (PairConflict ℕ C) → Type 0
+SaysRefusal alike conflicts taken code conflict (Duplicate entry at) =
+    (code ≡ DUPLICATE) × (conflict.first ≡ number_of (first_of at))
+    × ((other : Option ℕ) × (conflict.second ≡ number_of other) × (IsSome (second_of at) → IsSome other)
+    × SaysSecond alike conflicts taken (second_of at) other)
+SaysRefusal alike conflicts taken code conflict (Full entry) = code ≡ FULL
+SaysRefusal alike conflicts taken code conflict (Memory entry) = code ≡ MEMORY
+
+-- `taken second` says which entries stand in the way of another one with this second key
+module _ (taken : Taken) where
+  -- What a check answers: no two entries share a key that they mustn't share; or memory ran out. No other code is left.
+  abbrev pub SaysSound : ℕ → Items → Type 0
+  SaysSound code m =
+      ((code ≡ OK) × AreApart (λ x. has_first x.first.bytes.items) m.store × AreApart (λ x. taken x.second) m.store)
+      ⊎ (code ≡ MEMORY)
+
+  module _ (bytes : List ℕ) (second : ℕ) where
+    -- no entry has the first key, and none stands in the way of the second
+    abbrev pub AreNew : Items → Type 0
+    AreNew m = HasNoHit m.store (has_first bytes) × HasNoHit m.store (taken second)
+
+    -- an entry has the first key, or one stands in the way of the second, and the conflict says which
+    pub record ReportsConflict (conflict : Conflict) (m : Items) : Type 0 where
+      pub first : Option ℕ
+      pub other : Option ℕ
+      pub first_number : conflict.first ≡ number_of first
+      pub other_number : conflict.second ≡ number_of other
+      pub some : IsSome first ⊎ IsSome other
+      pub by_first : AnswersScan m.store (has_first bytes) first
+      pub by_second : AnswersScan m.store (taken second) other
+
+    -- why an entry with these keys can't be inserted for whose first key there is no memory
+    abbrev pub RefusesAt : ℕ → Conflict → Items → Type 0
+    RefusesAt code conflict m =
+        ((code ≡ DUPLICATE) × ReportsConflict conflict m)
+        ⊎ ((code ≡ FULL) × AreNew m × IsFull m.store)
+        ⊎ ((code ≡ MEMORY) × AreNew m × (IsFull m.store → ⊥))
+
+    module _ (value : ℕ) where
+      -- An entry with these keys and this value was stored at the next index, and none stood in its way.
+      pub record StoresEntry (at : ℕ) (old new : Items) : Type 0 where
+        pub entry : Entry
+        pub is_entry : IsEntry bytes second value entry
+        pub new_keys : AreNew old
+        pub not_full : IsFull old.store → ⊥
+        pub index : at ≡ next_index old.store
+        pub stored : new.store ≡ inserted old.store entry
+        pub live : get new.store at ≡ Some entry
+
+      -- What an insert answers and leaves, by its code. A duplicate is reported before a full table, and both even
+      -- where there is no memory.
+      abbrev pub InsertsAt : ℕ → ℕ → Conflict → Items → Items → Type 0
+      InsertsAt code at conflict old new =
+          ((code ≡ OK) × StoresEntry at old new)
+          ⊎ ((code ≡ DUPLICATE) × ReportsConflict conflict old × (new ≡ old))
+          ⊎ ((code ≡ FULL) × AreNew old × IsFull old.store × (new ≡ old))
+          ⊎ ((code ≡ MEMORY) × AreNew old × (IsFull old.store → ⊥) × (new.store ≡ old.store))

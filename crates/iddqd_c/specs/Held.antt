@@ -1,42 +1,53 @@
 -- What a handle holds before and after a function. If it holds no table of the kind, the function returns `HANDLE`, and
--- the handle holds what it held. Otherwise the function returns no `HANDLE`, which the relation `P` has to say.
-use Rattle.std.specs.Prelude.{◌≡◌, ℕ, List, Option, Some}
-use Rattle.std.specs.declared.random_state.RandomState.{RandomState}
+-- the handle holds what it held. Otherwise the function returns no `HANDLE`, which the relation `P` has to say. Keyed
+-- items keep their kind.
+use Rattle.std.specs.Prelude.{◌≡◌, ℕ, Bool, Option, Some}
 use Rattle.iddqd_hash.specs.HashTable.{Table as Numbers}
-use Rattle.iddqd_driver.specs.Keys.{Keys}
-use Rattle.iddqd_driver.specs.Memory.{SizedState}
+use Rattle.iddqd_map.specs.Map.{MapState}
 use Rattle.iddqd_codes.specs.declared.TheConstants.{HANDLE}
+use Rattle.iddqd_c.specs.Keys.{has_second, never}
 use Rattle.iddqd_c.specs.declared.entry.Entry.{Entry}
-use Rattle.iddqd_c.specs.declared.entry.Row.{Row}
 use Rattle.iddqd_c.specs.declared.table.Table.{Table}
-use Rattle.iddqd_c.specs.declared.table.Table.TheVariants.{Keyed, Index}
-use Rattle.iddqd_c.specs.Entries.{InsertsThenFinds}
+use Rattle.iddqd_c.specs.declared.table.Table.TheVariants.{Unique, Shared, Index}
 
 -- keyed items with their memory
 abbrev pub Items : Type 0
-Items = SizedState Entry RandomState
+Items = MapState Entry
 
--- the handle holds keyed items, and this holds of them
-abbrev pub HoldsKeyed : (Items → Type 0) → Option Table → Type 0
-HoldsKeyed P (Some (Keyed items)) = P items
-HoldsKeyed P held = ⊥
+-- which entries stand in the way of another one with a second key: those that have it, or none if several items may
+-- share it
+abbrev pub Taken : Type 0
+Taken = ℕ → Entry → Bool
 
--- a function that reads keyed items
+-- the handle holds items of which no two share a second key, and this holds of them
+abbrev pub HoldsUnique : (Items → Type 0) → Option Table → Type 0
+HoldsUnique P (Some (Unique keyed)) = P keyed.entries
+HoldsUnique P held = ⊥
+
+-- the same of items of which several may share a second key
+abbrev pub HoldsShared : (Items → Type 0) → Option Table → Type 0
+HoldsShared P (Some (Shared keyed)) = P keyed.entries
+HoldsShared P held = ⊥
+
+-- a function that reads keyed items, by what stands in the way of a second key
+abbrev pub ReadsEach : (Taken → Items → Type 0) → Option Table → ℕ → Type 0
+ReadsEach P (Some (Unique keyed)) code = P has_second keyed.entries
+ReadsEach P (Some (Shared keyed)) code = P never keyed.entries
+ReadsEach P held code = code ≡ HANDLE
+
+-- a function that changes keyed items, by what stands in the way of a second key
+abbrev pub ChangesEach : (Taken → Items → Items → Type 0) → Option Table → ℕ → Option Table → Type 0
+ChangesEach P (Some (Unique keyed)) code after = HoldsUnique (P has_second keyed.entries) after
+ChangesEach P (Some (Shared keyed)) code after = HoldsShared (P never keyed.entries) after
+ChangesEach P held code after = (code ≡ HANDLE) × (after ≡ held)
+
+-- a function that reads keyed items of both kinds alike
 abbrev pub ReadsKeyed : (Items → Type 0) → Option Table → ℕ → Type 0
-ReadsKeyed P (Some (Keyed items)) code = P items
-ReadsKeyed P held code = code ≡ HANDLE
+ReadsKeyed P = ReadsEach (λ taken. P)
 
--- a function that changes keyed items
+-- a function that changes keyed items of both kinds alike
 abbrev pub ChangesKeyed : (Items → Items → Type 0) → Option Table → ℕ → Option Table → Type 0
-ChangesKeyed P (Some (Keyed items)) code after = HoldsKeyed (P items) after
-ChangesKeyed P held code after = (code ≡ HANDLE) × (after ≡ held)
-
--- the handle holds keyed items before and after, and these answers are those of an insert that is done and a look-up of
--- its first key, as a run of the machine over these two commands
-abbrev pub RunsInsertThenFind :
-    {K1 : Type 0} → Keys Entry K1 ℕ RandomState → List ℕ → ℕ → ℕ → ℕ → ℕ → Row → Option Table → Option Table → Type 0
-RunsInsertThenFind keys bytes second value at code row before after =
-    HoldsKeyed (λ old. HoldsKeyed (InsertsThenFinds keys bytes second value at code row old) after) before
+ChangesKeyed P = ChangesEach (λ taken. P)
 
 -- the handle holds an index, and this holds of it
 abbrev pub HoldsIndex : (Numbers ℕ → Type 0) → Option Table → Type 0

@@ -1,7 +1,9 @@
 pub mod Parked
+pub mod Keys
 pub mod Rows
 pub mod Held
 pub mod Entries
+pub mod Ranges
 pub mod Replacing
 pub mod Compacting
 pub mod Numbers

@@ -1,7 +1,6 @@
 -- What C reads of entries, and how an answer stands in a code and a row.
 use Rattle.std.specs.Prelude.{◌≡◌, ◌⊎◌, ◌≤◌, ◌<◌, ℕ, List, [], ◌∷◌, ⊤, Option, Some, None, map, take, drop, ◌++◌, length, min}
-use Rattle.std.specs.Option.{option_map}
-use Rattle.iddqd.specs.Store.{Store, get, sentinel}
+use Rattle.iddqd.specs.Store.{sentinel}
 use Rattle.iddqd_codes.specs.declared.TheConstants.{OK, MISSING, SMALL}
 use Rattle.iddqd_c.specs.declared.entry.Entry.{Entry}
 use Rattle.iddqd_c.specs.declared.entry.Row.{Row}
@@ -10,28 +9,14 @@ use Rattle.iddqd_c.specs.declared.entry.Row.{Row}
 abbrev pub row_of : ℕ → Entry → Row
 row_of ix entry = record { second = entry.second; value = entry.value; index = ix }
 
--- the entry at an index with the index, if it is live
-abbrev pub entry_at : Store Entry → ℕ → Option (ℕ × Entry)
-entry_at s ix = option_map (λ entry. (ix, entry)) (get s ix)
-
--- the entry at the index that a look-up found, if it found one
-abbrev pub entry_found : Store Entry → Option ℕ → Option (ℕ × Entry)
-entry_found s (Some ix) = entry_at s ix
-entry_found s None = None
-
--- the code and the row say which entry it is: `OK` and its row, or `MISSING` for none
-abbrev pub SaysRow : ℕ → Row → Option (ℕ × Entry) → Type 0
-SaysRow code row (Some (ix, entry)) = (code ≡ OK) × (row ≡ row_of ix entry)
-SaysRow code row None = code ≡ MISSING
+-- the code and the row say which entry is at the index: `OK` and its row, or `MISSING` for none
+abbrev pub SaysRow : ℕ → Row → ℕ → Option Entry → Type 0
+SaysRow code row ix (Some entry) = (code ≡ OK) × (row ≡ row_of ix entry)
+SaysRow code row ix None = code ≡ MISSING
 
 -- the row for no entry: its index is `SENTINEL`
 abbrev pub no_row : Row
 no_row = record { second = 0; value = 0; index = sentinel }
-
--- the row says which entry it is: its row, or the one for none
-abbrev pub ReportsRow : Row → Option (ℕ × Entry) → Type 0
-ReportsRow row (Some (ix, entry)) = row ≡ row_of ix entry
-ReportsRow row None = row ≡ no_row
 
 -- an index that may be none, as a number: `SENTINEL` is none
 abbrev pub number_of : Option ℕ → ℕ

@@ -6,9 +6,9 @@
 //! function is what the next one finds. None of them has a condition: for a handle that is closed, or holds a
 //! table of another kind, they return an error code ([`iddqd_codes`]).
 //!
-//! Each function is in two parts. The one that C calls takes and puts the table; the one behind it finds out the kind
-//! of the table and makes the call. They are two since what is known of the table is lost where branches join before
-//! it is put back.
+//! Each function is in parts. The one that C calls takes and puts the table; the one behind it finds out the kind of the
+//! table. They are two since what is known of the table is lost where branches join before it is put back. Of keyed
+//! items a third one is generic over the key index of the second keys.
 #![tactic(auto)]
 
 mod calls;
@@ -17,5 +17,6 @@ mod handle;
 mod index;
 mod keyed;
 mod numbers;
+mod second_key;
 mod table;
 mod version;

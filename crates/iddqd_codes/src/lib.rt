@@ -1,4 +1,4 @@
-//! What the functions for C return, those of `iddqd_c` and those of `iddqd_multi_c`.
+//! What the functions for C return.
 #![tactic(auto)]
 
 /// It is done.

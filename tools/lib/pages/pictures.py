@@ -75,7 +75,7 @@ def layers():
         (70, [(20, 330, PLAIN, "your program in Rattle", "proved as far as its contracts say"),
               (365, 150, PLAIN, "C, C++, Python", "unproved"), (530, 150, TESTED, "Rust crate", "tested")]),
         (140, [(20, 330, PROVED, "maps: IdHashMap, IdOrdMap, Map by any mix, ..", "KeyedItems, TriItems, the program keyed"),
-               (365, 315, PROVED, "functions for C", "iddqd_c, iddqd_multi_c")]),
+               (365, 315, PROVED, "functions for C", "iddqd_c")]),
         (210, [(20, 660, PROVED, "key indexes: a table by a key, beside a store", "ByHash, ByOrder, ByHashMulti, ByOrderMulti, Pair")]),
         (280, [(20, 210, PROVED, "ItemSet", "the store"), (245, 210, PROVED, "MapHashTable", "indexes under hashes"),
                (470, 210, PROVED, "MapBTreeTable", "indexes in an order")]),

@@ -5,11 +5,14 @@ ghost use Rattle.iddqd_c.specs.Entries.{WritesKey};
 ghost use Rattle.iddqd_c.specs.Held.{ReadsKeyed};
 ghost use Rattle.iddqd_c.specs.Rows.{CopiesBytes};
 
+use crate::entry::Entry;
 use crate::handle::{CTable, put, take};
-use crate::table::Table;
+use crate::table::{Keyed, Table};
 use iddqd::item_index::ItemIndex;
 use iddqd_codes::{HANDLE, MISSING, OK, SMALL};
+use iddqd_map::key_index::KeyIndex;
 use std::alloc::Global;
+use std::hash::RandomState;
 
 /// Writes the first key of the item at an index to the buffer, and how many bytes it has. If the buffer is too short,
 /// it writes the number alone.
@@ -43,11 +46,22 @@ fn key_at(table: &Table, index: u32, key: &mut [u8], len: &mut usize) -> u32
     ensures len_kept { result ≢ OK → result ≢ SMALL → len.new ≡ len.old }
 {
     match table {
-        Table::Keyed(items) => match items.get(ItemIndex::new(index)) {
-            Some(entry) => copy(entry.first.bytes.as_slice(), key, len),
-            None => MISSING,
-        },
+        Table::Unique(keyed) => write(keyed, ItemIndex::new(index), key, len),
+        Table::Shared(keyed) => write(keyed, ItemIndex::new(index), key, len),
         Table::Index(_) => HANDLE,
+    }
+}
+
+fn write<B>(keyed: &Keyed<B>, ix: ItemIndex, key: &mut [u8], len: &mut usize) -> u32
+where
+    B: KeyIndex<Entry, RandomState>,
+    ensures writes { WritesKey ix result len.new key.old key.new keyed.now.entries }
+    ensures key_kept { result ≢ OK → key.new ≡ key.old }
+    ensures len_kept { result ≢ OK → result ≢ SMALL → len.new ≡ len.old }
+{
+    match keyed.entries.get_at(ix) {
+        Some(entry) => copy(entry.first.bytes.as_slice(), key, len),
+        None => MISSING,
     }
 }
 

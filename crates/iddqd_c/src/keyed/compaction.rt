@@ -5,14 +5,15 @@ ghost use Rattle.iddqd_codes.specs.declared.TheConstants.{OK, SMALL};
 ghost use Rattle.iddqd_c.specs.Compacting.{CompactsInto, name_in};
 ghost use Rattle.iddqd_c.specs.Held.{ChangesKeyed};
 
-use crate::entry::Entries;
+use crate::entry::Entry;
 use crate::handle::{CTable, put, take};
-use crate::table::Table;
+use crate::table::{Keyed, Table};
 use iddqd::index_remap::IndexRemap;
 use iddqd::item_index::ItemIndex;
 use iddqd_codes::{HANDLE, MEMORY, OK, SMALL};
-use iddqd_driver::keyed_items::Keyed;
+use iddqd_map::key_index::Upkeep;
 use std::alloc::{AllocError, Global};
+use std::hash::RandomState;
 
 /// Moves every item down to its rank, so that no slot is vacant, and writes the new index of each old slot to the
 /// buffer, `SENTINEL` for a vacant one; and how many slots there were. If the buffer has fewer places than there are
@@ -24,8 +25,8 @@ pub extern "C" fn iddqd_keyed_compact(
     indexes: &mut [u32],
     count: &mut usize,
 ) -> u32
-    ensures compacts { ChangesKeyed (CompactsInto ⟦<Entries as Keyed>⟧.keys result count.new indexes.old
-        indexes.new) t.old.handle.value result t.new.handle.value }
+    ensures compacts { ChangesKeyed (CompactsInto result count.new indexes.old indexes.new)
+        t.old.handle.value result t.new.handle.value }
     ensures state { t.new.state ≡ t.old.state }
     ensures closed { t.old.state ≢ 1 → t.new ≡ t.old }
     ensures indexes_kept { result ≢ OK → indexes.new ≡ indexes.old }
@@ -41,30 +42,32 @@ pub extern "C" fn iddqd_keyed_compact(
 }
 
 fn compact(table: &mut Table, indexes: &mut [u32], count: &mut usize) -> u32
-    ensures compacts { ChangesKeyed (CompactsInto ⟦<Entries as Keyed>⟧.keys result count.new indexes.old
-        indexes.new) (Some table.old) result (Some table.new) }
+    ensures compacts { ChangesKeyed (CompactsInto result count.new indexes.old indexes.new)
+        (Some table.old) result (Some table.new) }
     ensures indexes_kept { result ≢ OK → indexes.new ≡ indexes.old }
     ensures count_kept { result ≢ OK → result ≢ SMALL → count.new ≡ count.old }
 {
     match table {
-        Table::Keyed(items) => close_up(items, indexes, count),
+        Table::Unique(keyed) => close_up(keyed, indexes, count),
+        Table::Shared(keyed) => close_up(keyed, indexes, count),
         Table::Index(_) => HANDLE,
     }
 }
 
-// The compaction of keyed items.
-fn close_up(items: &mut Entries, indexes: &mut [u32], count: &mut usize) -> u32
-    ensures compacts { CompactsInto ⟦<Entries as Keyed>⟧.keys result count.new indexes.old indexes.new
-        items.old items.new }
+// The compaction of entries whose second keys go by `B`.
+fn close_up<B>(keyed: &mut Keyed<B>, indexes: &mut [u32], count: &mut usize) -> u32
+where
+    B: Upkeep<Entry, RandomState>,
+    ensures compacts { CompactsInto result count.new indexes.old indexes.new keyed.old.entries keyed.new.entries }
     ensures indexes_kept { result ≢ OK → indexes.new ≡ indexes.old }
     ensures count_kept { result ≢ OK → result ≢ SMALL → count.new ≡ count.old }
 {
-    let slots = items.slot_count();
+    let slots = keyed.entries.parts().items.slot_count();
     if indexes.len() < slots {
         *count = slots;
         return SMALL;
     }
-    match items.compact() {
+    match keyed.entries.compact() {
         Ok(remap) => {
             *count = slots;
             write_all(&remap, slots, indexes);

@@ -4,16 +4,16 @@ ghost use Rattle.iddqd_codes.specs.declared.TheConstants.{OK};
 ghost use Rattle.iddqd_c.specs.Entries.{AnswersSecond, FindsMany, FillsAnswers};
 ghost use Rattle.iddqd_c.specs.Held.{ReadsKeyed};
 
-use super::finds::report;
-use crate::entry::{Entries, Row};
+use super::finds::find_second;
+use crate::entry::Row;
 use crate::handle::{CTable, put, take};
-use crate::table::Table;
+use crate::second_key::SecondKey;
+use crate::table::{Keyed, Table};
 use iddqd_codes::{HANDLE, OK, SMALL};
-use iddqd_driver::keyed_items::Keyed;
 use std::alloc::Global;
 
-/// Writes for each of the second keys the row of its item, or [`Row::none`] if no item has it. If the buffer has fewer
-/// places than there are keys, nothing is done.
+/// Writes for each of the second keys the row that `iddqd_keyed_find2` would, or [`Row::none`] if no item has it. If
+/// the buffer has fewer places than there are keys, nothing is done.
 #[unsafe(no_mangle)]
 pub extern "C" fn iddqd_keyed_find_many(
     t: &mut CTable,
@@ -21,8 +21,7 @@ pub extern "C" fn iddqd_keyed_find_many(
     seconds: &[u64],
     rows: &mut [Row],
 ) -> u32
-    ensures finds { ReadsKeyed (FindsMany ⟦<Entries as Keyed>⟧.keys seconds.now result rows.old rows.new)
-        t.old.handle.value result }
+    ensures finds { ReadsKeyed (FindsMany seconds.now result rows.old rows.new) t.old.handle.value result }
     ensures same { t.new.handle.value ≡ t.old.handle.value }
     ensures state { t.new.state ≡ t.old.state }
     ensures closed { t.old.state ≢ 1 → t.new ≡ t.old }
@@ -38,38 +37,42 @@ pub extern "C" fn iddqd_keyed_find_many(
 }
 
 fn find_many(table: &Table, seconds: &[u64], rows: &mut [Row]) -> u32
-    ensures finds { ReadsKeyed (FindsMany ⟦<Entries as Keyed>⟧.keys seconds.now result rows.old rows.new)
-        (Some table.now) result }
+    ensures finds { ReadsKeyed (FindsMany seconds.now result rows.old rows.new) (Some table.now) result }
     ensures kept { result ≢ OK → rows.new ≡ rows.old }
 {
     match table {
-        Table::Keyed(items) => {
-            if rows.len() < seconds.len() {
-                return SMALL;
-            }
-            fill(items, seconds, rows);
-            OK
-        }
+        Table::Unique(keyed) => find_all(keyed, seconds, rows),
+        Table::Shared(keyed) => find_all(keyed, seconds, rows),
         Table::Index(_) => HANDLE,
     }
 }
 
+fn find_all<B: SecondKey>(keyed: &Keyed<B>, seconds: &[u64], rows: &mut [Row]) -> u32
+    ensures finds { FindsMany seconds.now result rows.old rows.new keyed.now.entries }
+    ensures kept { result ≢ OK → rows.new ≡ rows.old }
+{
+    if rows.len() < seconds.len() {
+        return SMALL;
+    }
+    fill(keyed, seconds, rows);
+    OK
+}
+
 // Writes a row for each of the second keys.
-fn fill(items: &Entries, seconds: &[u64], rows: &mut [Row])
+fn fill<B: SecondKey>(keyed: &Keyed<B>, seconds: &[u64], rows: &mut [Row])
     requires { length seconds.now ≤ length rows.old }
-    ensures { FillsAnswers (AnswersSecond ⟦<Entries as Keyed>⟧.keys items.now) seconds.now rows.old rows.new }
+    ensures { FillsAnswers (AnswersSecond keyed.now.entries) seconds.now rows.old rows.new }
 {
     for at in 0..seconds.len() {
-        rows[at] = answer(items, seconds[at]);
+        rows[at] = answer(keyed, seconds[at]);
     }
 }
 
-// The row of the item with this second key, or the one for none.
-fn answer(items: &Entries, second: u64) -> Row
-    ensures { AnswersSecond ⟦<Entries as Keyed>⟧.keys items.now second result }
+// The row for this second key, or the one for none.
+fn answer<B: SecondKey>(keyed: &Keyed<B>, second: u64) -> Row
+    ensures { AnswersSecond keyed.now.entries second result }
 {
     let mut row = Row::none();
-    let found = items.find2(&second);
-    report(items, found, &mut row);
+    find_second(keyed, second, &mut row);
     row
 }

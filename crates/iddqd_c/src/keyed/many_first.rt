@@ -4,14 +4,14 @@ ghost use Rattle.iddqd_codes.specs.declared.TheConstants.{OK};
 ghost use Rattle.iddqd_c.specs.Entries.{AnswersFirst, AnswersSpan, FindsManyFirst, FillsAnswers, spans};
 ghost use Rattle.iddqd_c.specs.Held.{ReadsKeyed};
 
-use super::finds::report;
-use crate::entry::{Entries, Row};
+use super::finds::find_first;
+use crate::entry::{Entry, Row};
 use crate::handle::{CTable, put, take};
-use crate::table::Table;
-use iddqd_byte_keys::ByteKeyQuery;
+use crate::table::{Keyed, Table};
 use iddqd_codes::{HANDLE, OK, SMALL};
-use iddqd_driver::keyed_items::Keyed;
+use iddqd_map::key_index::KeyIndex;
 use std::alloc::Global;
+use std::hash::RandomState;
 
 /// Writes for each of the first keys the row of its item, or [`Row::none`] if no item has it. The bytes of the keys
 /// stand one after the other: a key begins where the one before it ends, and the first at 0. A key whose end lies
@@ -25,7 +25,7 @@ pub extern "C" fn iddqd_keyed_find_many1(
     ends: &[usize],
     rows: &mut [Row],
 ) -> u32
-    ensures finds { ReadsKeyed (FindsManyFirst ⟦<Entries as Keyed>⟧.keys bytes.now ends.now result rows.old rows.new)
+    ensures finds { ReadsKeyed (FindsManyFirst bytes.now ends.now result rows.old rows.new)
         t.old.handle.value result }
     ensures same { t.new.handle.value ≡ t.old.handle.value }
     ensures state { t.new.state ≡ t.old.state }
@@ -42,55 +42,63 @@ pub extern "C" fn iddqd_keyed_find_many1(
 }
 
 fn find_many(table: &Table, bytes: &[u8], ends: &[usize], rows: &mut [Row]) -> u32
-    ensures finds { ReadsKeyed (FindsManyFirst ⟦<Entries as Keyed>⟧.keys bytes.now ends.now result rows.old rows.new)
-        (Some table.now) result }
+    ensures finds { ReadsKeyed (FindsManyFirst bytes.now ends.now result rows.old rows.new) (Some table.now)
+        result }
     ensures kept { result ≢ OK → rows.new ≡ rows.old }
 {
     match table {
-        Table::Keyed(items) => {
-            if rows.len() < ends.len() {
-                return SMALL;
-            }
-            fill(items, bytes, ends, rows);
-            OK
-        }
+        Table::Unique(keyed) => find_all(keyed, bytes, ends, rows),
+        Table::Shared(keyed) => find_all(keyed, bytes, ends, rows),
         Table::Index(_) => HANDLE,
     }
 }
 
+fn find_all<B>(keyed: &Keyed<B>, bytes: &[u8], ends: &[usize], rows: &mut [Row]) -> u32
+where
+    B: KeyIndex<Entry, RandomState>,
+    ensures finds { FindsManyFirst bytes.now ends.now result rows.old rows.new keyed.now.entries }
+    ensures kept { result ≢ OK → rows.new ≡ rows.old }
+{
+    if rows.len() < ends.len() {
+        return SMALL;
+    }
+    fill(keyed, bytes, ends, rows);
+    OK
+}
+
 // Writes a row for each of the keys that end at these offsets.
-fn fill(items: &Entries, bytes: &[u8], ends: &[usize], rows: &mut [Row])
+fn fill<B>(keyed: &Keyed<B>, bytes: &[u8], ends: &[usize], rows: &mut [Row])
+where
+    B: KeyIndex<Entry, RandomState>,
     requires { length ends.now ≤ length rows.old }
-    ensures { FillsAnswers (AnswersSpan ⟦<Entries as Keyed>⟧.keys items.now bytes.now)
-        (spans ends.now) rows.old rows.new }
+    ensures { FillsAnswers (AnswersSpan keyed.now.entries bytes.now) (spans ends.now) rows.old rows.new }
 {
     let mut start = 0;
     for at in 0..ends.len() {
         let end = ends[at];
-        rows[at] = answer(items, bytes, start, end);
+        rows[at] = answer(keyed, bytes, start, end);
         start = end;
     }
 }
 
 // The row of the item with the first key in this span, or the one for none.
-fn answer(items: &Entries, bytes: &[u8], start: usize, end: usize) -> Row
-    ensures { AnswersSpan ⟦<Entries as Keyed>⟧.keys items.now bytes.now (start, end) result }
+fn answer<B>(keyed: &Keyed<B>, bytes: &[u8], start: usize, end: usize) -> Row
+where
+    B: KeyIndex<Entry, RandomState>,
+    ensures { AnswersSpan keyed.now.entries bytes.now (start, end) result }
 {
     if start <= end && end <= bytes.len() {
-        find(items, &bytes[start..end])
+        find(keyed, &bytes[start..end])
     } else {
         Row::none()
     }
 }
 
 // The row of the item whose first key has these bytes, or the one for none.
-fn find(items: &Entries, key: &[u8]) -> Row
-    ensures { AnswersFirst ⟦<Entries as Keyed>⟧.keys items.now key.now result }
+fn find<B: KeyIndex<Entry, RandomState>>(keyed: &Keyed<B>, key: &[u8]) -> Row
+    ensures { AnswersFirst keyed.now.entries key.now result }
 {
-    // Its contract has the invariant of the type, which that of the look-up lacks.
-    let _count = items.len();
-    let found = items.find1_by(ByteKeyQuery { bytes: key });
     let mut row = Row::none();
-    report(items, found, &mut row);
+    find_first(keyed, key, &mut row);
     row
 }

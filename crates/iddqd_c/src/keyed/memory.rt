@@ -1,13 +1,17 @@
 //! Memory that is taken before it is needed.
-ghost use Rattle.std.specs.Prelude.{◌≡◌, ◌≢◌, Some};
+ghost use Rattle.std.specs.Prelude.{◌≡◌, ◌≢◌, ◌+◌, Some};
 ghost use Rattle.iddqd_codes.specs.declared.TheConstants.{OK};
-ghost use Rattle.iddqd_c.specs.Entries.{CountsRoom, Reserves};
+ghost use Rattle.iddqd_hash.specs.Sizes.{most_cells};
+ghost use Rattle.iddqd_c.specs.Entries.{CountsRoom, Reserves, ReservesCells};
 ghost use Rattle.iddqd_c.specs.Held.{ChangesKeyed, ReadsKeyed};
 
+use crate::entry::Entry;
 use crate::handle::{CTable, put, take};
-use crate::table::Table;
+use crate::table::{Keyed, Table};
 use iddqd_codes::{HANDLE, MEMORY, OK};
+use iddqd_map::key_index::Upkeep;
 use std::alloc::{AllocError, Global};
+use std::hash::RandomState;
 
 /// Makes room in the table for so many more items, or for as many as there can be. Memory for their first keys isn't
 /// taken.
@@ -30,11 +34,19 @@ fn reserve(table: &mut Table, additional: usize) -> u32
     ensures reserves { ChangesKeyed (Reserves additional result) (Some table.old) result (Some table.new) }
 {
     match table {
-        Table::Keyed(items) => match items.reserve(additional) {
-            Ok(()) => OK,
-            Err(AllocError) => MEMORY,
-        },
+        Table::Unique(keyed) => reserve_for(keyed, additional),
+        Table::Shared(keyed) => reserve_for(keyed, additional),
         Table::Index(_) => HANDLE,
+    }
+}
+
+fn reserve_for<B: Upkeep<Entry, RandomState>>(keyed: &mut Keyed<B>, additional: usize) -> u32
+    ensures { ReservesCells (λ count. most_cells count + B.most count) additional result keyed.old.entries
+        keyed.new.entries }
+{
+    match keyed.entries.reserve(additional) {
+        Ok(()) => OK,
+        Err(AllocError) => MEMORY,
     }
 }
 
@@ -61,8 +73,12 @@ fn room(table: &Table, count: &mut usize) -> u32
     ensures kept { result ≢ OK → count.new ≡ count.old }
 {
     match table {
-        Table::Keyed(items) => {
-            *count = items.room();
+        Table::Unique(keyed) => {
+            *count = keyed.entries.room();
+            OK
+        }
+        Table::Shared(keyed) => {
+            *count = keyed.entries.room();
             OK
         }
         Table::Index(_) => HANDLE,

@@ -1,18 +1,20 @@
-//! Removals. They copy no key and take no memory.
+//! Removals of one item. They copy no key and take no memory.
 ghost use Rattle.std.specs.Prelude.{◌≡◌, ◌≢◌, Some};
 ghost use Rattle.iddqd_codes.specs.declared.TheConstants.{OK};
 ghost use Rattle.iddqd_c.specs.Entries.{RemovesFirst, RemovesSecond, RemovesIndex};
 ghost use Rattle.iddqd_c.specs.Held.{ChangesKeyed};
-ghost use Rattle.iddqd_c.specs.Rows.{SaysRow};
 
-use crate::entry::{Entries, Entry, Row};
+use super::finds::least;
+use crate::entry::{ByFirst, Entry, Row};
 use crate::handle::{CTable, put, take};
-use crate::table::Table;
+use crate::second_key::SecondKey;
+use crate::table::{Keyed, Table};
 use iddqd::item_index::ItemIndex;
 use iddqd_byte_keys::ByteKeyQuery;
 use iddqd_codes::{HANDLE, MISSING, OK};
-use iddqd_driver::keyed_items::Keyed;
+use iddqd_map::key_index::Changes;
 use std::alloc::Global;
+use std::hash::RandomState;
 
 /// Removes the item at an index, and writes its row.
 #[unsafe(no_mangle)]
@@ -22,8 +24,8 @@ pub extern "C" fn iddqd_keyed_remove(
     index: u32,
     row: &mut Row,
 ) -> u32
-    ensures removes { ChangesKeyed (RemovesIndex ⟦<Entries as Keyed>⟧.keys index result row.new)
-        t.old.handle.value result t.new.handle.value }
+    ensures removes { ChangesKeyed (RemovesIndex index result row.new) t.old.handle.value result
+        t.new.handle.value }
     ensures state { t.new.state ≡ t.old.state }
     ensures closed { t.old.state ≢ 1 → t.new ≡ t.old }
     ensures kept { result ≢ OK → row.new ≡ row.old }
@@ -38,22 +40,28 @@ pub extern "C" fn iddqd_keyed_remove(
 }
 
 fn remove(table: &mut Table, index: u32, row: &mut Row) -> u32
-    ensures removes { ChangesKeyed (RemovesIndex ⟦<Entries as Keyed>⟧.keys index result row.new)
-        (Some table.old) result (Some table.new) }
+    ensures removes { ChangesKeyed (RemovesIndex index result row.new) (Some table.old) result (Some table.new) }
     ensures kept { result ≢ OK → row.new ≡ row.old }
 {
     match table {
-        Table::Keyed(items) => {
-            let ix = ItemIndex::new(index);
-            match items.remove(ix) {
-                Some(entry) => {
-                    *row = Row::of(ix, &entry);
-                    OK
-                }
-                None => MISSING,
-            }
-        }
+        Table::Unique(keyed) => remove_at(keyed, ItemIndex::new(index), row),
+        Table::Shared(keyed) => remove_at(keyed, ItemIndex::new(index), row),
         Table::Index(_) => HANDLE,
+    }
+}
+
+fn remove_at<B>(keyed: &mut Keyed<B>, ix: ItemIndex, row: &mut Row) -> u32
+where
+    B: Changes<Entry, RandomState>,
+    ensures removes { RemovesIndex ix result row.new keyed.old.entries keyed.new.entries }
+    ensures kept { result ≢ OK → row.new ≡ row.old }
+{
+    match keyed.entries.remove_at(ix) {
+        Some(entry) => {
+            *row = Row::of(ix, &entry);
+            OK
+        }
+        None => MISSING,
     }
 }
 
@@ -65,8 +73,8 @@ pub extern "C" fn iddqd_keyed_remove1(
     key: &[u8],
     row: &mut Row,
 ) -> u32
-    ensures removes { ChangesKeyed (RemovesFirst ⟦<Entries as Keyed>⟧.keys key.now result row.new)
-        t.old.handle.value result t.new.handle.value }
+    ensures removes { ChangesKeyed (RemovesFirst key.now result row.new) t.old.handle.value result
+        t.new.handle.value }
     ensures state { t.new.state ≡ t.old.state }
     ensures closed { t.old.state ≢ 1 → t.new ≡ t.old }
     ensures kept { result ≢ OK → row.new ≡ row.old }
@@ -81,17 +89,33 @@ pub extern "C" fn iddqd_keyed_remove1(
 }
 
 fn remove1(table: &mut Table, key: &[u8], row: &mut Row) -> u32
-    ensures removes { ChangesKeyed (RemovesFirst ⟦<Entries as Keyed>⟧.keys key.now result row.new)
-        (Some table.old) result (Some table.new) }
+    ensures removes { ChangesKeyed (RemovesFirst key.now result row.new) (Some table.old) result
+        (Some table.new) }
     ensures kept { result ≢ OK → row.new ≡ row.old }
 {
     match table {
-        Table::Keyed(items) => report(items.remove1_by(ByteKeyQuery { bytes: key }), row),
+        Table::Unique(keyed) => remove_first(keyed, key, row),
+        Table::Shared(keyed) => remove_first(keyed, key, row),
         Table::Index(_) => HANDLE,
     }
 }
 
-/// Removes the item with this second key, and writes its row.
+fn remove_first<B>(keyed: &mut Keyed<B>, key: &[u8], row: &mut Row) -> u32
+where
+    B: Changes<Entry, RandomState>,
+    ensures removes { RemovesFirst key.now result row.new keyed.old.entries keyed.new.entries }
+    ensures kept { result ≢ OK → row.new ≡ row.old }
+{
+    match keyed
+        .entries
+        .find_by::<ByFirst, _>(ByteKeyQuery { bytes: key })
+    {
+        Some(ix) => remove_at(keyed, ix, row),
+        None => MISSING,
+    }
+}
+
+/// Removes the item with this second key, of several the one with the least index, and writes its row.
 #[unsafe(no_mangle)]
 pub extern "C" fn iddqd_keyed_remove2(
     t: &mut CTable,
@@ -99,8 +123,8 @@ pub extern "C" fn iddqd_keyed_remove2(
     second: u64,
     row: &mut Row,
 ) -> u32
-    ensures removes { ChangesKeyed (RemovesSecond ⟦<Entries as Keyed>⟧.keys second result row.new)
-        t.old.handle.value result t.new.handle.value }
+    ensures removes { ChangesKeyed (RemovesSecond second result row.new) t.old.handle.value result
+        t.new.handle.value }
     ensures state { t.new.state ≡ t.old.state }
     ensures closed { t.old.state ≢ 1 → t.new ≡ t.old }
     ensures kept { result ≢ OK → row.new ≡ row.old }
@@ -115,26 +139,23 @@ pub extern "C" fn iddqd_keyed_remove2(
 }
 
 fn remove2(table: &mut Table, second: u64, row: &mut Row) -> u32
-    ensures removes { ChangesKeyed (RemovesSecond ⟦<Entries as Keyed>⟧.keys second result row.new)
-        (Some table.old) result (Some table.new) }
+    ensures removes { ChangesKeyed (RemovesSecond second result row.new) (Some table.old) result
+        (Some table.new) }
     ensures kept { result ≢ OK → row.new ≡ row.old }
 {
     match table {
-        Table::Keyed(items) => report(items.remove2(&second), row),
+        Table::Unique(keyed) => remove_second(keyed, second, row),
+        Table::Shared(keyed) => remove_second(keyed, second, row),
         Table::Index(_) => HANDLE,
     }
 }
 
-// Writes the row of an item that was removed, if one was, and drops it.
-fn report(removed: Option<(ItemIndex, Entry)>, row: &mut Row) -> u32
-    ensures says { SaysRow result row.new removed }
+fn remove_second<B: SecondKey>(keyed: &mut Keyed<B>, second: u64, row: &mut Row) -> u32
+    ensures removes { RemovesSecond second result row.new keyed.old.entries keyed.new.entries }
     ensures kept { result ≢ OK → row.new ≡ row.old }
 {
-    match removed {
-        Some((ix, entry)) => {
-            *row = Row::of(ix, &entry);
-            OK
-        }
+    match least(keyed, second) {
+        Some(ix) => remove_at(keyed, ix, row),
         None => MISSING,
     }
 }

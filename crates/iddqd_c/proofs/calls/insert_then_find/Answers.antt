@@ -1,10 +1,9 @@
-use Rattle.iddqd_c.proofs.CallLemmas.{runs_both}
+use Rattle.iddqd_c.proofs.CallLemmas.{inserted}
 use Rattle.iddqd_c.proofs.calls.insert_then_find.Goals as goal
 
-pub returns-clause-run : goal.returns-clause-run
-returns-clause-run c = λ done.
-    let inserted = c.iddqd_keyed_insert-inserted in
+pub returns-clause-found : goal.returns-clause-found
+returns-clause-found c =
+    let done = c.iddqd_keyed_insert-inserted in
     let looked = c.iddqd_keyed_find1-looked_up in
-    runs_both _ c.args.key.now c.args.second c.args.value inserted.result inserted.new.at looked.result inserted.new.found
-    looked.new.row c.args.t.now.handle.value inserted.new.t.handle.value looked.new.t.handle.value done
-    inserted.ensures.inserts looked.ensures.finds looked.ensures.same
+    inserted c.args.key.now c.args.second c.args.value looked.result done.result done.new.at looked.new.row done.new.found
+    c.args.t.now.handle.value done.new.t.handle.value done.ensures.inserts looked.ensures.finds

@@ -1,4 +1,0 @@
-mod Words
-pub mod AnswerLemmas
-pub mod CallLemmas
-pub mod InsertLemmas

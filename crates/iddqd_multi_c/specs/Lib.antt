@@ -1,4 +1,0 @@
-pub mod Parked
-pub mod Rows
-pub mod Held
-pub mod Entries
