@@ -121,7 +121,9 @@ module _ (taken : Taken) (alike : Entry → Entry → Bool) (same : (x y : Entry
       none ix (other, live, or_second _ _ (same entry other ∙ passes))
 
   -- and of entries of which no two share a unique key
-  pub apart_first : (s : Store Entry) → AreApart (either_key alike_first alike) s → AreApart (λ x. has_first x.first.bytes.items) s
+  pub apart_first :
+      (s : Store Entry) → AreApart (either_key alike_first alike) s
+      → AreApart (λ x. has_first x.first.bytes.items) s
   apart_first s apart i j x y at_i at_j shared = apart i j x y at_i at_j (or_first _ _ shared)
 
   pub apart_second : (s : Store Entry) → AreApart (either_key alike_first alike) s → AreApart (λ x. taken x.second) s

@@ -16,7 +16,9 @@ use Rattle.iddqd_c.specs.declared.table.Table.TheVariants.{Unique, Shared, Index
 
 module _ (bytes : List ℕ) (second value looked done at : ℕ) (row : Row) (conflict : Conflict) where
   -- a scan that hits finds this entry
-  hits : (m : Items) (ix : ℕ) (r : Option ℕ) → IsHit m.store (has_first bytes) ix → AnswersScan m.store (has_first bytes) r → r ≡ Some ix
+  hits :
+      (m : Items) (ix : ℕ) (r : Option ℕ) → IsHit m.store (has_first bytes) ix
+      → AnswersScan m.store (has_first bytes) r → r ≡ Some ix
   hits m ix None hit none = absurd (none ix hit)
   hits m ix (Some found) hit scan = ap Some (sym ((scan ix).0 hit))
 
@@ -82,7 +84,9 @@ module _ (bytes : List ℕ) (second value looked done at : ℕ) (row : Row) (con
       (stores.entry, stores.live, (bytes_decides bytes stores.entry.first.bytes.items).1 (sym is_entry.has_bytes)) in
       by_look looks hit stores.entry stores.live is_entry.has_second is_entry.has_value
     where
-      by_look : FindsFirst bytes looked row new → IsHit new.store (has_first bytes) at → (entry : Entry) → get new.store at ≡ Some entry
+      by_look :
+          FindsFirst bytes looked row new → IsHit new.store (has_first bytes) at
+          → (entry : Entry) → get new.store at ≡ Some entry
           → entry.second ≡ second → entry.value ≡ value → IsInserted
       by_look (inr (missed, none)) hit entry live has_second has_value = absurd (none at hit)
       by_look (inl (done, (ix, (first, only, is_row)))) hit entry live has_second has_value =

@@ -61,13 +61,19 @@ module _ (s : Store Entry) (second : ℕ) where
           by_itself Equal is = refl
           by_itself Greater is = absurd (omega (arith, ranked n n Greater is))
 
-  within_is : (entry : Entry) → is_within compares_second (Included second) (Included second) entry ≡ has_second second entry
+  within_is :
+      (entry : Entry)
+      → is_within compares_second (Included second) (Included second) entry ≡ has_second second entry
   within_is entry = is_equal_when (compares_second second entry)
 
-  into : (j : ℕ) → IsHit s (has_second second) j → IsHit s (is_within compares_second (Included second) (Included second)) j
+  into :
+      (j : ℕ) → IsHit s (has_second second) j
+      → IsHit s (is_within compares_second (Included second) (Included second)) j
   into j (entry, live, passes) = (entry, live, within_is entry ∙ passes)
 
-  out : (j : ℕ) → IsHit s (is_within compares_second (Included second) (Included second)) j → IsHit s (has_second second) j
+  out :
+      (j : ℕ) → IsHit s (is_within compares_second (Included second) (Included second)) j
+      → IsHit s (has_second second) j
   out j (entry, live, passes) = (entry, live, sym (within_is entry) ∙ passes)
 
   pub first_least :

@@ -6,8 +6,8 @@
 //! function is what the next one finds. None of them has a condition: for a handle that is closed, or holds a
 //! table of another kind, they return an error code ([`iddqd_codes`]).
 //!
-//! Each function is in parts. The one that C calls takes and puts the table; the one behind it finds out the kind of the
-//! table. They are two since what is known of the table is lost where branches join before it is put back. Of keyed
+//! Each function is in parts. The one that C calls takes and puts the table; the one behind it finds out the kind of
+//! the table. They are two since what is known of the table is lost where branches join before it is put back. Of keyed
 //! items a third one is generic over the key index of the second keys.
 #![tactic(auto)]
 

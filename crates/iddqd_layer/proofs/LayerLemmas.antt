@@ -216,7 +216,9 @@ placed-from ix ways old mid new same e = record {
       record { within = rw (← gap, ← list) is.within; placed = rw (← gap, ← list) is.placed };
 }
 
-pub ways-still : (ways : List Way) (old mid : List Order) → Each HasSameTree old mid → Each LeadsToGap old ways → Each LeadsToGap mid ways
+pub ways-still :
+    (ways : List Way) (old mid : List Order) → Each HasSameTree old mid → Each LeadsToGap old ways
+    → Each LeadsToGap mid ways
 ways-still ways old mid same e = record {
   long = e.long ∙ sym same.long;
   at = λ k a b lt.

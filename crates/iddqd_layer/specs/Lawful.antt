@@ -1,5 +1,5 @@
--- What the owner of a layer knows if hashes and comparisons are lawful. The owner has the records, so `hash_of ix` is the
--- hash of the key of the record at an index, and `key ix` the key itself.
+-- What the owner of a layer knows if hashes and comparisons are lawful. The owner has the records, so `hash_of ix` is
+-- the hash of the key of the record at an index, and `key ix` the key itself.
 use Rattle.std.specs.Prelude.{◌≡◌, ℕ, Some}
 use Rattle.std.specs.FinMap as finite
 use Rattle.iddqd.specs.Store.{Store}

@@ -18,8 +18,8 @@ use Rattle.iddqd_by_hash.specs.Hashed as by_hash
 use Rattle.iddqd_by_order.specs.Ordered as by_order
 use Rattle.iddqd_layer.specs.declared.way.Way.{Way}
 
--- The store, whose items have no fields, with how many slots its memory holds; the table of each hashed key, and that of
--- each ordered key. Callers read it by the functions below.
+-- The store, whose items have no fields, with how many slots its memory holds; the table of each hashed key, and that
+-- of each ordered key. Callers read it by the functions below.
 pub record Layer : Type 0 where
   pub slots : SizedStore (Unit {0})
   pub hashed : List (Table ℕ)

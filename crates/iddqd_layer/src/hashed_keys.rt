@@ -56,7 +56,8 @@ pub(crate) fn reserve_hashed(
 // Inserts an index into each table, under its hash there.
 pub(crate) fn insert_hashed(tables: &mut Vec<MapHashTable>, hashes: &[u64], ix: ItemIndex)
     requires count { length hashes.now ≡ length tables.old.items }
-    requires room { (k : ℕ) (t : Table ℕ) → k < length tables.old.items → 1 ≤ room (slice_index_or tables.old.items k t) }
+    requires room { (k : ℕ) (t : Table ℕ) → k < length tables.old.items
+        → 1 ≤ room (slice_index_or tables.old.items k t) }
     requires absent { (k : ℕ) (t : Table ℕ) → k < length tables.old.items →
         finite.get (filed (slice_index_or tables.old.items k t)) ix ≡ None }
     ensures { EachBy (IsFiled ix) hashes.now tables.old.items tables.new.items }

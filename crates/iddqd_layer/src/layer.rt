@@ -1,8 +1,8 @@
 //! A store of indexes without items, and the tables of its hashed and its ordered keys.
 //!
-//! What always holds (`IsPaired`): each table has each live index exactly once, and no other. An insert checks every way
-//! and takes all memory before it writes anything, so nothing is left in one table alone. A removal finds the index in
-//! each table, by a walk if a hash or a way is wrong.
+//! What always holds (`IsPaired`): each table has each live index exactly once, and no other. An insert checks every
+//! way and takes all memory before it writes anything, so nothing is left in one table alone. A removal finds the index
+//! in each table, by a walk if a hash or a way is wrong.
 //!
 //! A key that changed in order has no call that moves its index: the way to the new place is found while the index
 //! stands at the old one, and is stale once it has left. So `remove`, search, and `insert`, which gives the same index,
@@ -192,7 +192,8 @@ impl Layer {
         ensures assigned { IfOk result (λ ix. ix ≢ sentinel) }
         ensures stored { OnOk result (store_of self.new ≡ inserted (store_of self.old) tt) }
         ensures hashed { IfOk result (λ ix. EachBy (IsFiled ix) hashes.now (hashed_of self.old) (hashed_of self.new)) }
-        ensures ordered { IfOk result (λ ix. EachBy (IsPlaced ix) ways.now (ordered_of self.old) (ordered_of self.new)) }
+        ensures ordered { IfOk result
+            (λ ix. EachBy (IsPlaced ix) ways.now (ordered_of self.old) (ordered_of self.new)) }
         ensures refused { OnErr result (HasSameContents self.old self.new) }
         ensures count { result ≡ Err Refusal.Count → length hashes.now ≡ length (hashed_of self.old) →
             length ways.now ≡ length (ordered_of self.old) → ⊥ }
@@ -303,7 +304,8 @@ impl Layer {
 
     /// Gives each live index its rank as its new name, so that no slot is vacant, and returns the new names.
     ///
-    /// If memory for the list of them runs out, nothing changes. If no slot is vacant, it takes none and nothing changes.
+    /// If memory for the list of them runs out, nothing changes. If no slot is vacant, it takes none and nothing
+    /// changes.
     ///
     /// Cost: a step for each slot, and for each index of each table.
     pub fn compact(&mut self) -> Result<IndexRemap, AllocError>
@@ -351,8 +353,8 @@ impl Layer {
     }
 }
 
-/// A copy has the same indexes in each table. Its ordered tables reserve nothing. If memory runs out, what was copied so
-/// far is dropped.
+/// A copy has the same indexes in each table. Its ordered tables reserve nothing. If memory runs out, what was copied
+/// so far is dropped.
 impl Clone for Layer {
     ghost use Rattle.iddqd_layer.specs.Layer.{IsCopy};
 

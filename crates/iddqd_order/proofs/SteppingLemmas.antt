@@ -207,8 +207,10 @@ record Beside (l i : ℕ) (k : Node) : Type 0 where
   list : length (get_or (lists (l - 1) (children k)) i []) ≡ length (flat (l - 1) (child k i))
   first : i ≡ 0 → length (before i (row k) (lists (l - 1) (children k))) ≡ 0
   behind : 0 < i → (index_place (i - 1) (row k) (lists (l - 1) (children k)) < length (flat l k))
-      × (length (before i (row k) (lists (l - 1) (children k))) ≡ index_place (i - 1) (row k) (lists (l - 1) (children k)) + 1)
-      × (slice_index (flat l k) (index_place (i - 1) (row k) (lists (l - 1) (children k))) ≡ slice_index (row k) (i - 1))
+      × (length (before i (row k) (lists (l - 1) (children k)))
+      ≡ index_place (i - 1) (row k) (lists (l - 1) (children k)) + 1)
+      × (slice_index (flat l k) (index_place (i - 1) (row k) (lists (l - 1) (children k)))
+      ≡ slice_index (row k) (i - 1))
   ahead : i < length (row k) → (index_place i (row k) (lists (l - 1) (children k)) < length (flat l k))
       × (slice_index (flat l k) (index_place i (row k) (lists (l - 1) (children k))) ≡ slice_index (row k) i)
   last : length (row k) ≤ i → index_place i (row k) (lists (l - 1) (children k)) ≡ length (flat l k)

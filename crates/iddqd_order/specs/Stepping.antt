@@ -64,8 +64,8 @@ IsNode t d = GoesToIn d.level t.root t.height d.path
 abbrev pub row_of : Order → Descent → List ℕ
 row_of t d = row_in d.level t.root t.height d.path
 
--- All indexes below a node stand together in the table's list, between two gaps: `low`, which has as many indexes before
--- it as its number says, and `high`.
+-- All indexes below a node stand together in the table's list, between two gaps: `low`, which has as many indexes
+-- before it as its number says, and `high`.
 abbrev pub low : Order → Descent → ℕ
 low t d = low_in d.level t.root t.height d.path
 

@@ -87,7 +87,8 @@ fn store<B: SecondKey + IndexLaws<Entry, RandomState>>(
     at: &mut u32,
     found: &mut Conflict,
 ) -> u32
-    ensures inserts { InsertsAt B.taken key.now second value result at.new found.new keyed.old.entries keyed.new.entries }
+    ensures inserts { InsertsAt B.taken key.now second value result at.new found.new keyed.old.entries
+        keyed.new.entries }
     ensures memory { TakesMemory keyed.old.entries keyed.new.entries }
     ensures at_kept { result ≢ OK → at.new ≡ at.old }
     ensures found_kept { result ≢ DUPLICATE → found.new ≡ found.old }

@@ -81,7 +81,8 @@ fn rebind<B: SecondKey + Moves<Entry, RandomState>>(
     value: u64,
     found: &mut Conflict,
 ) -> u32
-    ensures replaces { Replaces B.SecondKey.taken ix key.now second value result found.new keyed.old.entries keyed.new.entries }
+    ensures replaces { Replaces B.SecondKey.taken ix key.now second value result found.new keyed.old.entries
+        keyed.new.entries }
     ensures found_kept { result ≢ DUPLICATE → found.new ≡ found.old }
 {
     if keyed.entries.get_at(ix).is_none() {

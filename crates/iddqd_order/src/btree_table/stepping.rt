@@ -2,8 +2,8 @@
 //!
 //! The caller reads the row of a node, compares what it seeks with records of its own, and says at which place of the
 //! row it goes on. So a table can be searched from where no closure can be passed, as over a boundary to C. Between two
-//! calls the caller keeps a [`Descent`]: plain data that borrows no table. Each call checks it against the tree as it is
-//! then: one that is stale or made up is refused, or names some node.
+//! calls the caller keeps a [`Descent`]: plain data that borrows no table. Each call checks it against the tree as it
+//! is then: one that is stale or made up is refused, or names some node.
 //!
 //! All indexes below a node stand together in the table's list. The clauses say between which two gaps, and that going
 //! down narrows these to what stands between two neighbours in the row. That suffices for
@@ -179,7 +179,8 @@ impl MapBTreeTable {
         Some(Gap { path, full })
     }
 
-    /// The same as `find_gap_by`, as a caller carries it out that has no closure: by `enter`, `row`, `down` and `gap_in`.
+    /// The same as `find_gap_by`, as a caller carries it out that has no closure: by `enter`, `row`, `down` and
+    /// `gap_in`.
     ///
     /// Cost: some steps for each pair of levels.
     /// Asks: at most `4 + 2 * digits(len)` times.

@@ -90,8 +90,8 @@ impl OrderedTable {
         Some(Gap { place })
     }
 
-    /// Inserts the index at the gap. The others keep their order. It asks nothing. Below the capacity it takes no memory
-    /// and never fails; `AllocError` means that memory ran out, and then nothing changed.
+    /// Inserts the index at the gap. The others keep their order. It asks nothing. Below the capacity it takes no
+    /// memory and never fails; `AllocError` means that memory ran out, and then nothing changed.
     ///
     /// Cost: a step for each index behind the gap.
     pub fn insert_in(&mut self, gap: &Gap, ix: ItemIndex) -> Result<(), AllocError>
@@ -160,8 +160,8 @@ impl OrderedTable {
         }
     }
 
-    /// The first index behind a gap of a leaf, with its position. `None` if and only if the table has no such gap, or no
-    /// index stands behind it.
+    /// The first index behind a gap of a leaf, with its position. `None` if and only if the table has no such gap, or
+    /// no index stands behind it.
     ///
     /// Cost: constant.
     pub fn first_behind(&self, leaf: &Descent, place: usize) -> Option<(ItemIndex, usize)>

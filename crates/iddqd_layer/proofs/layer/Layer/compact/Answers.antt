@@ -35,7 +35,8 @@ filed-by_rank c =
     }
 
 listed-by_rank : (c : After-rename_ordered)
-    → Each (RenamesOrdered (rank c.self.inside.items.store)) c.self.inside.ordered.items c.rename_ordered.new.tables.items
+    → Each (RenamesOrdered (rank c.self.inside.items.store)) c.self.inside.ordered.items
+    c.rename_ordered.new.tables.items
 listed-by_rank c =
     let was = c.self.invariant in let e = c.rename_ordered.ensures in
     record {

@@ -8,7 +8,8 @@ invariant-loop-row g l = record {
   node : IsNode l.self l.node;
   levels : l.node.level ≤ l.initial.node.level;
   asks : row_asks * (l.initial.node.level + 1) ≤ bound (length (order_of l.self));
-  led : Guides g.F.FnMut (λ r. r) (order_of l.self) (row_asks * (l.initial.node.level - l.node.level)) (low l.self l.node) (high l.self l.node) l.fn.asking l.asking;
+  led : Guides g.F.FnMut (λ r. r) (order_of l.self) (row_asks * (l.initial.node.level - l.node.level))
+      (low l.self l.node) (high l.self l.node) l.fn.asking l.asking;
 }
 
 abbrev pub decreases-loop-row : goal.decreases-loop-row
