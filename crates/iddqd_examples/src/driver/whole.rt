@@ -1,7 +1,7 @@
 //! Collections as wholes: copied, compared, gone over and taken apart.
 ghost use Rattle.std.specs.Prelude.{◌≡◌, ◌++◌, ◌∷◌, ℕ, List, [], Some, IsTrue, IfSome, IfNone, IfOk, map, nat_eq};
 ghost use Rattle.std.specs.List.{list_any};
-ghost use Rattle.iddqd.specs.{get, live_items};
+ghost use Rattle.iddqd.specs.{get, live_items, slot_count};
 ghost use Rattle.iddqd_driver.specs.{AreInSync};
 
 use super::hashers::Sum;
@@ -76,6 +76,14 @@ fn start(pairs: &Pairs) -> u64
     pairs.hasher().0
 }
 
+// The number of slots, and how many there can be at most.
+fn slots(pairs: &Pairs) -> (usize, usize)
+    ensures slots { result.0 ≡ slot_count pairs.now.state.store }
+    ensures limit { result.1 ≡ pairs.now.state.store.limit }
+{
+    (pairs.slot_count(), pairs.limit())
+}
+
 // Three pairs at 0, 1 and 2, whose second numbers fall.
 fn three(rt: &impl Abort, alloc: Global) -> Pairs {
     let mut pairs = KeyedItems::new(alloc, Sum(7));
@@ -110,6 +118,13 @@ fn a_collection_prints_its_pairs_by_rising_index(rt: HostRuntime) -> Result<(), 
         "{0: Pair(0, 9), 1: Pair(1, 8), 2: Pair(2, 7)}",
         "printing",
     );
+    Ok(())
+}
+
+#[test]
+fn three_pairs_are_in_three_slots(rt: HostRuntime) -> Result<(), Fail> {
+    let (slots, limit) = slots(&three(&rt, rt.alloc()));
+    assert!(rt; slots == 3 && limit >= slots);
     Ok(())
 }
 
