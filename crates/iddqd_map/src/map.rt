@@ -42,6 +42,7 @@ mod replaces;
 mod retain;
 mod retain_into;
 mod steps;
+pub mod sweep;
 mod upserts;
 mod walks;
 mod whole;
