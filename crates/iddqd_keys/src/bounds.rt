@@ -8,8 +8,8 @@
 //! was iterated to its end.
 ghost use Rattle.std.specs.Prelude.{◌≡◌};
 ghost use Rattle.std.specs.Range.{range_inclusive_end, range_inclusive_start};
-ghost use Rattle.std.specs.declared.ops.Bound.{Bound};
 ghost use Rattle.std.specs.declared.ops.Bound.TheVariants.{Excluded, Included, Unbounded};
+ghost use Rattle.iddqd_keys.specs.declared.bounds.Bounds.{Bounds};
 
 use std::ops::{Bound, Range, RangeFrom, RangeFull, RangeInclusive, RangeTo, RangeToInclusive};
 
@@ -27,8 +27,7 @@ impl<Q> Bounds<Q> {
     pub fn only(query: Q) -> Bounds<Q>
     where
         Q: Copy,
-        ensures lower { result.lower ≡ Included query }
-        ensures upper { result.upper ≡ Included query }
+        ensures { result ≡ record { lower = Included query; upper = Included query } }
     {
         Bounds {
             lower: Bound::Included(query),
@@ -38,8 +37,7 @@ impl<Q> Bounds<Q> {
 
     /// The bounds that a range stands for.
     pub fn of<R: IntoBounds<Q>>(range: R) -> Bounds<Q>
-        ensures lower { result.lower ≡ R.lower range }
-        ensures upper { result.upper ≡ R.upper range }
+        ensures { result ≡ R.bounds range }
     {
         range.into_bounds()
     }
@@ -47,21 +45,16 @@ impl<Q> Bounds<Q> {
 
 /// A range of queries `Q`.
 pub trait IntoBounds<Q>: Sized {
-    // Where it begins, and where it ends.
-    ghost lower: { Self → Bound Q };
+    // The bounds that it stands for.
+    ghost bounds: { Self → Bounds Q };
 
-    ghost upper: { Self → Bound Q };
-
-    /// Its two bounds.
+    /// The bounds that it stands for.
     fn into_bounds(self) -> Bounds<Q>
-        ensures lower { result.lower ≡ lower self }
-        ensures upper { result.upper ≡ upper self };
+        ensures { result ≡ bounds self };
 }
 
 impl<Q> IntoBounds<Q> for Bounds<Q> {
-    ghost lower = { λ bounds. bounds.lower };
-
-    ghost upper = { λ bounds. bounds.upper };
+    ghost bounds = { λ bounds. bounds };
 
     fn into_bounds(self) -> Bounds<Q> {
         self
@@ -70,9 +63,7 @@ impl<Q> IntoBounds<Q> for Bounds<Q> {
 
 // `from..to`: without the item at `to`.
 impl<Q> IntoBounds<Q> for Range<Q> {
-    ghost lower = { λ range. Included range.start };
-
-    ghost upper = { λ range. Excluded range.end };
+    ghost bounds = { λ range. record { lower = Included range.start; upper = Excluded range.end } };
 
     fn into_bounds(self) -> Bounds<Q> {
         Bounds {
@@ -84,9 +75,10 @@ impl<Q> IntoBounds<Q> for Range<Q> {
 
 // `from..=to`. Its two ends count, also if it was iterated over.
 impl<Q> IntoBounds<Q> for RangeInclusive<Q> {
-    ghost lower = { λ range. Included (range_inclusive_start range) };
-
-    ghost upper = { λ range. Included (range_inclusive_end range) };
+    ghost bounds = { λ range. record {
+      lower = Included (range_inclusive_start range);
+      upper = Included (range_inclusive_end range);
+    } };
 
     fn into_bounds(self) -> Bounds<Q> {
         let (from, to) = self.into_inner();
@@ -99,9 +91,7 @@ impl<Q> IntoBounds<Q> for RangeInclusive<Q> {
 
 // `from..`
 impl<Q> IntoBounds<Q> for RangeFrom<Q> {
-    ghost lower = { λ range. Included range.start };
-
-    ghost upper = { λ range. Unbounded };
+    ghost bounds = { λ range. record { lower = Included range.start; upper = Unbounded } };
 
     fn into_bounds(self) -> Bounds<Q> {
         Bounds {
@@ -113,9 +103,7 @@ impl<Q> IntoBounds<Q> for RangeFrom<Q> {
 
 // `..to`
 impl<Q> IntoBounds<Q> for RangeTo<Q> {
-    ghost lower = { λ range. Unbounded };
-
-    ghost upper = { λ range. Excluded range.end };
+    ghost bounds = { λ range. record { lower = Unbounded; upper = Excluded range.end } };
 
     fn into_bounds(self) -> Bounds<Q> {
         Bounds {
@@ -127,9 +115,7 @@ impl<Q> IntoBounds<Q> for RangeTo<Q> {
 
 // `..=to`
 impl<Q> IntoBounds<Q> for RangeToInclusive<Q> {
-    ghost lower = { λ range. Unbounded };
-
-    ghost upper = { λ range. Included range.end };
+    ghost bounds = { λ range. record { lower = Unbounded; upper = Included range.end } };
 
     fn into_bounds(self) -> Bounds<Q> {
         Bounds {
@@ -141,9 +127,7 @@ impl<Q> IntoBounds<Q> for RangeToInclusive<Q> {
 
 // `..`: all keys.
 impl<Q> IntoBounds<Q> for RangeFull {
-    ghost lower = { λ range. Unbounded };
-
-    ghost upper = { λ range. Unbounded };
+    ghost bounds = { λ range. record { lower = Unbounded; upper = Unbounded } };
 
     fn into_bounds(self) -> Bounds<Q> {
         Bounds {
@@ -154,9 +138,7 @@ impl<Q> IntoBounds<Q> for RangeFull {
 }
 
 impl<Q> IntoBounds<Q> for (Bound<Q>, Bound<Q>) {
-    ghost lower = { λ range. range.0 };
-
-    ghost upper = { λ range. range.1 };
+    ghost bounds = { λ range. record { lower = range.0; upper = range.1 } };
 
     fn into_bounds(self) -> Bounds<Q> {
         Bounds {

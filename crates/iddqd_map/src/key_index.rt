@@ -35,8 +35,9 @@ ghost use Rattle.std.specs.Prelude.{◌≡◌, ◌≢◌, ◌≤◌, ◌+◌, �
 ghost use Rattle.std.specs.Option.{option_map};
 ghost use Rattle.std.specs.Range.Bound.{bound_map};
 ghost use Rattle.iddqd.specs.{next_index, removed, rebound, sentinel, live_count, slot_count, IsValid, Allows, Validates};
+ghost use Rattle.iddqd_keys.specs.Bounds.{is_in_bounds};
 ghost use Rattle.iddqd_keys.specs.KeyWalk.{IsFirstHit, IsNextHit};
-ghost use Rattle.iddqd_keys.specs.OrderedQuery.{is_up_to, is_within};
+ghost use Rattle.iddqd_keys.specs.OrderedQuery.{is_up_to};
 ghost use Rattle.iddqd_keys.specs.Scan.{AnswersScan, IsLive, HasNoHit};
 ghost use Rattle.iddqd_map.specs.Ranges.{itself};
 ghost use Rattle.iddqd_map.specs.KeyIndex.{AreKnownAt, IndexesNone, IsNextOf, IsPlannedForOne, StaysPlanned, IndexesOneMore, IsRemapOfSome, IndexesCompacted, IndexesAllOf, IsNextReported, FindsPosition, FindsMove, TakesFound};
@@ -620,7 +621,7 @@ pub trait StepsAt<P, Q, T, S>: OrderedAt<P, Q, T, S> {
     ) -> Option<(ItemIndex, Self::Spot)>
         requires indexed { Self.KeyIndex.indexes self.now state.now items.now.store }
         ensures first { IsFirstHit itself Self.OrderedAt.order items.now.store
-            (is_within Self.OrderedAt.compare bounds.now.lower bounds.now.upper)
+            (is_in_bounds Self.OrderedAt.compare bounds.now)
             (option_map (λ (r : ℕ × Self.Spot). r.0) result) }
         ensures stands { IfSome result (λ r. stands self.now r.1 r.0) };
 

@@ -4,7 +4,8 @@
 //! call has come. So there is one search, no list of indexes is kept, and no memory is taken.
 ghost use Rattle.std.specs.Prelude.{◌≡◌};
 ghost use Rattle.iddqd.specs.{live_count};
-ghost use Rattle.iddqd_keys.specs.OrderedQuery.{is_equal, is_within};
+ghost use Rattle.iddqd_keys.specs.Bounds.{is_in_bounds};
+ghost use Rattle.iddqd_keys.specs.OrderedQuery.{is_equal};
 ghost use Rattle.iddqd_map.specs.Groups.{CountsHits};
 ghost use Rattle.iddqd_map.specs.KeyIndex.{IsIndexed};
 ghost use Rattle.iddqd_map.specs.Map.{room};
@@ -32,15 +33,14 @@ impl<T, X: KeyIndex<T, S>, S> Map<T, X, S> {
         X: StepsAt<P, Q, T, S> + IndexLaws<T, S>,
         Q: Copy,
         R: IntoBounds<Q>,
-        requires callable { MayAskWithin X.order (is_within X.compare (R.lower range) (R.upper range))
+        requires callable { MayAskWithin X.order (is_in_bounds X.compare (R.bounds range))
             (TakesMut F.FnMut) (MayLeave F.FnMut) f self.old.store }
-        requires keeps { let within = is_within X.compare (R.lower range) (R.upper range) in
+        requires keeps { let within = is_in_bounds X.compare (R.bounds range) in
             KeepsKeys F.FnMut X.keys (IsStoredHit self.old.store within) }
-        ensures modified { (last : F) × ModifiesWithin F.FnMut X.order (is_within X.compare (R.lower range) (R.upper range))
+        ensures modified { (last : F) × ModifiesWithin F.FnMut X.order (is_in_bounds X.compare (R.bounds range))
             f self.old.store self.new.store last result }
-        ensures counted { CountsHits self.old.store (is_within X.compare (R.lower range) (R.upper range)) result }
-        ensures others { KeepsMisses self.old.store (is_within X.compare (R.lower range) (R.upper range))
-            self.new.store }
+        ensures counted { CountsHits self.old.store (is_in_bounds X.compare (R.bounds range)) result }
+        ensures others { KeepsMisses self.old.store (is_in_bounds X.compare (R.bounds range)) self.new.store }
         ensures memory { self.new.memory ≡ self.old.memory }
         ensures room { room self.new ≡ room self.old }
         ensures count { live_count self.new.store ≡ live_count self.old.store }
@@ -99,14 +99,14 @@ where
     X: StepsAt<P, Q, T, S> + IndexLaws<T, S>,
     Q: Copy,
     requires indexed { IsIndexed (X.indexes indexes.now) state.now items.old.store }
-    requires callable { let within = is_within X.compare bounds.now.lower bounds.now.upper in
+    requires callable { let within = is_in_bounds X.compare bounds.now in
         AsksWithin X.order within (TakesMut F.FnMut) (MayLeave F.FnMut) f.old items.old.store }
-    requires keeps { let within = is_within X.compare bounds.now.lower bounds.now.upper in
+    requires keeps { let within = is_in_bounds X.compare bounds.now in
         KeepsKeys F.FnMut X.keys (IsStoredHit items.old.store within) }
     ensures indexed { IsIndexed (X.indexes indexes.now) state.now items.new.store }
-    ensures modified { let within = is_within X.compare bounds.now.lower bounds.now.upper in
+    ensures modified { let within = is_in_bounds X.compare bounds.now in
         ModifiesWithin F.FnMut X.order within f.old items.old.store items.new.store f.new result }
-    ensures others { let within = is_within X.compare bounds.now.lower bounds.now.upper in
+    ensures others { let within = is_in_bounds X.compare bounds.now in
         KeepsMisses items.old.store within items.new.store }
     ensures count { live_count items.new.store ≡ live_count items.old.store }
     ensures limit { items.new.store.limit ≡ items.old.store.limit }

@@ -7,8 +7,9 @@ ghost use Rattle.std.specs.Prelude.{◌≡◌, ◌≤◌, ◌+◌, true, false, 
 ghost use Rattle.std.specs.Fn.{TakesAt, CalledAt};
 ghost use Rattle.iddqd.specs.{get, live_count, removed};
 ghost use Rattle.std.specs.Range.Bound.{bound_map};
+ghost use Rattle.iddqd_keys.specs.Bounds.{is_in_bounds};
 ghost use Rattle.iddqd_keys.specs.KeyWalk.{IsNextHit};
-ghost use Rattle.iddqd_keys.specs.OrderedQuery.{is_equal, is_up_to, is_within};
+ghost use Rattle.iddqd_keys.specs.OrderedQuery.{is_equal, is_up_to};
 ghost use Rattle.iddqd_keys.specs.Scan.{IsLive};
 ghost use Rattle.iddqd_map.specs.Bulk.{AsksAndGives, GivesIfRefused};
 ghost use Rattle.iddqd_map.specs.KeyIndex.{IsIndexed};
@@ -41,12 +42,11 @@ impl<T, X: KeyIndex<T, S>, S> Map<T, X, S> {
         X: StepsAt<P, Q, T, S>,
         Q: Copy,
         R: IntoBounds<Q>,
-        requires { MayAskWithin X.order (is_within X.compare (R.lower range) (R.upper range)) (TakesAt F.FnMut)
+        requires { MayAskWithin X.order (is_in_bounds X.compare (R.bounds range)) (TakesAt F.FnMut)
             (CalledAt F.FnMut) f self.old.store }
-        ensures asked { (last : F) × RetainsWithin X.order (is_within X.compare (R.lower range) (R.upper range))
+        ensures asked { (last : F) × RetainsWithin X.order (is_in_bounds X.compare (R.bounds range))
             (CalledAt F.FnMut) f self.old.store self.new.store last }
-        ensures others { KeepsMisses self.old.store (is_within X.compare (R.lower range) (R.upper range))
-            self.new.store }
+        ensures others { KeepsMisses self.old.store (is_in_bounds X.compare (R.bounds range)) self.new.store }
         ensures memory { self.new.memory ≡ self.old.memory }
         ensures room { room self.old ≤ room self.new }
         ensures count { result + live_count self.new.store ≡ live_count self.old.store }
@@ -109,15 +109,15 @@ where
     X: StepsAt<P, Q, T, S>,
     Q: Copy,
     requires indexed { IsIndexed (X.indexes indexes.old) state.now items.old.store }
-    requires can_ask { let within = is_within X.compare bounds.now.lower bounds.now.upper in
+    requires can_ask { let within = is_in_bounds X.compare bounds.now in
         AsksWithin X.order within (TakesAt F.FnMut) (CalledAt F.FnMut) keep.old items.old.store }
-    requires can_give { let within = is_within X.compare bounds.now.lower bounds.now.upper in
+    requires can_give { let within = is_in_bounds X.compare bounds.now in
         AsksWithin X.order within (TakesItem G.FnMut) (GivesIfRefused G.FnMut) gone.old items.old.store }
     ensures indexed { IsIndexed (X.indexes indexes.new) state.now items.new.store }
-    ensures asked { let within = is_within X.compare bounds.now.lower bounds.now.upper in
+    ensures asked { let within = is_in_bounds X.compare bounds.now in
         RetainsWithin X.order within (AsksAndGives G.FnMut (CalledAt F.FnMut)) (keep.old, gone.old)
         items.old.store items.new.store (keep.new, gone.new) }
-    ensures others { let within = is_within X.compare bounds.now.lower bounds.now.upper in
+    ensures others { let within = is_in_bounds X.compare bounds.now in
         KeepsMisses items.old.store within items.new.store }
     ensures count { result + live_count items.new.store ≡ live_count items.old.store }
     ensures limit { items.new.store.limit ≡ items.old.store.limit }
@@ -144,15 +144,15 @@ where
     X: StepsAt<P, Q, T, S>,
     Q: Copy,
     requires indexed { IsIndexed (X.indexes indexes.old) state.now items.old.store }
-    requires can_ask { let within = is_within X.compare bounds.now.lower bounds.now.upper in
+    requires can_ask { let within = is_in_bounds X.compare bounds.now in
         AsksWithin X.order within (TakesAt F.FnMut) (CalledAt F.FnMut) keep.old items.old.store }
-    requires can_give { let within = is_within X.compare bounds.now.lower bounds.now.upper in
+    requires can_give { let within = is_in_bounds X.compare bounds.now in
         AsksWithin X.order within (TakesItem G.FnMut) (GivesIfRefused G.FnMut) gone.old items.old.store }
     ensures indexed { IsIndexed (X.indexes indexes.new) state.now items.new.store }
-    ensures asked { let within = is_within X.compare bounds.now.lower bounds.now.upper in
+    ensures asked { let within = is_in_bounds X.compare bounds.now in
         RetainsWithin X.order within (AsksAndGives G.FnMut (CalledAt F.FnMut)) (keep.old, gone.old)
         items.old.store items.new.store (keep.new, gone.new) }
-    ensures others { let within = is_within X.compare bounds.now.lower bounds.now.upper in
+    ensures others { let within = is_in_bounds X.compare bounds.now in
         KeepsMisses items.old.store within items.new.store }
     ensures fewer { live_count items.new.store ≤ live_count items.old.store }
     ensures limit { items.new.store.limit ≡ items.old.store.limit }

@@ -2,7 +2,8 @@
 ghost use Rattle.std.specs.Prelude.{◌≡◌, ◌≤◌, ◌+◌};
 ghost use Rattle.std.specs.Fn.{TakesAt, CalledAt};
 ghost use Rattle.iddqd.specs.{live_count};
-ghost use Rattle.iddqd_keys.specs.OrderedQuery.{is_equal, is_within};
+ghost use Rattle.iddqd_keys.specs.Bounds.{is_in_bounds};
+ghost use Rattle.iddqd_keys.specs.OrderedQuery.{is_equal};
 ghost use Rattle.iddqd_map.specs.Map.{room};
 ghost use Rattle.iddqd_map.specs.Ranges.{GivesItem};
 ghost use Rattle.iddqd_map.specs.RangeRetain.{GivesRefusedWithin, KeepsMisses, MayAskWithin, MayGiveSomeWithin, RetainsWithin};
@@ -34,16 +35,15 @@ impl<T, X: KeyIndex<T, S>, S> Map<T, X, S> {
         X: StepsAt<P, Q, T, S>,
         Q: Copy,
         R: IntoBounds<Q>,
-        requires asked { MayAskWithin X.order (is_within X.compare (R.lower range) (R.upper range)) (TakesAt F.FnMut)
+        requires asked { MayAskWithin X.order (is_in_bounds X.compare (R.bounds range)) (TakesAt F.FnMut)
             (CalledAt F.FnMut) keep self.old.store }
-        requires given { MayGiveSomeWithin X.order (is_within X.compare (R.lower range) (R.upper range)) G.FnMut gone
+        requires given { MayGiveSomeWithin X.order (is_in_bounds X.compare (R.bounds range)) G.FnMut gone
             self.old.store }
-        ensures asked { (last : F) × RetainsWithin X.order (is_within X.compare (R.lower range) (R.upper range))
+        ensures asked { (last : F) × RetainsWithin X.order (is_in_bounds X.compare (R.bounds range))
             (CalledAt F.FnMut) keep self.old.store self.new.store last }
-        ensures given { GivesRefusedWithin X.order (is_within X.compare (R.lower range) (R.upper range))
+        ensures given { GivesRefusedWithin X.order (is_in_bounds X.compare (R.bounds range))
             (CalledAt F.FnMut) (GivesItem G.FnMut) keep gone self.old.store self.new.store }
-        ensures others { KeepsMisses self.old.store (is_within X.compare (R.lower range) (R.upper range))
-            self.new.store }
+        ensures others { KeepsMisses self.old.store (is_in_bounds X.compare (R.bounds range)) self.new.store }
         ensures memory { self.new.memory ≡ self.old.memory }
         ensures room { room self.old ≤ room self.new }
         ensures count { result + live_count self.new.store ≡ live_count self.old.store }

@@ -4,7 +4,8 @@
 //! each other table once. No memory is taken.
 ghost use Rattle.std.specs.Prelude.{◌≡◌, ◌≤◌, ◌+◌, Bool};
 ghost use Rattle.iddqd.specs.{live_count};
-ghost use Rattle.iddqd_keys.specs.OrderedQuery.{is_equal, is_within};
+ghost use Rattle.iddqd_keys.specs.Bounds.{is_in_bounds};
+ghost use Rattle.iddqd_keys.specs.OrderedQuery.{is_equal};
 ghost use Rattle.iddqd_map.specs.KeyIndex.{IsIndexed};
 ghost use Rattle.iddqd_map.specs.Map.{capacity, room};
 ghost use Rattle.iddqd_map.specs.Ranges.{LeavesOthers, TakesItem, GivesItem, RemovesAlong};
@@ -31,11 +32,9 @@ impl<T, X: KeyIndex<T, S>, S> Map<T, X, S> {
         X: StepsAt<P, Q, T, S>,
         Q: Copy,
         R: IntoBounds<Q>,
-        requires { MayGiveWithin X.order (is_within X.compare (R.lower range) (R.upper range)) F.FnMut f
-            self.old.store }
-        ensures left { LeavesOthers self.old.store (is_within X.compare (R.lower range) (R.upper range))
-            self.new.store }
-        ensures handed { (last : F) × RemovesAlong X.order (is_within X.compare (R.lower range) (R.upper range))
+        requires { MayGiveWithin X.order (is_in_bounds X.compare (R.bounds range)) F.FnMut f self.old.store }
+        ensures left { LeavesOthers self.old.store (is_in_bounds X.compare (R.bounds range)) self.new.store }
+        ensures handed { (last : F) × RemovesAlong X.order (is_in_bounds X.compare (R.bounds range))
             (GivesItem F.FnMut) f self.old.store self.new.store last }
         ensures memory { self.new.memory ≡ self.old.memory }
         ensures room { room self.old ≤ room self.new }
@@ -91,13 +90,13 @@ where
     X: StepsAt<P, Q, T, S>,
     Q: Copy,
     requires indexed { IsIndexed (X.indexes indexes.old) state.now items.old.store }
-    requires can_give { let within = is_within X.compare bounds.now.lower bounds.now.upper in
+    requires can_give { let within = is_in_bounds X.compare bounds.now in
         AsksWithin X.order within (TakesItem F.FnMut) (λ p x (b : Bool) q. GivesItem F.FnMut p x q) f.old
         items.old.store }
     ensures indexed { IsIndexed (X.indexes indexes.new) state.now items.new.store }
-    ensures left { let within = is_within X.compare bounds.now.lower bounds.now.upper in
+    ensures left { let within = is_in_bounds X.compare bounds.now in
         LeavesOthers items.old.store within items.new.store }
-    ensures handed { let within = is_within X.compare bounds.now.lower bounds.now.upper in
+    ensures handed { let within = is_in_bounds X.compare bounds.now in
         RemovesAlong X.order within (GivesItem F.FnMut) f.old items.old.store items.new.store f.new }
     ensures fewer { live_count items.new.store ≤ live_count items.old.store }
     ensures limit { items.new.store.limit ≡ items.old.store.limit }
