@@ -26,6 +26,7 @@ pub mod RemakeLemmas
 pub mod RetainLemmas
 pub mod RetainedLemmas
 pub mod RoomLemmas
+pub mod SelectedLemmas
 pub mod SelectionLemmas
 pub mod SizeLemmas
 pub mod SweepLemmas

@@ -81,3 +81,14 @@ module _ {T : Type 0} where
       once = sorted_once itself (λ _ _. Equal) tied_total s (λ _. true) (live_indexes s) SortsWithin-live;
     })
 
+-- sorted indexes of the items that pass are exactly theirs, each once
+pub AreHits-sorted :
+    {T : Type 0} (order : T → T → Ordering)
+    → IsTotalOrder order
+    → (within : T → Bool) (s : Store T) (indexes : List ℕ)
+    → SortsWithin itself order within s indexes
+    → AreHits s within indexes
+AreHits-sorted order total within s indexes sorted = record {
+  each = sorted.each;
+  once = sorted_once itself order total s within indexes sorted;
+}

@@ -41,6 +41,7 @@ mod removals;
 mod replaces;
 mod retain;
 mod retain_into;
+mod selected;
 mod steps;
 pub mod sweep;
 mod upserts;

@@ -10,15 +10,19 @@ ghost use Rattle.std.specs.Prelude.{◌≡◌, ◌+◌, true, IfSome};
 ghost use Rattle.std.specs.Option.{option_map};
 ghost use Rattle.iddqd.specs.{removed};
 ghost use Rattle.iddqd.specs.Reads.{IsNextLive};
-ghost use Rattle.iddqd_keys.specs.Scan.{IsHit};
+ghost use Rattle.std.specs.declared.ops.Bound.TheVariants.{Included};
+ghost use Rattle.iddqd_keys.specs.KeyWalk.{SortsWithin};
+ghost use Rattle.iddqd_keys.specs.Bounds.{is_in_bounds};
+ghost use Rattle.iddqd_keys.specs.Scan.{IsHit, itself};
 ghost use Rattle.iddqd_map.specs.Groups.{AreHits, listed_from};
-ghost use Rattle.iddqd_map.specs.Selection.{live_indexes, live_behind};
-ghost use Rattle.iddqd_map.specs.SelectionLaws.{AreHits-live};
+ghost use Rattle.iddqd_map.specs.Selection.{hits_behind, live_behind, live_indexes};
+ghost use Rattle.iddqd_map.specs.SelectionLaws.{AreHits-live, AreHits-sorted};
 
 use crate::grouped_at::StepsInGroup;
-use crate::key_index::{Changes, KeyIndex};
+use crate::key_index::{Changes, KeyIndex, StepsAt};
 use iddqd::item_index::ItemIndex;
 use iddqd::item_set::ItemSet;
+use iddqd_keys::bounds::{Bounds, IntoBounds};
 use std::marker::PhantomData;
 
 /// Which items of a map a call goes over, and in which order.
@@ -146,10 +150,90 @@ fn next_live<T>(items: &ItemSet<T>, ix: ItemIndex) -> Option<ItemIndex>
     items.next_occupied(ItemIndex::new(from as u32))
 }
 
+/// The items whose keys at the place `P` are within bounds, by key and then by index.
+#[derive(Drop)]
+pub struct KeyRange<P, Q> {
+    /// The bounds of the keys.
+    pub bounds: Bounds<Q>,
+    of: PhantomData<P>,
+}
+
+/// The items whose keys at the place `P` are within a range, as `from..to`.
+///
+/// Cost: a few steps; takes no memory.
+pub fn within<P, Q, R: IntoBounds<Q>>(range: R) -> KeyRange<P, Q>
+    ensures { result.bounds ≡ R.bounds range }
+{
+    KeyRange {
+        bounds: range.into_bounds(),
+        of: PhantomData,
+    }
+}
+
+/// The items whose keys at the place `P` compare Equal with the query, by index.
+///
+/// Cost: a few steps; takes no memory.
+pub fn equal<P, Q: Copy>(query: Q) -> KeyRange<P, Q>
+    ensures { result.bounds ≡ record { lower = Included query; upper = Included query } }
+{
+    KeyRange {
+        bounds: Bounds::only(query),
+        of: PhantomData,
+    }
+}
+
+impl<P, Q, T, X, S> Selection<T, X, S> for KeyRange<P, Q>
+where
+    Q: Drop,
+    X: StepsAt<P, Q, T, S>,
+{
+    type Spot = X::Spot;
+
+    ghost selects = { λ which. is_in_bounds X.OrderedAt.compare which.bounds };
+
+    ghost lists = { λ which s indexes.
+        SortsWithin itself X.OrderedAt.order (is_in_bounds X.OrderedAt.compare which.bounds) s indexes };
+
+    ghost stands = { λ which x spot ix. X.StepsAt.stands x spot ix };
+
+    ghost behind = { λ which x s ix.
+        hits_behind X.OrderedAt.order (is_in_bounds X.OrderedAt.compare which.bounds) s ix };
+
+    ghost hits = { λ which s indexes sorted. AreHits-sorted X.OrderedAt.order X.StepsAt.total
+        (is_in_bounds X.OrderedAt.compare which.bounds) s indexes sorted };
+
+    fn first(&self, indexes: &X, items: &ItemSet<T>, state: &S) -> Option<(ItemIndex, X::Spot)> {
+        indexes.first_between(items, state, &self.bounds)
+    }
+
+    fn next(
+        &self,
+        indexes: &X,
+        items: &ItemSet<T>,
+        state: &S,
+        spot: &mut X::Spot,
+        ix: ItemIndex,
+    ) -> Option<ItemIndex> {
+        indexes.next_between(items, state, spot, ix, &self.bounds)
+    }
+
+    fn take(
+        &self,
+        indexes: &mut X,
+        items: &ItemSet<T>,
+        state: &S,
+        spot: &mut X::Spot,
+        ix: ItemIndex,
+    ) -> Option<ItemIndex> {
+        indexes.take_between(items, state, spot, ix, &self.bounds)
+    }
+}
+
 /// The items that have a key by its hash which several items may have, in no particular order.
 #[derive(Drop)]
 pub struct Group<P, Q> {
-    query: Q,
+    /// What stands for the key.
+    pub query: Q,
     of: PhantomData<P>,
 }
 

@@ -4,17 +4,16 @@
 //! key. One loop, `sweep_along`, does the work of all that remove: it shows each item with its index to a closure, and
 //! passes what it removes to another. A removed item leaves the map before the closure gets it. No list of indexes is
 //! kept, and no memory is taken.
-ghost use Rattle.std.specs.Prelude.{◌≡◌, ◌≤◌, ◌+◌, ℕ, Bool, true, false, IfSome, IfOk, Some};
+ghost use Rattle.std.specs.Prelude.{◌≡◌, ◌≤◌, ◌+◌, ℕ, true, false, IfSome, Some};
 ghost use Rattle.std.specs.Option.{option_map};
 ghost use Rattle.iddqd.specs.{get, live_count, removed};
 ghost use Rattle.iddqd_keys.specs.Scan.{IsHit, IsLive};
-ghost use Rattle.iddqd_map.specs.Groups.{CountsHits, listed_from};
+ghost use Rattle.iddqd_map.specs.Groups.{listed_from};
 ghost use Rattle.iddqd_map.specs.KeyIndex.{IsIndexed};
-ghost use Rattle.iddqd_map.specs.Map.{capacity, room};
+ghost use Rattle.iddqd_map.specs.Map.{room};
 ghost use Rattle.iddqd_map.specs.RangeRetain.{KeepsMisses};
-ghost use Rattle.iddqd_map.specs.Ranges.{LeavesOthers};
-ghost use Rattle.iddqd_map.specs.Sweep.{CalledPairAt, CanSweepAlong, CanVisit, GivesPair, GivesRejected, MayAskAlong, MayGiveAlong, MayGiveSomeAlong, RemovesAll, RetainsAlong, RetainsUntil, SweepsAlong, TakesPair, TakesPairAt, goes_on, reads_itself, removes, stops};
-ghost use Rattle.iddqd_map.specs.declared.verdict.Verdict.TheVariants.{Stop, Keep, Remove};
+ghost use Rattle.iddqd_map.specs.Sweep.{CalledPairAt, CanSweepAlong, CanVisit, GivesPair, MayAskAlong, MayGiveSomeAlong, SweepsAlong, TakesPair, TakesPairAt, goes_on, reads_itself, removes, stops};
+ghost use Rattle.iddqd_map.specs.declared.verdict.Verdict.TheVariants.{Stop};
 
 use super::Map;
 use crate::key_index::KeyIndex;
@@ -63,8 +62,7 @@ impl<T, X: KeyIndex<T, S>, S> Map<T, X, S> {
         ensures room { room self.old ≤ room self.new }
         ensures count { result.removed + live_count self.new.store ≡ live_count self.old.store }
     {
-        let before = self.items.len();
-        let stopped = sweep_along(
+        let (removed, stopped) = sweep_counted(
             &mut self.items,
             &mut self.indexes,
             &self.state,
@@ -73,14 +71,55 @@ impl<T, X: KeyIndex<T, S>, S> Map<T, X, S> {
             &mut gone,
         );
         Swept {
-            removed: before - self.items.len(),
-            stopped_at: stopped.map(|(ix, _)| ix),
+            removed,
+            stopped_at: index_of(&stopped),
         }
     }
 }
 
-// Goes over a selection as `sweep` does, by any closure whose answers read as verdicts, and returns the index and the
-// answer that ended it. The closures stay in the states that their last calls leave.
+// The index at which a call ended, if it did.
+fn index_of<R>(stopped: &Option<(ItemIndex, R)>) -> Option<ItemIndex>
+    ensures { result ≡ option_map (λ (at : ℕ × R). at.0) stopped.now }
+{
+    match stopped {
+        Some((ix, _)) => Some(*ix),
+        None => None,
+    }
+}
+
+/// Goes over a selection as `sweep` does, by any closure whose answers read as verdicts. Returns how many items it
+/// removed, and the index and the answer that ended it. The closures stay in the states that their last calls leave.
+pub(super) fn sweep_counted<W, T, S, X, R: Answer, F, G: FnMut(ItemIndex, T)>(
+    items: &mut ItemSet<T>,
+    indexes: &mut X,
+    state: &S,
+    which: &W,
+    ask: &mut F,
+    gone: &mut G,
+) -> (usize, Option<(ItemIndex, R)>)
+where
+    F: FnMut(ItemIndex, &T) -> R,
+    X: KeyIndex<T, S>,
+    W: Selection<T, X, S>,
+    requires indexed { IsIndexed (X.indexes indexes.old) state.now items.old.store }
+    requires callable { CanSweepAlong (TakesPairAt F.FnMut) (CalledPairAt F.FnMut) R.reads (TakesPair G.FnMut)
+        (GivesPair G.FnMut) (W.lists which.now) ask.old gone.old items.old.store }
+    ensures indexed { IsIndexed (X.indexes indexes.new) state.now items.new.store }
+    ensures swept { SweepsAlong (CalledPairAt F.FnMut) R.reads (GivesPair G.FnMut) (W.lists which.now) ask.old gone.old
+        items.old.store items.new.store result.1 }
+    ensures others { KeepsMisses items.old.store (W.selects which.now) items.new.store }
+    ensures count { result.0 + live_count items.new.store ≡ live_count items.old.store }
+    ensures limit { items.new.store.limit ≡ items.old.store.limit }
+    ensures slots { items.new.capacity ≡ items.old.capacity }
+    ensures capacity { X.capacity indexes.new ≡ X.capacity indexes.old }
+    ensures cells { X.cells indexes.new ≡ X.cells indexes.old }
+{
+    let before = items.len();
+    let stopped = sweep_along(items, indexes, state, which, ask, gone);
+    (before - items.len(), stopped)
+}
+
+// Goes over a selection as `sweep_counted` does, and returns the index and the answer that ended it.
 fn sweep_along<W, T, S, X, R: Answer, F: FnMut(ItemIndex, &T) -> R, G: FnMut(ItemIndex, T)>(
     items: &mut ItemSet<T>,
     indexes: &mut X,
