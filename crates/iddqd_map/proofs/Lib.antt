@@ -27,6 +27,7 @@ pub mod RetainLemmas
 pub mod RetainedLemmas
 pub mod RoomLemmas
 pub mod SelectedLemmas
+pub mod SelectionCallerLemmas
 pub mod SelectionLemmas
 pub mod SizeLemmas
 pub mod SweepLemmas

@@ -17,7 +17,7 @@ use Rattle.iddqd_keys.proofs.KeyWalkLemmas.{pairs_at-first}
 use Rattle.iddqd_map.specs.Groups.{AreHits, CountsHits}
 use Rattle.iddqd_map.specs.Ranges.{LeavesOthers}
 use Rattle.iddqd_map.specs.Retain.{AsksInTurn, removed_of}
-use Rattle.iddqd_map.specs.Sweep.{AfterVerdict, AsksAlong, CanSweep, CanSweepAlong, EndsAt, EndsRetain, GivesPair, GivesRejected, MayAskAlong, MayGiveSomeAlong, RemovesAll, RetainsAlong, RetainsUntil, SweepsAlong, TakesPair, TakesSome, TakesSomeAlong, goes_on, kept_if, kept_if_ok, pairs_removed, reads_itself, removes, stops}
+use Rattle.iddqd_map.specs.Sweep.{AfterVerdict, AsksAlong, CanSweep, CanSweepAlong, EndsAt, EndsRetain, GivesPair, GivesRejected, MayAskAlong, MayGiveSomeAlong, RemovesSelected, RetainsSelected, RetainsUntil, SweepsAlong, TakesPair, TakesSome, TakesSomeAlong, goes_on, kept_if, kept_if_ok, pairs_removed, reads_itself, removes, stops}
 use Rattle.iddqd_map.specs.declared.verdict.Verdict.{Verdict}
 use Rattle.iddqd_map.specs.declared.verdict.Verdict.TheVariants.{Keep, Remove, Stop}
 use Rattle.iddqd_map.proofs.OverwriteLemmas.{get-removed_all}
@@ -173,8 +173,8 @@ module _
     left : new ≡ removed_all old (removed_of did.swept.asks)
     left = did.swept.left ∙ ap (λ l. removed_all old (map (λ p. p.0) l)) (rejected did.swept.asks) ∙ ap (removed_all old) (removed_are did.swept.asks)
 
-    pub RetainsAlong-swept : (last : F) × RetainsAlong lists ask f old new last
-    RetainsAlong-swept = (
+    pub RetainsSelected-swept : (last : F) × RetainsSelected lists ask f old new last
+    RetainsSelected-swept = (
       did.last,
       record {
         indexes = did.indexes;
@@ -227,8 +227,8 @@ module _
         emptied = did.swept.left ∙ ap (λ l. removed_all old (map (λ p. p.0) l)) all_pairs
             ∙ ap (removed_all old) (indexes_of did.indexes (λ ix here. (hits.each ix).0 here))
 
-        pub RemovesAll-swept : (last : G) × RemovesAll lists give gone old new last
-        RemovesAll-swept = (
+        pub RemovesSelected-swept : (last : G) × RemovesSelected lists give gone old new last
+        RemovesSelected-swept = (
           did.last_gone,
           record {
             indexes = did.indexes;

@@ -172,7 +172,7 @@ module _ {F T : Type 0} (lists : Store T → List ℕ → Type 0) (ask : F → �
   -- f was called once at each pair of the selection, in its order, each time in the state that the call before left;
   -- `last` is the state after the last call. The items at which it answered false were removed, in the order of the
   -- calls. All others stay under their indexes.
-  pub record RetainsAlong (f : F) (old new : Store T) (last : F) : Type 0 where
+  pub record RetainsSelected (f : F) (old new : Store T) (last : F) : Type 0 where
     pub indexes : List ℕ
     pub listed : lists old indexes
     pub asks : List ((ℕ × T) × Bool)
@@ -202,7 +202,7 @@ module _ {F T : Type 0} (lists : Store T → List ℕ → Type 0) (ask : F → �
 module _ {F T : Type 0} (lists : Store T → List ℕ → Type 0) (give : F → ℕ × T → F → Type 0) where
   -- The items of the selection were removed, and f was called with each under its index, in the order of the selection,
   -- each time in the state that the call before left.
-  pub record RemovesAll (f : F) (old new : Store T) (last : F) : Type 0 where
+  pub record RemovesSelected (f : F) (old new : Store T) (last : F) : Type 0 where
     pub indexes : List ℕ
     pub listed : lists old indexes
     pub given : FoldsTo give f (pairs_at old indexes) last

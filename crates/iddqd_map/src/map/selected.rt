@@ -8,7 +8,7 @@ ghost use Rattle.iddqd_map.specs.KeyIndex.{IsIndexed};
 ghost use Rattle.iddqd_map.specs.Map.{capacity, room};
 ghost use Rattle.iddqd_map.specs.RangeRetain.{KeepsMisses};
 ghost use Rattle.iddqd_map.specs.Ranges.{LeavesOthers};
-ghost use Rattle.iddqd_map.specs.Sweep.{CalledPairAt, GivesPair, GivesRejected, MayAskAlong, MayGiveAlong, MayGiveSomeAlong, RemovesAll, RetainsAlong, RetainsUntil, TakesPairAt, goes_on, kept_if_ok};
+ghost use Rattle.iddqd_map.specs.Sweep.{CalledPairAt, GivesPair, GivesRejected, MayAskAlong, MayGiveAlong, MayGiveSomeAlong, RemovesSelected, RetainsSelected, RetainsUntil, TakesPairAt, goes_on, kept_if_ok};
 
 use super::Map;
 use super::sweep::sweep_counted;
@@ -32,14 +32,14 @@ impl<T, X: KeyIndex<T, S>, S> Map<T, X, S> {
         T: Drop,
         W: Selection<T, X, S>,
         requires { MayAskAlong (W.lists which) (TakesPairAt F.FnMut) (CalledPairAt F.FnMut) f self.old.store }
-        ensures asked { (last : F) × RetainsAlong (W.lists which) (CalledPairAt F.FnMut) f self.old.store self.new.store
+        ensures asked { (last : F) × RetainsSelected (W.lists which) (CalledPairAt F.FnMut) f self.old.store self.new.store
             last }
         ensures others { KeepsMisses self.old.store (W.selects which) self.new.store }
         ensures memory { self.new.memory ≡ self.old.memory }
         ensures room { room self.old ≤ room self.new }
         ensures count { result + live_count self.new.store ≡ live_count self.old.store }
     {
-        let (removed, _) = sweep_counted(
+        let (dropped, _) = sweep_counted(
             &mut self.items,
             &mut self.indexes,
             &self.state,
@@ -47,7 +47,7 @@ impl<T, X: KeyIndex<T, S>, S> Map<T, X, S> {
             &mut f,
             &mut |_ix: ItemIndex, item: T| drop(item),
         );
-        removed
+        dropped
     }
 
     /// Keeps, of the items of a selection, those at which the first closure answers true, passes the others to the
@@ -72,7 +72,7 @@ impl<T, X: KeyIndex<T, S>, S> Map<T, X, S> {
         W: Selection<T, X, S>,
         requires asked { MayAskAlong (W.lists which) (TakesPairAt F.FnMut) (CalledPairAt F.FnMut) keep self.old.store }
         requires given { MayGiveSomeAlong (W.lists which) G.FnMut gone self.old.store }
-        ensures asked { (last : F) × RetainsAlong (W.lists which) (CalledPairAt F.FnMut) keep self.old.store
+        ensures asked { (last : F) × RetainsSelected (W.lists which) (CalledPairAt F.FnMut) keep self.old.store
             self.new.store last }
         ensures given { GivesRejected (W.lists which) (CalledPairAt F.FnMut) (GivesPair G.FnMut) keep gone
             self.old.store self.new.store }
@@ -81,7 +81,7 @@ impl<T, X: KeyIndex<T, S>, S> Map<T, X, S> {
         ensures room { room self.old ≤ room self.new }
         ensures count { result + live_count self.new.store ≡ live_count self.old.store }
     {
-        let (removed, _) = sweep_counted(
+        let (rejected, _) = sweep_counted(
             &mut self.items,
             &mut self.indexes,
             &self.state,
@@ -89,7 +89,7 @@ impl<T, X: KeyIndex<T, S>, S> Map<T, X, S> {
             &mut keep,
             &mut gone,
         );
-        removed
+        rejected
     }
 
     /// Removes the items of a selection, and returns how many there were.
@@ -104,14 +104,14 @@ impl<T, X: KeyIndex<T, S>, S> Map<T, X, S> {
         W: Selection<T, X, S>,
         requires { MayGiveAlong (W.lists which) F.FnMut gone self.old.store }
         ensures left { LeavesOthers self.old.store (W.selects which) self.new.store }
-        ensures given { (last : F) × RemovesAll (W.lists which) (GivesPair F.FnMut) gone self.old.store self.new.store
+        ensures given { (last : F) × RemovesSelected (W.lists which) (GivesPair F.FnMut) gone self.old.store self.new.store
             last }
         ensures memory { self.new.memory ≡ self.old.memory }
         ensures room { room self.old ≤ room self.new }
         ensures count { result + live_count self.new.store ≡ live_count self.old.store }
         ensures freed { live_count self.old.store ≤ capacity self.old → room self.new ≡ room self.old + result }
     {
-        let (removed, _) = sweep_counted(
+        let (emptied, _) = sweep_counted(
             &mut self.items,
             &mut self.indexes,
             &self.state,
@@ -119,7 +119,7 @@ impl<T, X: KeyIndex<T, S>, S> Map<T, X, S> {
             &mut |_ix: ItemIndex, _item: &T| false,
             &mut gone,
         );
-        removed
+        emptied
     }
 
     /// Keeps, of the items of a selection, those at which the closure answers `Ok(true)`, and returns how many it

@@ -1,10 +1,10 @@
 use Rattle.std.proofs.Common.{rules, Bool}
 use Rattle.iddqd_map.specs.Sweep.{CalledPairAt, GivesPair, TakesPair}
-use Rattle.iddqd_map.proofs.SelectedLemmas.{AsksAlong-may, CanSweepAlong-remove, LeavesOthers-swept, RemovesAll-swept}
+use Rattle.iddqd_map.proofs.SelectedLemmas.{AsksAlong-may, CanSweepAlong-remove, LeavesOthers-swept, RemovesSelected-swept}
 use Rattle.iddqd_map.proofs.map.Map.remove_in.Goals as goal
 
-pub sweep_counted-removed-requires-clause-callable : goal.sweep_counted-removed-requires-clause-callable
-sweep_counted-removed-requires-clause-callable g c =
+pub sweep_counted-emptied-requires-clause-callable : goal.sweep_counted-emptied-requires-clause-callable
+sweep_counted-emptied-requires-clause-callable g c =
     let s = c.self.inside.items.store in
     let lists = g.W.Selection.lists c.args.which in
     let accepts = TakesPair g.F.FnMut in
@@ -15,19 +15,19 @@ sweep_counted-removed-requires-clause-callable g c =
 pub returns-clause-left : goal.returns-clause-left
 returns-clause-left g c =
     let s = c.self.inside.items.store in
-    let did = c.sweep_counted-removed.ensures.swept in
+    let did = c.sweep_counted-emptied.ensures.swept in
     let lists = g.W.Selection.lists c.args.which in
     rw (← c.self.view_is)
-    (LeavesOthers-swept lists _ (GivesPair g.F.FnMut) _ c.args.gone s c.sweep_counted-removed.new.items.store
-    c.sweep_counted-removed.result.1 did (g.W.Selection.selects c.args.which) (λ p x b q asked. search rules)
+    (LeavesOthers-swept lists _ (GivesPair g.F.FnMut) _ c.args.gone s c.sweep_counted-emptied.new.items.store
+    c.sweep_counted-emptied.result.1 did (g.W.Selection.selects c.args.which) (λ p x b q asked. search rules)
     (g.met.W.Selection.hits c.args.which s did.indexes did.listed))
 
 pub returns-clause-given : goal.returns-clause-given
 returns-clause-given g c =
     let s = c.self.inside.items.store in
-    let did = c.sweep_counted-removed.ensures.swept in
+    let did = c.sweep_counted-emptied.ensures.swept in
     let lists = g.W.Selection.lists c.args.which in
     rw (← c.self.view_is)
-    (RemovesAll-swept lists _ (GivesPair g.F.FnMut) _ c.args.gone s c.sweep_counted-removed.new.items.store
-    c.sweep_counted-removed.result.1 did (g.W.Selection.selects c.args.which) (λ p x b q asked. search rules)
+    (RemovesSelected-swept lists _ (GivesPair g.F.FnMut) _ c.args.gone s c.sweep_counted-emptied.new.items.store
+    c.sweep_counted-emptied.result.1 did (g.W.Selection.selects c.args.which) (λ p x b q asked. search rules)
     (g.met.W.Selection.hits c.args.which s did.indexes did.listed))

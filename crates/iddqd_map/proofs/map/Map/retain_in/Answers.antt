@@ -1,10 +1,10 @@
 use Rattle.std.proofs.Common.{rules}
 use Rattle.iddqd_map.specs.Sweep.{CalledPairAt, GivesPair, TakesPairAt, kept_if}
-use Rattle.iddqd_map.proofs.SelectedLemmas.{AsksAlong-go_on, AsksAlong-may, CanSweepAlong-both, RetainsAlong-swept, TakesSomeAlong-all}
+use Rattle.iddqd_map.proofs.SelectedLemmas.{AsksAlong-go_on, AsksAlong-may, CanSweepAlong-both, RetainsSelected-swept, TakesSomeAlong-all}
 use Rattle.iddqd_map.proofs.map.Map.retain_in.Goals as goal
 
-pub sweep_counted-removed-requires-clause-callable : goal.sweep_counted-removed-requires-clause-callable
-sweep_counted-removed-requires-clause-callable g c =
+pub sweep_counted-dropped-requires-clause-callable : goal.sweep_counted-dropped-requires-clause-callable
+sweep_counted-dropped-requires-clause-callable g c =
     let s = c.self.inside.items.store in
     let lists = g.W.Selection.lists c.args.which in
     let takes = TakesPairAt g.F.FnMut in
@@ -15,7 +15,7 @@ sweep_counted-removed-requires-clause-callable g c =
 
 pub returns-clause-asked : goal.returns-clause-asked
 returns-clause-asked g c =
-    let did = c.sweep_counted-removed.ensures.swept in
+    let did = c.sweep_counted-dropped.ensures.swept in
     rw (← c.self.view_is)
-    (RetainsAlong-swept (g.W.Selection.lists c.args.which) (CalledPairAt g.F.FnMut) _ c.args.f _
-    c.self.inside.items.store c.sweep_counted-removed.new.items.store c.sweep_counted-removed.result.1 did)
+    (RetainsSelected-swept (g.W.Selection.lists c.args.which) (CalledPairAt g.F.FnMut) _ c.args.f _
+    c.self.inside.items.store c.sweep_counted-dropped.new.items.store c.sweep_counted-dropped.result.1 did)

@@ -1,9 +1,9 @@
 use Rattle.iddqd_map.specs.Sweep.{CalledPairAt, GivesPair, TakesPairAt, kept_if}
-use Rattle.iddqd_map.proofs.SelectedLemmas.{AsksAlong-go_on, AsksAlong-may, CanSweepAlong-both, GivesRejected-swept, RetainsAlong-swept, TakesSomeAlong-may}
+use Rattle.iddqd_map.proofs.SelectedLemmas.{AsksAlong-go_on, AsksAlong-may, CanSweepAlong-both, GivesRejected-swept, RetainsSelected-swept, TakesSomeAlong-may}
 use Rattle.iddqd_map.proofs.map.Map.retain_into_in.Goals as goal
 
-pub sweep_counted-removed-requires-clause-callable : goal.sweep_counted-removed-requires-clause-callable
-sweep_counted-removed-requires-clause-callable g c =
+pub sweep_counted-rejected-requires-clause-callable : goal.sweep_counted-rejected-requires-clause-callable
+sweep_counted-rejected-requires-clause-callable g c =
     let s = c.self.inside.items.store in
     let lists = g.W.Selection.lists c.args.which in
     let takes = TakesPairAt g.F.FnMut in
@@ -16,16 +16,16 @@ sweep_counted-removed-requires-clause-callable g c =
 pub returns-clause-asked : goal.returns-clause-asked
 returns-clause-asked g c =
     rw (← c.self.view_is)
-    (RetainsAlong-swept (g.W.Selection.lists c.args.which) (CalledPairAt g.F.FnMut) (GivesPair g.G.FnMut) c.args.keep
-    c.args.gone c.self.inside.items.store c.sweep_counted-removed.new.items.store c.sweep_counted-removed.result.1
-    c.sweep_counted-removed.ensures.swept)
+    (RetainsSelected-swept (g.W.Selection.lists c.args.which) (CalledPairAt g.F.FnMut) (GivesPair g.G.FnMut) c.args.keep
+    c.args.gone c.self.inside.items.store c.sweep_counted-rejected.new.items.store c.sweep_counted-rejected.result.1
+    c.sweep_counted-rejected.ensures.swept)
 
 pub returns-clause-given : goal.returns-clause-given
 returns-clause-given g c =
     rw (← c.self.view_is)
     (GivesRejected-swept (g.W.Selection.lists c.args.which) (CalledPairAt g.F.FnMut) (GivesPair g.G.FnMut) c.args.keep
-    c.args.gone c.self.inside.items.store c.sweep_counted-removed.new.items.store c.sweep_counted-removed.result.1
-    c.sweep_counted-removed.ensures.swept)
+    c.args.gone c.self.inside.items.store c.sweep_counted-rejected.new.items.store c.sweep_counted-rejected.result.1
+    c.sweep_counted-rejected.ensures.swept)
 
 pub returns-clause-others : goal.returns-clause-others
-returns-clause-others g c = rw (← c.self.view_is) c.sweep_counted-removed.ensures.others
+returns-clause-others g c = rw (← c.self.view_is) c.sweep_counted-rejected.ensures.others
