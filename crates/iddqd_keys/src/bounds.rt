@@ -81,10 +81,10 @@ impl<Q> IntoBounds<Q> for RangeInclusive<Q> {
     } };
 
     fn into_bounds(self) -> Bounds<Q> {
-        let (from, to) = self.into_inner();
+        let (first, last) = self.into_inner();
         Bounds {
-            lower: Bound::Included(from),
-            upper: Bound::Included(to),
+            lower: Bound::Included(first),
+            upper: Bound::Included(last),
         }
     }
 }
@@ -94,8 +94,9 @@ impl<Q> IntoBounds<Q> for RangeFrom<Q> {
     ghost bounds = { λ range. record { lower = Included range.start; upper = Unbounded } };
 
     fn into_bounds(self) -> Bounds<Q> {
+        let RangeFrom { start } = self;
         Bounds {
-            lower: Bound::Included(self.start),
+            lower: Bound::Included(start),
             upper: Bound::Unbounded,
         }
     }
@@ -106,9 +107,10 @@ impl<Q> IntoBounds<Q> for RangeTo<Q> {
     ghost bounds = { λ range. record { lower = Unbounded; upper = Excluded range.end } };
 
     fn into_bounds(self) -> Bounds<Q> {
+        let RangeTo { end } = self;
         Bounds {
             lower: Bound::Unbounded,
-            upper: Bound::Excluded(self.end),
+            upper: Bound::Excluded(end),
         }
     }
 }
@@ -118,9 +120,10 @@ impl<Q> IntoBounds<Q> for RangeToInclusive<Q> {
     ghost bounds = { λ range. record { lower = Unbounded; upper = Included range.end } };
 
     fn into_bounds(self) -> Bounds<Q> {
+        let RangeToInclusive { end } = self;
         Bounds {
             lower: Bound::Unbounded,
-            upper: Bound::Included(self.end),
+            upper: Bound::Included(end),
         }
     }
 }

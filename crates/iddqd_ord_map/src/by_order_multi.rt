@@ -416,14 +416,7 @@ where
         spot: &mut Spot,
         ix: ItemIndex,
         bounds: &Bounds<Q>,
-    ) -> Option<ItemIndex>
-        requires live { IsLive items.now.store ix }
-        requires indexed { IsSortedScan E.key_of E.cmp items.now.store (order_of self.now.table) }
-        requires stands { StandsAt self.now.table spot.old ix }
-        ensures next { let within = is_up_to (bound_map Q.compare_item bounds.now.upper) in
-            IsNextHit itself (on E.key_of E.cmp) items.now.store within ix result }
-        ensures stands { IfSome result (StandsAt self.now.table spot.new) }
-    {
+    ) -> Option<ItemIndex> {
         next_between::<T, E, Q>(&self.table, items, spot, bounds)
     }
 
@@ -434,16 +427,7 @@ where
         spot: &mut Spot,
         ix: ItemIndex,
         bounds: &Bounds<Q>,
-    ) -> Option<ItemIndex>
-        requires live { IsLive items.now.store ix }
-        requires indexed { IsSortedScan E.key_of E.cmp items.now.store (order_of self.old.table) }
-        requires stands { StandsAt self.old.table spot.old ix }
-        ensures next { let within = is_up_to (bound_map Q.compare_item bounds.now.upper) in
-            IsNextHit itself (on E.key_of E.cmp) items.now.store within ix result }
-        ensures stands { IfSome result (StandsAt self.new.table spot.new) }
-        ensures indexed { IsSortedScan E.key_of E.cmp (removed items.now.store ix) (order_of self.new.table) }
-        ensures capacity { reserved_for self.new.table ≡ reserved_for self.old.table }
-    {
+    ) -> Option<ItemIndex> {
         take_between::<T, E, Q>(&mut self.table, items, spot, bounds)
     }
 

@@ -114,11 +114,7 @@ where
 
     ghost one_order = { refl };
 
-    fn range_at(&self, items: &ItemSet<T>, state: &S, bounds: &Bounds<Q>) -> Range<'_>
-        requires indexed { Sorts E.key_of E.cmp items.now.store (order_of self.now.table) }
-        ensures { let within = is_in_bounds Q.compare_item bounds.now in
-            ListsInOrder (on E.key_of E.cmp) within items.now.store (indexes_ahead result) }
-    {
+    fn range_at(&self, items: &ItemSet<T>, state: &S, bounds: &Bounds<Q>) -> Range<'_> {
         ordered_item::range::<T, E, Q>(&self.table, items, bounds)
     }
 
@@ -136,11 +132,7 @@ where
 
     ghost one_order = { refl };
 
-    fn range_at(&self, items: &ItemSet<T>, state: &S, bounds: &Bounds<Q>) -> Range<'_>
-        requires indexed { IsSortedScan E.key_of E.cmp items.now.store (order_of self.now.table) }
-        ensures { let within = is_in_bounds Q.compare_item bounds.now in
-            ListsInOrder (on E.key_of E.cmp) within items.now.store (indexes_ahead result) }
-    {
+    fn range_at(&self, items: &ItemSet<T>, state: &S, bounds: &Bounds<Q>) -> Range<'_> {
         ordered_item::range::<T, E, Q>(&self.table, items, bounds)
     }
 
