@@ -9,4 +9,4 @@ returns-clause-dropped c =
     (λ (order : Order). c.args.customer == order.customer)
     (λ (order : Order). order.customer ≡ c.args.customer)
     (λ (order : Order). is_same c.args.customer order.customer)
-    c.remove_in.ensures.left
+    (rw c.having.ensures at c.remove_in.ensures.left)
