@@ -1,4 +1,4 @@
-//! Iterators over the items, by rising index, and over the indexes in the order of the second keys. They take no memory.
+//! Iterators over the items by rising index, and over the indexes in the order of the second keys. None takes memory.
 ghost use Rattle.std.specs.Prelude.{◌≡◌, [], IsOk, IfOk, length};
 ghost use Rattle.iddqd.specs.{live_count, live_items, live_pairs};
 ghost use Rattle.iddqd.specs.LiveItems.{IsWalkOf};
