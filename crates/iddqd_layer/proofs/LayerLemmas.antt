@@ -2,7 +2,7 @@
 use Rattle.std.proofs.Common.{◌≡◌, ◌∙◌, ℕ, zero, suc, ◌<◌, ◌≤◌, List, [], ◌∷◌, min, length, get_or, slice_index, refl, sym, ap, subst, arith, inl, inr, Some, None, Contains, All, Result, Ok, Err}
 use Rattle.std.specs.Prelude.{OnOk, OnErr}
 use Rattle.std.proofs.Common.{IsSome, set, get_or-set_other, get_or-set_same, length-set}
-use Rattle.std.proofs.lemmas.Bool.{cases_eq, cases_lt}
+use Rattle.std.proofs.lemmas.Bool.{cases_eq}
 use Rattle.std.specs.FinMap.{FinMap}
 use Rattle.std.specs.Ordering.{nat_cmp}
 use Rattle.iddqd_hash.proofs.MemberLemmas.{get-insert_at, get-insert_other, get-remove_other}
@@ -247,15 +247,6 @@ module _ {A : Type 0} (f : A → ℕ) where
   least-above m n (x ∷ xs) le all =
       let here = all 0 x (omega arith) in
       least-above m (min n (f x)) xs (omega arith) (λ k a lt. all (suc k) a (omega arith))
-
-  -- where the least of all and m is below m, so is the least of all and anything
-  pub least-below : (m n s : ℕ) (xs : List A) → m ≤ n → least_of f n xs < m → least_of f s xs < m
-  least-below m n s [] le lt = absurd (omega arith)
-  least-below m n s (x ∷ xs) le lt =
-      elim (cases_lt (f x) m) [
-        | inl low ↦ (let rest = least-start (min s (f x)) xs in omega arith)
-        | inr high ↦ least-below m (min n (f x)) (min s (f x)) xs (omega arith) lt
-      ]
 
 pub on_ok : {A E X Y : Type 0} (r : Result A E) → (X → Y) → OnOk r X → OnOk r Y
 on_ok (Ok v) f x = f x
