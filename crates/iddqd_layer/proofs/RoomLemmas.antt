@@ -170,7 +170,8 @@ lengths : (l : Layer) → IsPaired l → HaveAsMany (store_of l) (ordered_of l)
 lengths l paired k t lt = length-held (store_of l) (order_of (get_or (ordered_of l) k t)) (paired.ordered k t lt)
 
 -- the room of an ordered table is at least that of the whole layer
-order-room : (l : Layer) (k : ℕ) (t : Order) → k < length (ordered_of l) → room l ≤ order_table.room (get_or (ordered_of l) k t)
+order-room : (l : Layer) (k : ℕ) (t : Order) → k < length (ordered_of l)
+    → room l ≤ order_table.room (get_or (ordered_of l) k t)
 order-room l k t lt =
     let n = least_of order_table.room (slots.room l.slots) (ordered_of l) in
     let all = least-start hash_table.room n (hashed_of l) in
@@ -190,7 +191,8 @@ module _ (old new : Layer) where
   room-used ix ways some slots_used hashes placed same =
       least-less hash_table.room _ _ (hashed_of old) (hashed_of new)
       (least-less order_table.room _ _ (ordered_of old) (ordered_of new) slots_used
-      (order-used ix ways (ordered_of old) (ordered_of new) (λ k t lt. let here = order-room old k t lt in omega arith) placed same))
+      (order-used ix ways (ordered_of old) (ordered_of new)
+      (λ k t lt. let here = order-room old k t lt in omega arith) placed same))
       hashes
 
   -- after it no ordered table has more indexes than its capacity
@@ -233,7 +235,8 @@ module _ (old new : Layer) where
     room-freed fewer fits slots_freed hashes same =
         least-more hash_table.room _ _ (hashed_of old) (hashed_of new)
         (least-more order_table.room _ _ (ordered_of old) (ordered_of new) slots_freed
-        (order-freed (store_of old) (store_of new) (ordered_of old) (ordered_of new) (lengths old was) (lengths new is) fewer fits same))
+        (order-freed (store_of old) (store_of new) (ordered_of old) (ordered_of new) (lengths old was)
+        (lengths new is) fewer fits same))
         hashes
 
     pub room-held :
@@ -244,7 +247,8 @@ module _ (old new : Layer) where
         → room old ≤ room new
     room-held fewer slots_kept hashes same =
         room-kept slots_kept hashes
-        (order-kept (store_of old) (store_of new) (ordered_of old) (ordered_of new) (lengths old was) (lengths new is) fewer same)
+        (order-kept (store_of old) (store_of new) (ordered_of old) (ordered_of new) (lengths old was)
+        (lengths new is) fewer same)
 
     pub fits-held :
         live_count (store_of new) ≤ live_count (store_of old)
@@ -252,7 +256,8 @@ module _ (old new : Layer) where
         → FitsItsMemory old
         → FitsItsMemory new
     fits-held fewer same fits =
-        order-fits (store_of old) (store_of new) (ordered_of old) (ordered_of new) (lengths old was) (lengths new is) fewer same fits
+        order-fits (store_of old) (store_of new) (ordered_of old) (ordered_of new) (lengths old was)
+        (lengths new is) fewer same fits
 
 -- from a stronger fact
 pub same-kept : (old new : List Order) → Each SameCapacity old new → Each KeepsCapacity old new
@@ -285,7 +290,8 @@ each-left f left xs = record {
 
 -- ordered tables that keep their trees, and no less capacity
 module _ (old new : List Order) (tree : Each HasSameTree old new) where
-  list-same : (k : ℕ) (t : Order) → k < length old → length (order_of (get_or new k t)) ≡ length (order_of (get_or old k t))
+  list-same : (k : ℕ) (t : Order) → k < length old
+      → length (order_of (get_or new k t)) ≡ length (order_of (get_or old k t))
   list-same k t lt = ap length (order-same (get_or old k t) (get_or new k t) (tree.at k t t lt))
 
   module _ (more : Each KeepsCapacity old new) where

@@ -18,8 +18,10 @@ left-paired : (c : After-clear_ordered) → IsPaired (left c)
 left-paired c =
     let l = c.self.inside in let s = l.items.store in
     paired (left c) (cleared s) c.clear.ensures.store (IsValid-cleared s c.self.invariant.valid)
-    (hashed-cleared s l.hashed.items c.clear_hashed.new.tables.items c.clear_hashed.ensures.empty)
-    (ordered-cleared s l.ordered.items c.clear_ordered.new.tables.items c.clear_ordered.ensures.empty)
+    (hashed-cleared s l.hashed.items c.clear_hashed.new.tables.items c.self.invariant.hashed
+    c.clear_hashed.ensures.empty)
+    (ordered-cleared s l.ordered.items c.clear_ordered.new.tables.items c.self.invariant.ordered
+    c.clear_ordered.ensures.empty)
 
 pub invariant_of-self : goal.invariant_of-self
 invariant_of-self c = left-paired c

@@ -12,19 +12,23 @@ use Rattle.iddqd_layer.proofs.layer.Layer.compact.Goals as goal
 
 pub rename_hashed-requires-clause-can_remap : goal.rename_hashed-requires-clause-can_remap
 rename_hashed-requires-clause-can_remap c k t lt =
-    by_hash.CanRemap-held _ _ (c.self.invariant.hashed k t lt) c.in-Ok.remap c.self.invariant.valid c.in-Ok.ensures.remap
+    by_hash.CanRemap-held _ _ (c.self.invariant.hashed k t lt) c.in-Ok.remap c.self.invariant.valid
+    c.in-Ok.ensures.remap
 
 pub rename_hashed-requires-clause-distinct : goal.rename_hashed-requires-clause-distinct
 rename_hashed-requires-clause-distinct c k t lt =
-    by_hash.one_name-held _ _ (c.self.invariant.hashed k t lt) c.in-Ok.remap c.self.invariant.valid c.in-Ok.ensures.remap
+    by_hash.one_name-held _ _ (c.self.invariant.hashed k t lt) c.in-Ok.remap c.self.invariant.valid
+    c.in-Ok.ensures.remap
 
 pub rename_ordered-requires-clause-can_remap : goal.rename_ordered-requires-clause-can_remap
 rename_ordered-requires-clause-can_remap c k t lt =
-    by_order.CanRemap-held _ _ (c.self.invariant.ordered k t lt) c.in-Ok.remap c.self.invariant.valid c.in-Ok.ensures.remap
+    by_order.CanRemap-held _ _ (c.self.invariant.ordered k t lt) c.in-Ok.remap c.self.invariant.valid
+    c.in-Ok.ensures.remap
 
 pub rename_ordered-requires-clause-distinct : goal.rename_ordered-requires-clause-distinct
 rename_ordered-requires-clause-distinct c k t lt =
-    by_order.one_name-held _ _ (c.self.invariant.ordered k t lt) c.in-Ok.remap c.self.invariant.valid c.in-Ok.ensures.remap
+    by_order.one_name-held _ _ (c.self.invariant.ordered k t lt) c.in-Ok.remap c.self.invariant.valid
+    c.in-Ok.ensures.remap
 
 -- the tables were renamed by rank
 filed-by_rank : (c : After-rename_ordered)
@@ -33,7 +37,8 @@ filed-by_rank c =
     let was = c.self.invariant in let e = c.rename_hashed.ensures.renamed in
     record {
       long = e.long;
-      at = λ k a b lt. by_hash.Renames-by_rank _ _ (was.hashed k a lt) c.in-Ok.remap was.valid c.in-Ok.ensures.remap _ (e.at k a b lt);
+      at = λ k a b lt. by_hash.Renames-by_rank _ _ (was.hashed k a lt) c.in-Ok.remap was.valid c.in-Ok.ensures.remap _
+          (e.at k a b lt);
     }
 
 listed-by_rank : (c : After-rename_ordered)
@@ -43,7 +48,8 @@ listed-by_rank c =
     let was = c.self.invariant in let e = c.rename_ordered.ensures.renamed in
     record {
       long = e.long;
-      at = λ k a b lt. e.at k a b lt ∙ by_order.map-by_rank _ _ (was.ordered k a lt) c.in-Ok.remap was.valid c.in-Ok.ensures.remap;
+      at = λ k a b lt. e.at k a b lt
+          ∙ by_order.map-by_rank _ _ (was.ordered k a lt) c.in-Ok.remap was.valid c.in-Ok.ensures.remap;
     }
 
 abbrev left : After-rename_ordered → Layer

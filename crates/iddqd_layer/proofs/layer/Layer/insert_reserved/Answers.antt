@@ -77,10 +77,14 @@ invariant_of-self c =
     let l = c.self.inside in let s = l.items.store in
     let not_full : IsFull s → ⊥ = subst (λ z. IsFull (store_of z) → ⊥) (sym c.self.view_is) c.requires.not_full in
     paired _ (inserted s tt) c.draw-ix.ensures.stored (IsValid-inserted s tt c.self.invariant.valid not_full)
-    (hashed-inserted s l.hashed.items c.insert_hashed.new.tables.items c.args.hashes.now c.self.invariant.valid c.self.invariant.hashed
-    (subst (λ z. EachBy (IsFiled z) c.args.hashes.now l.hashed.items c.insert_hashed.new.tables.items) c.draw-ix.ensures.index c.insert_hashed.ensures.filed))
-    (ordered-inserted s l.ordered.items c.insert_ordered.new.tables.items c.args.ways.now c.self.invariant.valid c.self.invariant.ordered
-    (subst (λ z. EachBy (IsPlaced z) c.args.ways.now l.ordered.items c.insert_ordered.new.tables.items) c.draw-ix.ensures.index c.insert_ordered.ensures.placed))
+    (hashed-inserted s l.hashed.items c.insert_hashed.new.tables.items c.args.hashes.now c.self.invariant.valid
+    c.self.invariant.hashed
+    (subst (λ z. EachBy (IsFiled z) c.args.hashes.now l.hashed.items c.insert_hashed.new.tables.items)
+    c.draw-ix.ensures.index c.insert_hashed.ensures.filed))
+    (ordered-inserted s l.ordered.items c.insert_ordered.new.tables.items c.args.ways.now c.self.invariant.valid
+    c.self.invariant.ordered
+    (subst (λ z. EachBy (IsPlaced z) c.args.ways.now l.ordered.items c.insert_ordered.new.tables.items)
+    c.draw-ix.ensures.index c.insert_ordered.ensures.placed))
 
 pub returns-clause-room : goal.returns-clause-room
 returns-clause-room c =

@@ -48,7 +48,8 @@ invariant_of-self-2 c = left-paired c
 pub returns-clause-freed : goal.returns-clause-freed
 returns-clause-freed c = λ _ fits.
     subst (λ z. room (left c) ≡ room z + 1) c.self.view_is
-    (room-freed (was c) (left c) c.self.invariant (left-paired c) (fewer c) (subst FitsItsMemory (sym c.self.view_is) fits)
+    (room-freed (was c) (left c) c.self.invariant (left-paired c) (fewer c)
+    (subst FitsItsMemory (sym c.self.view_is) fits)
     c.in-Some.ensures.room c.remove_hashed.ensures.room c.remove_ordered.ensures.memory)
 
 pub returns-clause-room_kept : goal.returns-clause-room_kept

@@ -25,7 +25,11 @@ left c = record {
 pub returns-in_err-reserve_slots-clause-room_kept : goal.returns-in_err-reserve_slots-clause-room_kept
 returns-in_err-reserve_slots-clause-room_kept c =
     let l = c.self.inside in
-    let new : Layer = record { slots = c.reserve_slots.new.items; hashed = l.hashed.items; ordered = l.ordered.items } in
+    let new : Layer = record {
+      slots = c.reserve_slots.new.items;
+      hashed = l.hashed.items;
+      ordered = l.ordered.items;
+    } in
     subst (λ z. room z ≤ room new) c.self.view_is
     (room-kept (record { slots = l.items; hashed = l.hashed.items; ordered = l.ordered.items }) new
     c.reserve_slots.ensures.room_kept (each-kept hash_table.room l.hashed.items)
@@ -35,7 +39,8 @@ pub invariant_of-self-in_err-reserve_hashed : goal.invariant_of-self-in_err-rese
 invariant_of-self-in_err-reserve_hashed c =
     let l = c.self.inside in let s = l.items.store in
     paired _ s c.reserve_slots.ensures.store c.self.invariant.valid
-    (hashed-same s l.hashed.items c.reserve_hashed.new.tables.items c.self.invariant.hashed c.reserve_hashed.ensures.same)
+    (hashed-same s l.hashed.items c.reserve_hashed.new.tables.items c.self.invariant.hashed
+    c.reserve_hashed.ensures.same)
     c.self.invariant.ordered
 
 pub returns-in_err-reserve_hashed-clause-room_kept : goal.returns-in_err-reserve_hashed-clause-room_kept
@@ -54,7 +59,8 @@ pub invariant_of-self-2 : goal.invariant_of-self-2
 invariant_of-self-2 c =
     let l = c.self.inside in let s = l.items.store in
     paired _ s c.reserve_slots.ensures.store c.self.invariant.valid
-    (hashed-same s l.hashed.items c.reserve_hashed.new.tables.items c.self.invariant.hashed c.reserve_hashed.ensures.same)
+    (hashed-same s l.hashed.items c.reserve_hashed.new.tables.items c.self.invariant.hashed
+    c.reserve_hashed.ensures.same)
     (ordered-same s l.ordered.items c.reserve_ordered.new.tables.items c.self.invariant.ordered
     c.reserve_ordered.ensures.same)
 
