@@ -1,3 +1,4 @@
 pub mod LawfulLemmas
 pub mod LayerLemmas
 mod LoopLemmas
+mod RoomLemmas
