@@ -9,7 +9,7 @@
 ghost use Rattle.std.specs.Prelude.{◌≡◌};
 ghost use Rattle.std.specs.Ordering.{on};
 ghost use Rattle.iddqd_order.specs.{NeedsNoMoreBlocks, capacity, entry_table, indexes_ahead, order_of, without};
-ghost use Rattle.iddqd_keys.specs.OrderedQuery.{is_within};
+ghost use Rattle.iddqd_keys.specs.Bounds.{is_in_bounds};
 ghost use Rattle.iddqd_keys.specs.Scan.{IsKeyAt, IsLive};
 ghost use Rattle.iddqd_by_order.specs.Ordered.{AreLive, Finds, Holds, IsEntryOf, LooksUp, Takes, itself};
 ghost use Rattle.iddqd_by_order.specs.OrderedWalk.{WalksWithin};
@@ -17,12 +17,12 @@ ghost use Rattle.iddqd_by_order.specs.OrderedWalk.{WalksWithin};
 use crate::item_bound::by_item;
 use iddqd::item_index::ItemIndex;
 use iddqd::item_set::ItemSet;
+use iddqd_keys::bounds::Bounds;
 use iddqd_keys::item_order_query::{ItemOrdQuery, ItemRangeQuery};
 use iddqd_keys::key_of::{Itself, key_at};
 use iddqd_keys::order_key::OrdKey;
 use iddqd_order::btree_table::{Asking, Entry, MapBTreeTable, Range};
 use std::cmp::Ordering;
-use std::ops::Bound;
 
 /// An index of an item at which the query answers Equal. If the table is sorted, it misses only if there is none.
 ///
@@ -135,14 +135,13 @@ where
 pub fn range<'t, T, E, Q>(
     table: &'t MapBTreeTable,
     items: &ItemSet<T>,
-    lower: Bound<Q>,
-    upper: Bound<Q>,
+    bounds: &Bounds<Q>,
 ) -> Range<'t>
 where
     E: OrdKey<T>,
     Q: ItemRangeQuery<T, E>,
     requires { Holds items.now.store (order_of table.now) }
-    ensures { WalksWithin itself (on E.key_of E.cmp) (is_within Q.compare_item lower upper) items.now.store
+    ensures { WalksWithin itself (on E.key_of E.cmp) (is_in_bounds Q.compare_item bounds.now) items.now.store
         (order_of table.now) (indexes_ahead result) }
 {
     let mut asking = Asking::new(
@@ -151,7 +150,7 @@ where
             ensures { IsKeyAt itself items.entry.now.store at result.now }
         { key_at::<T, Itself>(items, at) },
     );
-    let from = by_item::<E, Q>(lower);
-    let to = by_item::<E, Q>(upper);
+    let from = by_item::<E, Q>(bounds.lower);
+    let to = by_item::<E, Q>(bounds.upper);
     table.range_reading(from.as_ref(), to.as_ref(), &mut asking)
 }

@@ -11,6 +11,7 @@ ghost use Rattle.std.specs.declared.ops.Bound.{Bound};
 ghost use Rattle.iddqd_order.specs.{capacity, order_of, without};
 ghost use Rattle.iddqd_order.specs.MapBTreeTable.{IsSpot};
 ghost use Rattle.iddqd_order.specs.Spot.{StandsAt, spot_index};
+ghost use Rattle.iddqd_keys.specs.Bounds.{is_in_bounds};
 ghost use Rattle.iddqd_keys.specs.KeyWalk.{IsNextHit};
 ghost use Rattle.iddqd_keys.specs.OrderedQuery.{is_up_to, is_within};
 ghost use Rattle.iddqd_keys.specs.Scan.{IsKeyAt, IsLive};
@@ -20,6 +21,7 @@ ghost use Rattle.iddqd_by_order.specs.OrderedWalk.{FindsFirst};
 use crate::item_bound::by_item;
 use iddqd::item_index::ItemIndex;
 use iddqd::item_set::ItemSet;
+use iddqd_keys::bounds::Bounds;
 use iddqd_keys::item_order_query::ItemRangeQuery;
 use iddqd_keys::key_of::{Itself, key_at};
 use iddqd_keys::order_key::OrdKey;
@@ -34,19 +36,18 @@ use std::ops::Bound;
 pub fn first_between<T, E, Q>(
     table: &MapBTreeTable,
     items: &ItemSet<T>,
-    lower: Bound<Q>,
-    upper: Bound<Q>,
+    bounds: &Bounds<Q>,
 ) -> Option<(ItemIndex, Spot)>
 where
     E: OrdKey<T>,
     Q: ItemRangeQuery<T, E>,
     requires { IsSortedScan E.key_of E.cmp items.now.store (order_of table.now) }
-    ensures first { let within = is_within Q.compare_item lower upper in
+    ensures first { let within = is_in_bounds Q.compare_item bounds.now in
         FindsFirst itself (on E.key_of E.cmp) within items.now.store result }
     ensures spot { IfSome result (λ r. StandsAt table.now r.1 r.0) }
 {
-    let (first, spot) = first_from::<T, E, Q>(table, items, lower)?;
-    if is_up_to::<T, E, Q>(upper, key_at::<T, Itself>(items, first)) {
+    let (first, spot) = first_from::<T, E, Q>(table, items, bounds.lower)?;
+    if is_up_to::<T, E, Q>(bounds.upper, key_at::<T, Itself>(items, first)) {
         Some((first, spot))
     } else {
         None
@@ -85,7 +86,7 @@ pub fn next_between<T, E, Q>(
     table: &MapBTreeTable,
     items: &ItemSet<T>,
     spot: &mut Spot,
-    upper: Bound<Q>,
+    bounds: &Bounds<Q>,
 ) -> Option<ItemIndex>
 where
     E: OrdKey<T>,
@@ -93,11 +94,11 @@ where
     requires spot { IsSpot table.now spot.old }
     requires sorted { IsSortedScan E.key_of E.cmp items.now.store (order_of table.now) }
     ensures next { IsNextHit itself (on E.key_of E.cmp) items.now.store
-        (is_up_to (bound_map Q.compare_item upper)) (spot_index table.now spot.old) result }
+        (is_up_to (bound_map Q.compare_item bounds.now.upper)) (spot_index table.now spot.old) result }
     ensures spot { IfSome result (λ next. StandsAt table.now spot.new next) }
 {
     let next = table.step(spot);
-    if_up_to::<T, E, Q>(items, next, upper)
+    if_up_to::<T, E, Q>(items, next, bounds.upper)
 }
 
 /// Removes the index at the spot from the table, and moves the spot as `next_between` does. The store still has the
@@ -108,7 +109,7 @@ pub fn take_between<T, E, Q>(
     table: &mut MapBTreeTable,
     items: &ItemSet<T>,
     spot: &mut Spot,
-    upper: Bound<Q>,
+    bounds: &Bounds<Q>,
 ) -> Option<ItemIndex>
 where
     E: OrdKey<T>,
@@ -116,13 +117,13 @@ where
     requires spot { IsSpot table.old spot.old }
     requires sorted { IsSortedScan E.key_of E.cmp items.now.store (order_of table.old) }
     ensures next { IsNextHit itself (on E.key_of E.cmp) items.now.store
-        (is_up_to (bound_map Q.compare_item upper)) (spot_index table.old spot.old) result }
+        (is_up_to (bound_map Q.compare_item bounds.now.upper)) (spot_index table.old spot.old) result }
     ensures spot { IfSome result (λ next. StandsAt table.new spot.new next) }
     ensures taken { order_of table.new ≡ without (order_of table.old) (spot_index table.old spot.old) }
     ensures memory { capacity table.new ≡ capacity table.old }
 {
     let next = table.take_at(spot);
-    if_up_to::<T, E, Q>(items, next, upper)
+    if_up_to::<T, E, Q>(items, next, bounds.upper)
 }
 
 // The next index, if there is one and its item's key is within the upper bound.

@@ -11,10 +11,10 @@ ghost use Rattle.iddqd_c.specs.Keys.{has_second};
 use crate::entry::{Entry, Shared, Unique};
 use iddqd::item_index::ItemIndex;
 use iddqd::item_set::ItemSet;
+use iddqd_keys::bounds::Bounds;
 use iddqd_map::key_index::{Changes, Here, StepsAt, UniqueAt};
 use iddqd_map::no_conflict::NoConflict;
 use std::hash::RandomState;
-use std::ops::Bound;
 
 /// A key index of second keys, which are unique or shared.
 pub trait SecondKey: Changes<Entry, RandomState> {
@@ -110,9 +110,9 @@ impl SecondKey for Shared {
     }
 
     fn least(&self, items: &ItemSet<Entry>, state: &RandomState, second: u64) -> Option<ItemIndex> {
-        let (from, to) = (Bound::Included(&second), Bound::Included(&second));
+        let bounds = Bounds::only(&second);
         match StepsAt::<Here, &u64, Entry, RandomState>::first_between(
-            self, items, state, from, to,
+            self, items, state, &bounds,
         ) {
             Some(at) => Some(at.0),
             None => None,

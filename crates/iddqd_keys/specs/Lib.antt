@@ -7,3 +7,4 @@ pub mod Removals
 pub mod Tuples
 pub mod Reversed
 pub mod Beginnings
+pub mod Bounds

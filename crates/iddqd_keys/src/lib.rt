@@ -7,6 +7,7 @@
 //! scan of all items would.
 #![tactic(auto)]
 
+pub mod bounds;
 pub mod hash_key;
 pub mod hash_query;
 pub mod id_hash_item;

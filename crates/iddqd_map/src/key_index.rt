@@ -35,8 +35,9 @@ ghost use Rattle.std.specs.Prelude.{◌≡◌, ◌≢◌, ◌≤◌, ◌+◌, �
 ghost use Rattle.std.specs.Option.{option_map};
 ghost use Rattle.std.specs.Range.Bound.{bound_map};
 ghost use Rattle.iddqd.specs.{next_index, removed, rebound, sentinel, live_count, slot_count, IsValid, Allows, Validates};
+ghost use Rattle.iddqd_keys.specs.Bounds.{is_in_bounds};
 ghost use Rattle.iddqd_keys.specs.KeyWalk.{IsFirstHit, IsNextHit};
-ghost use Rattle.iddqd_keys.specs.OrderedQuery.{is_up_to, is_within};
+ghost use Rattle.iddqd_keys.specs.OrderedQuery.{is_up_to};
 ghost use Rattle.iddqd_keys.specs.Scan.{AnswersScan, IsLive, HasNoHit};
 ghost use Rattle.iddqd_map.specs.Ranges.{itself};
 ghost use Rattle.iddqd_map.specs.KeyIndex.{AreKnownAt, IndexesNone, IsNextOf, IsPlannedForOne, StaysPlanned, IndexesOneMore, IsRemapOfSome, IndexesCompacted, IndexesAllOf, IsNextReported, FindsPosition, FindsMove, TakesFound};
@@ -45,9 +46,9 @@ use iddqd::index_remap::IndexRemap;
 use iddqd::internal::{ValidateCompact, ValidateRefusal, ValidationError};
 use iddqd::item_index::ItemIndex;
 use iddqd::item_set::ItemSet;
+use iddqd_keys::bounds::Bounds;
 use std::alloc::{AllocError, Global};
 use std::marker::PhantomData;
-use std::ops::Bound;
 
 /// A table of a store's indexes by one key, or several tables by several keys.
 ///
@@ -616,29 +617,29 @@ pub trait StepsAt<P, Q, T, S>: OrderedAt<P, Q, T, S> {
         &self,
         items: &ItemSet<T>,
         state: &S,
-        lower: Bound<Q>,
-        upper: Bound<Q>,
+        bounds: &Bounds<Q>,
     ) -> Option<(ItemIndex, Self::Spot)>
         requires indexed { Self.KeyIndex.indexes self.now state.now items.now.store }
         ensures first { IsFirstHit itself Self.OrderedAt.order items.now.store
-            (is_within Self.OrderedAt.compare lower upper) (option_map (λ (r : ℕ × Self.Spot). r.0) result) }
+            (is_in_bounds Self.OrderedAt.compare bounds.now)
+            (option_map (λ (r : ℕ × Self.Spot). r.0) result) }
         ensures stands { IfSome result (λ r. stands self.now r.1 r.0) };
 
     /// Moves the spot of a live index to the next one behind it, by key and then by index, and returns that index, if
-    /// its item's key is within the bound.
+    /// its item's key is within the upper bound.
     fn next_between(
         &self,
         items: &ItemSet<T>,
         state: &S,
         spot: &mut Self::Spot,
         ix: ItemIndex,
-        upper: Bound<Q>,
+        bounds: &Bounds<Q>,
     ) -> Option<ItemIndex>
         requires live { IsLive items.now.store ix }
         requires indexed { Self.KeyIndex.indexes self.now state.now items.now.store }
         requires stands { stands self.now spot.old ix }
         ensures next { IsNextHit itself Self.OrderedAt.order items.now.store
-            (is_up_to (bound_map Self.OrderedAt.compare upper)) ix result }
+            (is_up_to (bound_map Self.OrderedAt.compare bounds.now.upper)) ix result }
         ensures stands { IfSome result (stands self.now spot.new) };
 
     /// Removes a live index, and moves its spot as `next_between` does. It takes no memory.
@@ -648,13 +649,13 @@ pub trait StepsAt<P, Q, T, S>: OrderedAt<P, Q, T, S> {
         state: &S,
         spot: &mut Self::Spot,
         ix: ItemIndex,
-        upper: Bound<Q>,
+        bounds: &Bounds<Q>,
     ) -> Option<ItemIndex>
         requires live { IsLive items.now.store ix }
         requires indexed { Self.KeyIndex.indexes self.old state.now items.now.store }
         requires stands { stands self.old spot.old ix }
         ensures next { IsNextHit itself Self.OrderedAt.order items.now.store
-            (is_up_to (bound_map Self.OrderedAt.compare upper)) ix result }
+            (is_up_to (bound_map Self.OrderedAt.compare bounds.now.upper)) ix result }
         ensures stands { IfSome result (stands self.new spot.new) }
         ensures indexed { Self.KeyIndex.indexes self.new state.now (removed items.now.store ix) }
         ensures capacity { Self.KeyIndex.capacity self.new ≡ Self.KeyIndex.capacity self.old }

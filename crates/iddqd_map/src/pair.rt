@@ -31,8 +31,8 @@ use iddqd::index_remap::IndexRemap;
 use iddqd::internal::{ValidateCompact, ValidateRefusal, ValidationError};
 use iddqd::item_index::ItemIndex;
 use iddqd::item_set::ItemSet;
+use iddqd_keys::bounds::Bounds;
 use std::alloc::{AllocError, Global};
-use std::ops::Bound;
 
 /// Two key indexes over the same items.
 #[derive(Drop)]
@@ -615,16 +615,9 @@ where
         &self,
         items: &ItemSet<T>,
         state: &S,
-        lower: Bound<Q>,
-        upper: Bound<Q>,
-    ) -> Option<(ItemIndex, A::Spot)>
-        requires indexed { A.KeyIndex.indexes self.now.first state.now items.now.store
-            × B.KeyIndex.indexes self.now.second state.now items.now.store }
-        ensures first { IsFirstHit itself A.OrderedAt.order items.now.store (is_within A.OrderedAt.compare lower upper)
-            (option_map (λ (r : ℕ × A.Spot). r.0) result) }
-        ensures stands { IfSome result (λ r. A.StepsAt.stands self.now.first r.1 r.0) }
-    {
-        self.first.first_between(items, state, lower, upper)
+        bounds: &Bounds<Q>,
+    ) -> Option<(ItemIndex, A::Spot)> {
+        self.first.first_between(items, state, bounds)
     }
 
     fn next_between(
@@ -633,17 +626,9 @@ where
         state: &S,
         spot: &mut A::Spot,
         ix: ItemIndex,
-        upper: Bound<Q>,
-    ) -> Option<ItemIndex>
-        requires live { IsLive items.now.store ix }
-        requires indexed { A.KeyIndex.indexes self.now.first state.now items.now.store
-            × B.KeyIndex.indexes self.now.second state.now items.now.store }
-        requires stands { A.StepsAt.stands self.now.first spot.old ix }
-        ensures next { let within = is_up_to (bound_map A.OrderedAt.compare upper) in
-            IsNextHit itself A.OrderedAt.order items.now.store within ix result }
-        ensures stands { IfSome result (A.StepsAt.stands self.now.first spot.new) }
-    {
-        self.first.next_between(items, state, spot, ix, upper)
+        bounds: &Bounds<Q>,
+    ) -> Option<ItemIndex> {
+        self.first.next_between(items, state, spot, ix, bounds)
     }
 
     fn take_between(
@@ -652,24 +637,10 @@ where
         state: &S,
         spot: &mut A::Spot,
         ix: ItemIndex,
-        upper: Bound<Q>,
-    ) -> Option<ItemIndex>
-        requires live { IsLive items.now.store ix }
-        requires indexed { A.KeyIndex.indexes self.old.first state.now items.now.store
-            × B.KeyIndex.indexes self.old.second state.now items.now.store }
-        requires stands { A.StepsAt.stands self.old.first spot.old ix }
-        ensures next { let within = is_up_to (bound_map A.OrderedAt.compare upper) in
-            IsNextHit itself A.OrderedAt.order items.now.store within ix result }
-        ensures stands { IfSome result (A.StepsAt.stands self.new.first spot.new) }
-        ensures indexed { A.KeyIndex.indexes self.new.first state.now (removed items.now.store ix)
-            × B.KeyIndex.indexes self.new.second state.now (removed items.now.store ix) }
-        ensures capacity { min (A.KeyIndex.capacity self.new.first) (B.KeyIndex.capacity self.new.second)
-            ≡ min (A.KeyIndex.capacity self.old.first) (B.KeyIndex.capacity self.old.second) }
-        ensures cells { A.KeyIndex.cells self.new.first + B.KeyIndex.cells self.new.second
-            ≡ A.KeyIndex.cells self.old.first + B.KeyIndex.cells self.old.second }
-    {
+        bounds: &Bounds<Q>,
+    ) -> Option<ItemIndex> {
         self.second.remove(items, state, ix);
-        self.first.take_between(items, state, spot, ix, upper)
+        self.first.take_between(items, state, spot, ix, bounds)
     }
 
     ghost total = { A.StepsAt.total };
@@ -721,16 +692,9 @@ where
         &self,
         items: &ItemSet<T>,
         state: &S,
-        lower: Bound<Q>,
-        upper: Bound<Q>,
-    ) -> Option<(ItemIndex, B::Spot)>
-        requires indexed { A.KeyIndex.indexes self.now.first state.now items.now.store
-            × B.KeyIndex.indexes self.now.second state.now items.now.store }
-        ensures first { IsFirstHit itself B.OrderedAt.order items.now.store (is_within B.OrderedAt.compare lower upper)
-            (option_map (λ (r : ℕ × B.Spot). r.0) result) }
-        ensures stands { IfSome result (λ r. B.StepsAt.stands self.now.second r.1 r.0) }
-    {
-        self.second.first_between(items, state, lower, upper)
+        bounds: &Bounds<Q>,
+    ) -> Option<(ItemIndex, B::Spot)> {
+        self.second.first_between(items, state, bounds)
     }
 
     fn next_between(
@@ -739,17 +703,9 @@ where
         state: &S,
         spot: &mut B::Spot,
         ix: ItemIndex,
-        upper: Bound<Q>,
-    ) -> Option<ItemIndex>
-        requires live { IsLive items.now.store ix }
-        requires indexed { A.KeyIndex.indexes self.now.first state.now items.now.store
-            × B.KeyIndex.indexes self.now.second state.now items.now.store }
-        requires stands { B.StepsAt.stands self.now.second spot.old ix }
-        ensures next { let within = is_up_to (bound_map B.OrderedAt.compare upper) in
-            IsNextHit itself B.OrderedAt.order items.now.store within ix result }
-        ensures stands { IfSome result (B.StepsAt.stands self.now.second spot.new) }
-    {
-        self.second.next_between(items, state, spot, ix, upper)
+        bounds: &Bounds<Q>,
+    ) -> Option<ItemIndex> {
+        self.second.next_between(items, state, spot, ix, bounds)
     }
 
     fn take_between(
@@ -758,24 +714,10 @@ where
         state: &S,
         spot: &mut B::Spot,
         ix: ItemIndex,
-        upper: Bound<Q>,
-    ) -> Option<ItemIndex>
-        requires live { IsLive items.now.store ix }
-        requires indexed { A.KeyIndex.indexes self.old.first state.now items.now.store
-            × B.KeyIndex.indexes self.old.second state.now items.now.store }
-        requires stands { B.StepsAt.stands self.old.second spot.old ix }
-        ensures next { let within = is_up_to (bound_map B.OrderedAt.compare upper) in
-            IsNextHit itself B.OrderedAt.order items.now.store within ix result }
-        ensures stands { IfSome result (B.StepsAt.stands self.new.second spot.new) }
-        ensures indexed { A.KeyIndex.indexes self.new.first state.now (removed items.now.store ix)
-            × B.KeyIndex.indexes self.new.second state.now (removed items.now.store ix) }
-        ensures capacity { min (A.KeyIndex.capacity self.new.first) (B.KeyIndex.capacity self.new.second)
-            ≡ min (A.KeyIndex.capacity self.old.first) (B.KeyIndex.capacity self.old.second) }
-        ensures cells { A.KeyIndex.cells self.new.first + B.KeyIndex.cells self.new.second
-            ≡ A.KeyIndex.cells self.old.first + B.KeyIndex.cells self.old.second }
-    {
+        bounds: &Bounds<Q>,
+    ) -> Option<ItemIndex> {
         self.first.remove(items, state, ix);
-        self.second.take_between(items, state, spot, ix, upper)
+        self.second.take_between(items, state, spot, ix, bounds)
     }
 
     ghost total = { B.StepsAt.total };

@@ -8,6 +8,7 @@ pub use Rattle.iddqd.specs.Validation
 pub use Rattle.iddqd_keys.specs.Scan
 pub use Rattle.iddqd_keys.specs.KeyKeeping
 pub use Rattle.iddqd_keys.specs.OrderedQuery
+pub use Rattle.iddqd_keys.specs.Bounds
 pub use Rattle.iddqd_keys.specs.Removals
 pub use Rattle.iddqd_keys.specs.Tuples
 pub use Rattle.iddqd_keys.specs.Beginnings

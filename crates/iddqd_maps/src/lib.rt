@@ -31,7 +31,8 @@ pub use iddqd_map::mix::CloneFor;
 pub use iddqd_map::tri_hash_map::TriHashItem;
 pub use iddqd_ord_map::id_ord_map::IdOrdItem;
 
-// Kinds of key, and queries for them.
+// Kinds of key, queries for them, and ranges of queries.
+pub use iddqd_keys::bounds::{Bounds, IntoBounds};
 pub use iddqd_keys::item_order_query::{Part, Prefix};
 pub use iddqd_keys::key_kinds::{Computed, Field, ItsKey, Reversed};
 pub use iddqd_keys::starts_with::StartsWith;
@@ -83,9 +84,10 @@ pub use iddqd_groups::{
     by_hash_multi as by_hash_multi, hashed_group as hashed_group, in_groups as in_groups,
 };
 pub use iddqd_keys::{
-    hash_key as hash_key, hash_query as hash_query, item_hash_query as item_hash_query,
-    item_order_query as item_order_query, key_kinds as key_kinds, key_of as key_of,
-    order_key as order_key, order_query as order_query, starts_with as starts_with,
+    bounds as bounds, hash_key as hash_key, hash_query as hash_query,
+    item_hash_query as item_hash_query, item_order_query as item_order_query,
+    key_kinds as key_kinds, key_of as key_of, order_key as order_key, order_query as order_query,
+    starts_with as starts_with,
 };
 pub use iddqd_map::{
     appended as appended, bi_hash_map as bi_hash_map, by_hash as by_hash, grouped_at as grouped_at,

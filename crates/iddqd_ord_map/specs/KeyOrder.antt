@@ -3,11 +3,8 @@ use Rattle.std.specs.Prelude.{◌≡◌, ◌≢◌, ◌<◌, ◌↔◌, ℕ, Boo
 use Rattle.std.specs.List.{Contains}
 use Rattle.std.specs.declared.cmp.Ordering.{Ordering}
 use Rattle.std.specs.declared.cmp.Ordering.TheVariants.{Less}
-use Rattle.std.specs.declared.ops.Bound.{Bound}
 use Rattle.iddqd.specs.Store.{Store, get, live_count, removed}
-use Rattle.iddqd_keys.specs.OrderedQuery.{is_within}
 use Rattle.iddqd_map.specs.Map.{MapState}
-use Rattle.iddqd_map.specs.Ranges.{itself}
 
 module _ {T K : Type 0} (key_of : T → K) (compare : K → K → Ordering) where
   -- The item is at the index, and no other item's key is beyond its key: with Less it has the least key, with Greater
@@ -48,9 +45,3 @@ module _ {T K : Type 0} (key_of : T → K) (compare : K → K → Ordering) wher
   -- all items, in the order of the keys
   abbrev pub AreInKeyOrder : Store T → List T → Type 0
   AreInKeyOrder s items = (pairs : List (ℕ × T)) × IsKeyWalk s pairs × (items ≡ map (λ pair. pair.1) pairs)
-
-module _ {T : Type 0} (order : T → T → Ordering) where
-  -- the pairs are the live indexes, with their items, that are between the bounds, in order
-  abbrev pub IsWalkBetween :
-      {Q : Type 0} → (Q → T → Ordering) → (lower upper : Bound Q) → Store T → List (ℕ × T) → Type 0
-  IsWalkBetween compare lower upper s pairs = IsWalkWithin itself order (is_within compare lower upper) s pairs

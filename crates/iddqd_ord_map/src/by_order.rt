@@ -36,6 +36,7 @@ use iddqd::item_index::ItemIndex;
 use iddqd::item_set::ItemSet;
 use iddqd_by_order::ordered_item::find_same;
 use iddqd_by_order::ordered_next::{first_between, next_between, take_between};
+use iddqd_keys::bounds::Bounds;
 use iddqd_keys::item_order_query::{ItemOrdQuery, ItemRangeQuery};
 use iddqd_keys::key_kinds::Field;
 use iddqd_keys::key_of::{Itself, key_at};
@@ -48,7 +49,6 @@ use iddqd_order::btree_table::{Asking, Blocks, Gap, MapBTreeTable, Spot};
 use std::alloc::{AllocError, Global};
 use std::cmp::Ordering;
 use std::marker::PhantomData;
-use std::ops::Bound;
 
 /// A key index in the order of a field: of the key, a `K`, that `E` borrows from an item.
 pub type ByOrder<E, K> = ByOrderOf<Field<E, K>>;
@@ -474,16 +474,9 @@ where
         &self,
         items: &ItemSet<T>,
         state: &S,
-        lower: Bound<Q>,
-        upper: Bound<Q>,
-    ) -> Option<(ItemIndex, Spot)>
-        requires indexed { Sorts E.key_of E.cmp items.now.store (order_of self.now.table) }
-        ensures first { let within = is_within Q.compare_item lower upper in
-            IsFirstHit itself (on E.key_of E.cmp) items.now.store within
-            (option_map (λ (r : ℕ × SpotInTable). r.0) result) }
-        ensures stands { IfSome result (λ r. StandsAt self.now.table r.1 r.0) }
-    {
-        first_between::<T, E, Q>(&self.table, items, lower, upper)
+        bounds: &Bounds<Q>,
+    ) -> Option<(ItemIndex, Spot)> {
+        first_between::<T, E, Q>(&self.table, items, bounds)
     }
 
     fn next_between(
@@ -492,16 +485,9 @@ where
         state: &S,
         spot: &mut Spot,
         ix: ItemIndex,
-        upper: Bound<Q>,
-    ) -> Option<ItemIndex>
-        requires live { IsLive items.now.store ix }
-        requires indexed { Sorts E.key_of E.cmp items.now.store (order_of self.now.table) }
-        requires stands { StandsAt self.now.table spot.old ix }
-        ensures next { let within = is_up_to (bound_map Q.compare_item upper) in
-            IsNextHit itself (on E.key_of E.cmp) items.now.store within ix result }
-        ensures stands { IfSome result (StandsAt self.now.table spot.new) }
-    {
-        next_between::<T, E, Q>(&self.table, items, spot, upper)
+        bounds: &Bounds<Q>,
+    ) -> Option<ItemIndex> {
+        next_between::<T, E, Q>(&self.table, items, spot, bounds)
     }
 
     fn take_between(
@@ -510,18 +496,9 @@ where
         state: &S,
         spot: &mut Spot,
         ix: ItemIndex,
-        upper: Bound<Q>,
-    ) -> Option<ItemIndex>
-        requires live { IsLive items.now.store ix }
-        requires indexed { Sorts E.key_of E.cmp items.now.store (order_of self.old.table) }
-        requires stands { StandsAt self.old.table spot.old ix }
-        ensures next { let within = is_up_to (bound_map Q.compare_item upper) in
-            IsNextHit itself (on E.key_of E.cmp) items.now.store within ix result }
-        ensures stands { IfSome result (StandsAt self.new.table spot.new) }
-        ensures indexed { Sorts E.key_of E.cmp (removed items.now.store ix) (order_of self.new.table) }
-        ensures capacity { reserved_for self.new.table ≡ reserved_for self.old.table }
-    {
-        take_between::<T, E, Q>(&mut self.table, items, spot, upper)
+        bounds: &Bounds<Q>,
+    ) -> Option<ItemIndex> {
+        take_between::<T, E, Q>(&mut self.table, items, spot, bounds)
     }
 
     ghost total = { on_total E.key_of E.total };

@@ -1,12 +1,12 @@
-//! Reads of a map in the order of a key at a place: `ledger.range_by::<ByDay, _>(lower, upper)`.
+//! Reads of a map in the order of a key at a place: `ledger.range_by::<ByDay, _, _>(&from..&to)`.
 //!
 //! They are calls of one trait, `InOrder`, which every `Map` has, since the ordered table stands above the crate of the
 //! maps. No memory is taken.
 ghost use Rattle.std.specs.Prelude.{◌≡◌, ◌≤◌, ◌+◌, Some, length, IfNone, IfSome, OnSome};
 ghost use Rattle.std.specs.Option.{option_map};
-ghost use Rattle.std.specs.Range.Bound.{bound_map};
 ghost use Rattle.iddqd.specs.{live_count};
-ghost use Rattle.iddqd_keys.specs.OrderedQuery.{is_equal, is_within};
+ghost use Rattle.iddqd_keys.specs.Bounds.{is_in_bounds};
+ghost use Rattle.iddqd_keys.specs.OrderedQuery.{is_equal};
 ghost use Rattle.iddqd_map.specs.Groups.{CountsHits};
 ghost use Rattle.iddqd_map.specs.Map.{capacity, room};
 ghost use Rattle.iddqd_ord_map.specs.InOrder.{shown, FindsFirst, FindsLast, IteratesInOrder, PopsFirst, PopsLast};
@@ -15,9 +15,9 @@ use crate::id_ord_map::Iter;
 use crate::ranges_at::{RangesAt, SortedAt};
 use iddqd::item_index::ItemIndex;
 use iddqd_by_order::ordered_walk::Range;
+use iddqd_keys::bounds::{Bounds, IntoBounds};
 use iddqd_map::key_index::{Changes, KeyIndex};
 use iddqd_map::map::{Map, Parts};
-use std::ops::{Bound, RangeBounds};
 
 /// Reads in the order of the key at the place `P`. Items with equal keys come by index.
 pub trait InOrder<T, X: KeyIndex<T, S>, S> {
@@ -73,30 +73,19 @@ pub trait InOrder<T, X: KeyIndex<T, S>, S> {
         ensures freed { OnSome result (live_count (state self.old).store ≤ capacity (state self.old)
             → room (state self.new) ≡ room (state self.old) + 1) };
 
-    /// The items whose keys are within the bounds with their indexes, in order, from both ends: none if the lower bound
-    /// is above the upper one.
+    /// The items whose keys are within the range with their indexes, in order, from both ends: none if its lower bound
+    /// is above its upper one.
     ///
     /// It is one search for each bound that there is.
     ///
     /// Cost: one search for each bound that there is, then a step for each item; takes no memory.
-    fn range_by<P, Q>(&self, lower: Bound<Q>, upper: Bound<Q>) -> Range<'_, T>
-    where
-        X: RangesAt<P, Q, T, S>,
-        ensures { let within = is_within X.compare lower upper in
-            IteratesInOrder X.order within (state self.now).store result };
-
-    /// `range_by`, with both bounds as one range of queries: `ledger.range_in::<ByDay, &u32, _>(&from..=&to)`.
-    ///
-    /// Of a `RangeInclusive` that was iterated to its end nothing is said.
-    ///
-    /// Cost: one search for each bound that there is, then a step for each item; takes no memory.
-    fn range_in<P, Q, R>(&self, bounds: R) -> Range<'_, T>
+    fn range_by<P, Q, R>(&self, range: R) -> Range<'_, T>
     where
         X: RangesAt<P, Q, T, S>,
         Q: Copy,
-        R: RangeBounds<Q>,
-        ensures { let within = is_within X.compare (R.start_bound bounds) (R.end_bound bounds) in
-            R.has_bounds bounds → IteratesInOrder X.order within (state self.now).store result };
+        R: IntoBounds<Q>,
+        ensures { let within = is_in_bounds X.compare (R.bounds range) in
+            IteratesInOrder X.order within (state self.now).store result };
 
     /// The items that have the key for which the query stands with their indexes, in order, from both ends.
     ///
@@ -163,25 +152,18 @@ impl<T, X: KeyIndex<T, S>, S> InOrder<T, X, S> for Map<T, X, S> {
         self.remove_at(ix)
     }
 
-    fn range_by<P, Q>(&self, lower: Bound<Q>, upper: Bound<Q>) -> Range<'_, T>
+    fn range_by<P, Q, R>(&self, range: R) -> Range<'_, T>
     where
         X: RangesAt<P, Q, T, S>,
+        Q: Copy,
+        R: IntoBounds<Q>,
     {
         let Parts {
             items,
             indexes,
             state,
         } = self.parts();
-        Range::new(indexes.range_at(items, state, lower, upper), items)
-    }
-
-    fn range_in<P, Q, R>(&self, bounds: R) -> Range<'_, T>
-    where
-        X: RangesAt<P, Q, T, S>,
-        Q: Copy,
-        R: RangeBounds<Q>,
-    {
-        self.range_by::<P, Q>(by_value(bounds.start_bound()), by_value(bounds.end_bound()))
+        Range::new(indexes.range_at(items, state, &range.into_bounds()), items)
     }
 
     fn group_by<P, Q>(&self, query: Q) -> Range<'_, T>
@@ -189,7 +171,7 @@ impl<T, X: KeyIndex<T, S>, S> InOrder<T, X, S> for Map<T, X, S> {
         X: RangesAt<P, Q, T, S>,
         Q: Copy,
     {
-        self.range_by::<P, Q>(Bound::Included(query), Bound::Included(query))
+        self.range_by::<P, Q, _>(Bounds::only(query))
     }
 
     fn count_by<P, Q>(&self, query: Q) -> usize
@@ -224,16 +206,5 @@ fn last_index<P, T, X: SortedAt<P, T, S>, S>(map: &Map<T, X, S>) -> Option<ItemI
     match map.last_by::<P>() {
         Some((ix, _)) => Some(ix),
         None => None,
-    }
-}
-
-// A bound without the reference.
-pub(crate) fn by_value<Q: Copy>(bound: Bound<&Q>) -> Bound<Q>
-    ensures { result ≡ bound_map (λ query. query.now) bound.entry }
-{
-    match bound {
-        Bound::Included(query) => Bound::Included(*query),
-        Bound::Excluded(query) => Bound::Excluded(*query),
-        Bound::Unbounded => Bound::Unbounded,
     }
 }

@@ -4,16 +4,17 @@
 //! keys come by index. No memory is taken. The calls of [`crate::in_order`] give the items as well, by the place of the
 //! key.
 ghost use Rattle.std.specs.Prelude.{◌≡◌, ◌↔◌, false};
-ghost use Rattle.iddqd_keys.specs.OrderedQuery.{is_equal, is_within};
+ghost use Rattle.iddqd_keys.specs.Bounds.{is_in_bounds};
+ghost use Rattle.iddqd_keys.specs.OrderedQuery.{is_equal};
 ghost use Rattle.iddqd_keys.specs.Scan.{HasNoHit};
 ghost use Rattle.iddqd_ord_map.specs.InOrder.{ListsInOrder};
 ghost use Rattle.iddqd_order.specs.{indexes_ahead, indexes_left};
 
 use crate::ranges_at::{RangesAt, SortedAt};
+use iddqd_keys::bounds::{Bounds, IntoBounds};
 use iddqd_map::key_index::{Here, KeyIndex, StepsAt};
 use iddqd_map::map::Parts;
 use iddqd_order::btree_table::{Iter, Range};
-use std::ops::Bound;
 
 /// Look-ups in the parts of a map whose key index has one key, in order.
 pub trait OrderedParts<'a, T, X: KeyIndex<T, S>, S>: Sized {
@@ -36,10 +37,12 @@ pub trait OrderedParts<'a, T, X: KeyIndex<T, S>, S>: Sized {
     /// It is one search for each bound that there is.
     ///
     /// Cost: one search for each bound that there is, then a step for each index; takes no memory.
-    fn range<Q>(self, lower: Bound<Q>, upper: Bound<Q>) -> Range<'a>
+    fn range<Q, R>(self, range: R) -> Range<'a>
     where
         X: RangesAt<Here, Q, T, S>,
-        ensures { let within = is_within X.compare lower upper in
+        Q: Copy,
+        R: IntoBounds<Q>,
+        ensures { let within = is_in_bounds X.compare (R.bounds range) in
             ListsInOrder X.order within (store self) (indexes_ahead result) };
 
     /// The indexes whose items have the key for which the query stands, in order, from both ends. A query for the first
@@ -77,23 +80,25 @@ impl<'a, T, X: KeyIndex<T, S>, S> OrderedParts<'a, T, X, S> for Parts<'a, T, X, 
         indexes.table_at(items, state).iter()
     }
 
-    fn range<Q>(self, lower: Bound<Q>, upper: Bound<Q>) -> Range<'a>
+    fn range<Q, R>(self, range: R) -> Range<'a>
     where
         X: RangesAt<Here, Q, T, S>,
+        Q: Copy,
+        R: IntoBounds<Q>,
     {
         let Parts {
             items,
             indexes,
             state,
         } = self;
-        indexes.range_at(items, state, lower, upper)
+        indexes.range_at(items, state, &range.into_bounds())
     }
 
     fn group<Q: Copy>(self, query: Q) -> Range<'a>
     where
         X: RangesAt<Here, Q, T, S>,
     {
-        self.range(Bound::Included(query), Bound::Included(query))
+        self.range(Bounds::only(query))
     }
 
     fn contains_key<Q: Copy>(self, query: Q) -> bool
@@ -105,7 +110,8 @@ impl<'a, T, X: KeyIndex<T, S>, S> OrderedParts<'a, T, X, S> for Parts<'a, T, X, 
             indexes,
             state,
         } = self;
-        let (from, to) = (Bound::Included(query), Bound::Included(query));
-        indexes.first_between(items, state, from, to).is_some()
+        indexes
+            .first_between(items, state, &Bounds::only(query))
+            .is_some()
     }
 }

@@ -6,7 +6,7 @@ ghost use Rattle.std.specs.Prelude.{◌≡◌};
 ghost use Rattle.std.specs.Ordering.{on};
 ghost use Rattle.iddqd_order.specs.{capacity, indexes_ahead, order_of};
 ghost use Rattle.iddqd_keys.specs.Scan.{AnswersScan};
-ghost use Rattle.iddqd_keys.specs.OrderedQuery.{is_within};
+ghost use Rattle.iddqd_keys.specs.Bounds.{is_in_bounds};
 ghost use Rattle.iddqd_by_order.specs.Ordered.{Takes, IsSortedScan, is_equal};
 ghost use Rattle.iddqd_by_order.specs.OrderedWalk.{SortsWithin};
 ghost use Rattle.iddqd_map.specs.Groups.{CountsHits};
@@ -16,10 +16,10 @@ ghost use Rattle.iddqd_ord_map.specs.OrderedIndexing.{Sorts};
 use iddqd::item_index::ItemIndex;
 use iddqd::item_set::ItemSet;
 use iddqd_by_order::ordered_item;
+use iddqd_keys::bounds::Bounds;
 use iddqd_keys::item_order_query::{ItemOrdQuery, ItemRangeQuery};
 use iddqd_keys::order_key::OrdKey;
 use iddqd_order::btree_table::{MapBTreeTable, Range};
-use std::ops::Bound;
 
 /// The index of the item that has the key for which the query stands.
 ///
@@ -59,17 +59,16 @@ where
 pub fn range_by<'t, T, E, Q>(
     table: &'t MapBTreeTable,
     items: &ItemSet<T>,
-    lower: Bound<Q>,
-    upper: Bound<Q>,
+    bounds: &Bounds<Q>,
 ) -> Range<'t>
 where
     E: OrdKey<T>,
     Q: ItemRangeQuery<T, E>,
     requires { IsSortedScan E.key_of E.cmp items.now.store (order_of table.now) }
-    ensures { let within = is_within Q.compare_item lower upper in
+    ensures { let within = is_in_bounds Q.compare_item bounds.now in
         SortsWithin itself (on E.key_of E.cmp) within items.now.store (indexes_ahead result) }
 {
-    ordered_item::range::<T, E, Q>(table, items, lower, upper)
+    ordered_item::range::<T, E, Q>(table, items, bounds)
 }
 
 /// How many items have the key for which the query stands. It costs one step for each of them more than `group_by`.
@@ -82,6 +81,5 @@ where
 {
     // The table counts its indexes in 64 bits.
     let _len = table.len();
-    let (from, to) = (Bound::Included(query), Bound::Included(query));
-    ordered_item::range::<T, E, Q>(table, items, from, to).count()
+    ordered_item::range::<T, E, Q>(table, items, &Bounds::only(query)).count()
 }

@@ -4,7 +4,8 @@
 ghost use Rattle.std.specs.Range.Bound.{bound_map};
 ghost use Rattle.std.specs.Ordering.{on};
 ghost use Rattle.iddqd_by_order.specs.Ordered.{IsSortedScan};
-ghost use Rattle.iddqd_keys.specs.OrderedQuery.{is_equal, is_within};
+ghost use Rattle.iddqd_keys.specs.Bounds.{is_in_bounds};
+ghost use Rattle.iddqd_keys.specs.OrderedQuery.{is_equal};
 ghost use Rattle.iddqd_map.specs.Groups.{CountsHits};
 ghost use Rattle.iddqd_map.specs.Ranges.{itself};
 ghost use Rattle.iddqd_ord_map.specs.InOrder.{ListsInOrder};
@@ -17,12 +18,12 @@ use crate::by_order_multi::ByOrderMultiOf;
 use crate::ordered_query::count_by;
 use iddqd::item_set::ItemSet;
 use iddqd_by_order::ordered_item;
+use iddqd_keys::bounds::Bounds;
 use iddqd_keys::item_order_query::ItemRangeQuery;
 use iddqd_keys::order_key::OrdKey;
 use iddqd_map::key_index::{Here, KeyIndex, Left, OrderedAt, Right};
 use iddqd_map::pair::Pair;
 use iddqd_order::btree_table::{MapBTreeTable, Range};
-use std::ops::Bound;
 
 /// A key index with a key by its order at the place `P`.
 pub trait SortedAt<P, T, S>: KeyIndex<T, S> {
@@ -43,9 +44,9 @@ pub trait RangesAt<P, Q, T, S>: OrderedAt<P, Q, T, S> + SortedAt<P, T, S> {
 
     /// The indexes whose items have keys between two bounds, by key and then by index: none if the lower bound is above
     /// the upper one. It is one search for each bound that there is, and takes no memory.
-    fn range_at(&self, items: &ItemSet<T>, state: &S, lower: Bound<Q>, upper: Bound<Q>) -> Range<'_>
+    fn range_at(&self, items: &ItemSet<T>, state: &S, bounds: &Bounds<Q>) -> Range<'_>
         requires indexed { Self.KeyIndex.indexes self.now state.now items.now.store }
-        ensures { let within = is_within Self.OrderedAt.compare lower upper in
+        ensures { let within = is_in_bounds Self.OrderedAt.compare bounds.now in
             ListsInOrder Self.OrderedAt.order within items.now.store (indexes_ahead result) };
 
     /// How many items have the key for which the query stands. It is two searches, and a step for each of them.
@@ -113,12 +114,8 @@ where
 
     ghost one_order = { refl };
 
-    fn range_at(&self, items: &ItemSet<T>, state: &S, lower: Bound<Q>, upper: Bound<Q>) -> Range<'_>
-        requires indexed { Sorts E.key_of E.cmp items.now.store (order_of self.now.table) }
-        ensures { let within = is_within Q.compare_item lower upper in
-            ListsInOrder (on E.key_of E.cmp) within items.now.store (indexes_ahead result) }
-    {
-        ordered_item::range::<T, E, Q>(&self.table, items, lower, upper)
+    fn range_at(&self, items: &ItemSet<T>, state: &S, bounds: &Bounds<Q>) -> Range<'_> {
+        ordered_item::range::<T, E, Q>(&self.table, items, bounds)
     }
 
     fn count_at(&self, items: &ItemSet<T>, state: &S, query: Q) -> usize {
@@ -135,12 +132,8 @@ where
 
     ghost one_order = { refl };
 
-    fn range_at(&self, items: &ItemSet<T>, state: &S, lower: Bound<Q>, upper: Bound<Q>) -> Range<'_>
-        requires indexed { IsSortedScan E.key_of E.cmp items.now.store (order_of self.now.table) }
-        ensures { let within = is_within Q.compare_item lower upper in
-            ListsInOrder (on E.key_of E.cmp) within items.now.store (indexes_ahead result) }
-    {
-        ordered_item::range::<T, E, Q>(&self.table, items, lower, upper)
+    fn range_at(&self, items: &ItemSet<T>, state: &S, bounds: &Bounds<Q>) -> Range<'_> {
+        ordered_item::range::<T, E, Q>(&self.table, items, bounds)
     }
 
     fn count_at(&self, items: &ItemSet<T>, state: &S, query: Q) -> usize {
@@ -155,13 +148,8 @@ where
 {
     ghost one_order = { A.RangesAt.one_order };
 
-    fn range_at(&self, items: &ItemSet<T>, state: &S, lower: Bound<Q>, upper: Bound<Q>) -> Range<'_>
-        requires indexed { A.KeyIndex.indexes self.now.first state.now items.now.store
-            × B.KeyIndex.indexes self.now.second state.now items.now.store }
-        ensures { let within = is_within A.OrderedAt.compare lower upper in
-            ListsInOrder A.OrderedAt.order within items.now.store (indexes_ahead result) }
-    {
-        self.first.range_at(items, state, lower, upper)
+    fn range_at(&self, items: &ItemSet<T>, state: &S, bounds: &Bounds<Q>) -> Range<'_> {
+        self.first.range_at(items, state, bounds)
     }
 
     fn count_at(&self, items: &ItemSet<T>, state: &S, query: Q) -> usize {
@@ -176,13 +164,8 @@ where
 {
     ghost one_order = { B.RangesAt.one_order };
 
-    fn range_at(&self, items: &ItemSet<T>, state: &S, lower: Bound<Q>, upper: Bound<Q>) -> Range<'_>
-        requires indexed { A.KeyIndex.indexes self.now.first state.now items.now.store
-            × B.KeyIndex.indexes self.now.second state.now items.now.store }
-        ensures { let within = is_within B.OrderedAt.compare lower upper in
-            ListsInOrder B.OrderedAt.order within items.now.store (indexes_ahead result) }
-    {
-        self.second.range_at(items, state, lower, upper)
+    fn range_at(&self, items: &ItemSet<T>, state: &S, bounds: &Bounds<Q>) -> Range<'_> {
+        self.second.range_at(items, state, bounds)
     }
 
     fn count_at(&self, items: &ItemSet<T>, state: &S, query: Q) -> usize {

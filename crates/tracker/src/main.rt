@@ -136,10 +136,11 @@ fn print_page(
     behind: Place,
     size: usize,
 ) -> io::Result<Place> {
-    let from = Bound::Excluded(Part::Both(&project, (&behind.0, &behind.1)));
-    let to = Bound::Included(Part::First(&project));
+    let from = Part::Both(&project, (&behind.0, &behind.1));
+    let to = Part::First(&project);
+    let page = (Bound::Excluded(from), Bound::Included(to));
     let mut place = behind;
-    for (_, issue) in tracker.range_by::<When, _>(from, to).take(size) {
+    for (_, issue) in tracker.range_by::<When, _, _>(page).take(size) {
         println!(rt; "{}/{} {}", issue.project, issue.number, issue.title)?;
         place = (issue.changed, issue.number);
     }

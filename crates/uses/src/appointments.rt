@@ -18,7 +18,6 @@ use iddqd_maps::map::Map;
 use iddqd_maps::ordered_walk::Range;
 use iddqd_maps::refusal::InsertRefusal;
 use std::alloc::{AllocError, Global};
-use std::ops::Bound;
 
 /// An appointment. No two are in one room at one time.
 #[derive(Clone, Copy, Debug)]
@@ -89,7 +88,7 @@ pub fn in_room_from(appointments: &Appointments, room: u32, start: u32) -> Range
     ensures { IteratesInOrder by_room (is_in_from room start) appointments.now.store result }
 {
     let (from, to) = (Part::Both(&room, &start), Part::First(&room));
-    appointments.range_by::<Here, _>(Bound::Included(from), Bound::Included(to))
+    appointments.range_by::<Here, _, _>(from..=to)
 }
 
 /// Removes the appointments in a room, and returns how many they were. It takes no memory.

@@ -31,7 +31,6 @@ use iddqd_maps::item_index::ItemIndex;
 use iddqd_maps::refusal::{InsertRefusal, OverwriteRefusal, ReplaceRefusal, Stopped};
 use iddqd_maps::{ValidateCompact, ValidateRefusal, ValidationError};
 use std::alloc::{AllocError, Global};
-use std::ops::Bound;
 
 type Board = IdOrdMap<Score>;
 
@@ -284,9 +283,7 @@ pub fn forget_low(board: &mut Board, hour: u32, least: u32) -> usize
     ensures count { result + live_count board.new.store ≡ live_count board.old.store }
     ensures memory { board.new.memory ≡ board.old.memory }
 {
-    board.retain_range(Bound::Unbounded, Bound::Included(&hour), |score| {
-        score.points >= least
-    })
+    board.retain_range(..=&hour, |score| score.points >= least)
 }
 
 /// Forgets the scores up to an hour that have fewer points than so many, and returns how many they were. What the
@@ -299,8 +296,7 @@ pub fn hand_on_low<F: FnMut(Score)>(board: &mut Board, hour: u32, least: u32, go
     ensures count { result + live_count board.new.store ≡ live_count board.old.store }
     ensures memory { board.new.memory ≡ board.old.memory }
 {
-    let last = Bound::Included(&hour);
-    board.retain_range_into(Bound::Unbounded, last, |score| score.points >= least, gone)
+    board.retain_range_into(..=&hour, |score| score.points >= least, gone)
 }
 
 /// Keeps the scores with at least so many points, passes the others to the closure, by hour (the clause `given` of the
@@ -333,11 +329,7 @@ pub fn void_from(board: &mut Board, hour: u32) -> usize
     ensures counted { CountsHits board.old.store (is_from hour) result }
     ensures memory { board.new.memory ≡ board.old.memory }
 {
-    board.modify_range(
-        Bound::Included(&hour),
-        Bound::Unbounded,
-        |score| score.points = 0,
-    )
+    board.modify_range(&hour.., |score| score.points = 0)
 }
 
 /// Gives the score of its hour the points of this one, or adds this one if there is none. It is refused only then.

@@ -16,7 +16,6 @@ use iddqd_maps::{
     InsertRefusal, ItemIndex, KeyOf, Map, NoConflict, Pair, PairConflict, Right,
 };
 use std::alloc::{AllocError, Global};
-use std::ops::Bound;
 
 /// An order. No two have the same number; many may have one customer, and many may be due on one day.
 #[derive(Clone, Copy, Debug)]
@@ -116,7 +115,7 @@ pub fn close_before(ledger: &mut Ledger, day: u32) -> usize
     ensures count { result + live_count ledger.new.store ≡ live_count ledger.old.store }
     ensures memory { ledger.new.memory ≡ ledger.old.memory }
 {
-    ledger.remove_range_by::<ByDay, _, _>(Bound::Unbounded, Bound::Excluded(&day), |_order| ())
+    ledger.remove_range_by::<ByDay, _, _, _>(..&day, |_order| ())
 }
 
 fn added(ledger: &mut Ledger, number: u64, customer: u32, day: u32) -> bool {

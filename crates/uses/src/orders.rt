@@ -38,7 +38,6 @@ use iddqd_maps::{
 };
 use std::alloc::{AllocError, Global};
 use std::default::MadeWith;
-use std::ops::Bound;
 
 /// Orders in the order of the days on which they are due.
 pub type Queue = Map<Order, ByOrderMulti<Day, u32>>;
@@ -66,14 +65,14 @@ pub fn orders_of_day(queue: &Queue, day: u32) -> Range<'_, Order>
 pub fn orders_from(queue: &Queue, day: u32) -> Range<'_, Order>
     ensures { IteratesInOrder by_day (is_due_from day) queue.now.store result }
 {
-    queue.range_by::<ByDay, _>(Bound::Included(&day), Bound::Unbounded)
+    queue.range_by::<ByDay, _, _>(&day..)
 }
 
 /// The orders from one day on that are due before another one with their indexes, by day and then by index.
 pub fn orders_between(queue: &Queue, from: u32, before: u32) -> Range<'_, Order>
     ensures { IteratesInOrder by_day (is_due_between from before) queue.now.store result }
 {
-    queue.range_in::<ByDay, &u32, _>(&from..&before)
+    queue.range_by::<ByDay, _, _>(&from..&before)
 }
 
 /// All orders with their indexes, by day and then by index.
@@ -131,8 +130,7 @@ pub fn indexes_by_day(queue: &Queue) -> btree_table::Iter<'_>
 pub fn indexes_before<'a>(queue: &'a Queue, day: &u32) -> btree_table::Range<'a>
     ensures { ListsInOrder by_day (is_due_before day.now) queue.now.store (indexes_ahead result) }
 {
-    let upper = Bound::Excluded(day);
-    queue.parts().range(Bound::Unbounded, upper)
+    queue.parts().range(..day)
 }
 
 /// Whether an order is due on a day, by one search.
@@ -174,9 +172,7 @@ pub fn drop_small_until(queue: &mut Queue, day: u32, least: u64) -> usize
     ensures count { result + live_count queue.new.store ≡ live_count queue.old.store }
     ensures memory { queue.new.memory ≡ queue.old.memory }
 {
-    queue.retain_range_by::<ByDay, _, _>(Bound::Unbounded, Bound::Included(&day), |order| {
-        order.amount >= least
-    })
+    queue.retain_range_by::<ByDay, _, _, _>(..=&day, |order| order.amount >= least)
 }
 
 /// Halves the amount of each order, and returns how many orders there are. It takes no memory.
@@ -194,9 +190,7 @@ pub fn halve_from(queue: &mut Queue, day: u32) -> usize
     ensures counted { CountsHits queue.old.store (is_due_from day) result }
     ensures memory { queue.new.memory ≡ queue.old.memory }
 {
-    queue.modify_range_by::<ByDay, _, _>(Bound::Included(&day), Bound::Unbounded, |order| {
-        order.amount /= 2
-    })
+    queue.modify_range_by::<ByDay, _, _, _>(&day.., |order| order.amount /= 2)
 }
 
 /// Halves the amounts of the orders of a day, and returns how many they are. It takes no memory.
@@ -236,12 +230,7 @@ pub fn hand_on_small_until<F: FnMut(Order)>(
     ensures count { result + live_count queue.new.store ≡ live_count queue.old.store }
     ensures memory { queue.new.memory ≡ queue.old.memory }
 {
-    queue.retain_range_into_by::<ByDay, _, _, _>(
-        Bound::Unbounded,
-        Bound::Included(&day),
-        |order| order.amount >= least,
-        gone,
-    )
+    queue.retain_range_into_by::<ByDay, _, _, _, _>(..=&day, |order| order.amount >= least, gone)
 }
 
 /// The items of any map in the order of a key, and beside them those with one key: both are in one order.

@@ -16,7 +16,6 @@ use iddqd_maps::id_ord_map::{IdOrdItem, IdOrdMap, Range};
 use iddqd_maps::refusal::StoppedOverwrite;
 use std::alloc::{AllocError, Global};
 use std::default::MadeWith;
-use std::ops::Bound;
 
 /// A score at an hour. No two are of the same hour.
 #[derive(Clone, Copy)]
@@ -38,7 +37,7 @@ impl IdOrdItem for Score {
 /// The sum of the points from one hour on, up to another one.
 pub fn points(scores: &IdOrdMap<Score>, from: u32, below: u32) -> u32 {
     let mut sum: u32 = 0;
-    for (_, score) in scores.range(Bound::Included(&from), Bound::Excluded(&below)) {
+    for (_, score) in scores.range(&from..&below) {
         sum = sum.saturating_add(score.points);
     }
     sum
@@ -48,7 +47,7 @@ pub fn points(scores: &IdOrdMap<Score>, from: u32, below: u32) -> u32 {
 pub fn between(scores: &IdOrdMap<Score>, from: u32, to: u32) -> Range<'_, Score>
     ensures { IsWalkWithin itself by_hour (is_between from to) scores.now.store result }
 {
-    scores.range_in::<&u32, _>(&from..=&to)
+    scores.range(&from..=&to)
 }
 
 /// Forgets the scores of the hours before one, and returns how many are left. It takes no memory.
@@ -57,7 +56,7 @@ pub fn forget_before(scores: &mut IdOrdMap<Score>, hour: u32) -> usize
     ensures count { result ≡ live_count scores.new.store }
     ensures memory { scores.new.memory ≡ scores.old.memory }
 {
-    scores.remove_range(Bound::Unbounded, Bound::Excluded(&hour), |_score| ());
+    scores.remove_range(..&hour, |_score| ());
     scores.len()
 }
 

@@ -132,14 +132,14 @@ fn range(
         Table::Unique(keyed) => {
             let range = keyed
                 .entries
-                .range_by::<BySecond, _>(bound(from), bound(to));
+                .range_by::<BySecond, _, _>((bound(from), bound(to)));
             *count = fill(range, direction, from, to, rows);
             OK
         }
         Table::Shared(keyed) => {
             let range = keyed
                 .entries
-                .range_by::<BySecond, _>(bound(from), bound(to));
+                .range_by::<BySecond, _, _>((bound(from), bound(to)));
             *count = fill(range, direction, from, to, rows);
             OK
         }

@@ -7,8 +7,9 @@ ghost use Rattle.std.specs.Prelude.{◌≡◌, ◌≤◌, ◌+◌, true, false, 
 ghost use Rattle.std.specs.Fn.{TakesAt, CalledAt};
 ghost use Rattle.iddqd.specs.{get, live_count, removed};
 ghost use Rattle.std.specs.Range.Bound.{bound_map};
+ghost use Rattle.iddqd_keys.specs.Bounds.{is_in_bounds};
 ghost use Rattle.iddqd_keys.specs.KeyWalk.{IsNextHit};
-ghost use Rattle.iddqd_keys.specs.OrderedQuery.{is_equal, is_up_to, is_within};
+ghost use Rattle.iddqd_keys.specs.OrderedQuery.{is_equal, is_up_to};
 ghost use Rattle.iddqd_keys.specs.Scan.{IsLive};
 ghost use Rattle.iddqd_map.specs.Bulk.{AsksAndGives, GivesIfRefused};
 ghost use Rattle.iddqd_map.specs.KeyIndex.{IsIndexed};
@@ -21,7 +22,7 @@ use super::steps::take_out_between;
 use crate::key_index::{KeyIndex, StepsAt};
 use iddqd::item_index::ItemIndex;
 use iddqd::item_set::ItemSet;
-use std::ops::Bound;
+use iddqd_keys::bounds::{Bounds, IntoBounds};
 
 impl<T, X: KeyIndex<T, S>, S> Map<T, X, S> {
     /// Keeps, of the items whose keys at the place are within the bounds, those at which the closure answers true, and
@@ -35,32 +36,27 @@ impl<T, X: KeyIndex<T, S>, S> Map<T, X, S> {
     /// each other table; takes no memory.
     ///
     /// Asks: the closure may be called on these items in turn, once each.
-    pub fn retain_range_by<P, Q, F: FnMut(&T) -> bool>(
-        &mut self,
-        lower: Bound<Q>,
-        upper: Bound<Q>,
-        mut f: F,
-    ) -> usize
+    pub fn retain_range_by<P, Q, R, F: FnMut(&T) -> bool>(&mut self, range: R, mut f: F) -> usize
     where
         T: Drop,
         X: StepsAt<P, Q, T, S>,
         Q: Copy,
-        requires { MayAskWithin X.order (is_within X.compare lower upper) (TakesAt F.FnMut)
+        R: IntoBounds<Q>,
+        requires { MayAskWithin X.order (is_in_bounds X.compare (R.bounds range)) (TakesAt F.FnMut)
             (CalledAt F.FnMut) f self.old.store }
-        ensures asked { (last : F) × RetainsWithin X.order (is_within X.compare lower upper)
+        ensures asked { (last : F) × RetainsWithin X.order (is_in_bounds X.compare (R.bounds range))
             (CalledAt F.FnMut) f self.old.store self.new.store last }
-        ensures others { KeepsMisses self.old.store (is_within X.compare lower upper)
-            self.new.store }
+        ensures others { KeepsMisses self.old.store (is_in_bounds X.compare (R.bounds range)) self.new.store }
         ensures memory { self.new.memory ≡ self.old.memory }
         ensures room { room self.old ≤ room self.new }
         ensures count { result + live_count self.new.store ≡ live_count self.old.store }
     {
+        let bounds = range.into_bounds();
         retain_counted::<P, Q, T, S, X, F, _>(
             &mut self.items,
             &mut self.indexes,
             &self.state,
-            lower,
-            upper,
+            &bounds,
             &mut f,
             &mut |item: T| drop(item),
         )
@@ -88,13 +84,11 @@ impl<T, X: KeyIndex<T, S>, S> Map<T, X, S> {
         ensures room { room self.old ≤ room self.new }
         ensures count { result + live_count self.new.store ≡ live_count self.old.store }
     {
-        let (from, to) = (Bound::Included(query), Bound::Included(query));
         retain_counted::<P, Q, T, S, X, F, _>(
             &mut self.items,
             &mut self.indexes,
             &self.state,
-            from,
-            to,
+            &Bounds::only(query),
             &mut f,
             &mut |item: T| drop(item),
         )
@@ -107,8 +101,7 @@ pub(super) fn retain_counted<P, Q, T, S, X, F: FnMut(&T) -> bool, G: FnMut(T)>(
     items: &mut ItemSet<T>,
     indexes: &mut X,
     state: &S,
-    lower: Bound<Q>,
-    upper: Bound<Q>,
+    bounds: &Bounds<Q>,
     keep: &mut F,
     gone: &mut G,
 ) -> usize
@@ -116,15 +109,16 @@ where
     X: StepsAt<P, Q, T, S>,
     Q: Copy,
     requires indexed { IsIndexed (X.indexes indexes.old) state.now items.old.store }
-    requires can_ask { let within = is_within X.compare lower upper in
+    requires can_ask { let within = is_in_bounds X.compare bounds.now in
         AsksWithin X.order within (TakesAt F.FnMut) (CalledAt F.FnMut) keep.old items.old.store }
-    requires can_give { let within = is_within X.compare lower upper in
+    requires can_give { let within = is_in_bounds X.compare bounds.now in
         AsksWithin X.order within (TakesItem G.FnMut) (GivesIfRefused G.FnMut) gone.old items.old.store }
     ensures indexed { IsIndexed (X.indexes indexes.new) state.now items.new.store }
-    ensures asked { let within = is_within X.compare lower upper in
+    ensures asked { let within = is_in_bounds X.compare bounds.now in
         RetainsWithin X.order within (AsksAndGives G.FnMut (CalledAt F.FnMut)) (keep.old, gone.old)
         items.old.store items.new.store (keep.new, gone.new) }
-    ensures others { KeepsMisses items.old.store (is_within X.compare lower upper) items.new.store }
+    ensures others { let within = is_in_bounds X.compare bounds.now in
+        KeepsMisses items.old.store within items.new.store }
     ensures count { result + live_count items.new.store ≡ live_count items.old.store }
     ensures limit { items.new.store.limit ≡ items.old.store.limit }
     ensures slots { items.new.capacity ≡ items.old.capacity }
@@ -132,7 +126,7 @@ where
     ensures cells { X.cells indexes.new ≡ X.cells indexes.old }
 {
     let before = items.len();
-    retain_within::<P, Q, T, S, X, F, G>(items, indexes, state, lower, upper, keep, gone);
+    retain_within::<P, Q, T, S, X, F, G>(items, indexes, state, bounds, keep, gone);
     before - items.len()
 }
 
@@ -142,8 +136,7 @@ fn retain_within<P, Q, T, S, X, F: FnMut(&T) -> bool, G: FnMut(T)>(
     items: &mut ItemSet<T>,
     indexes: &mut X,
     state: &S,
-    lower: Bound<Q>,
-    upper: Bound<Q>,
+    bounds: &Bounds<Q>,
     keep: &mut F,
     gone: &mut G,
 )
@@ -151,28 +144,29 @@ where
     X: StepsAt<P, Q, T, S>,
     Q: Copy,
     requires indexed { IsIndexed (X.indexes indexes.old) state.now items.old.store }
-    requires can_ask { let within = is_within X.compare lower upper in
+    requires can_ask { let within = is_in_bounds X.compare bounds.now in
         AsksWithin X.order within (TakesAt F.FnMut) (CalledAt F.FnMut) keep.old items.old.store }
-    requires can_give { let within = is_within X.compare lower upper in
+    requires can_give { let within = is_in_bounds X.compare bounds.now in
         AsksWithin X.order within (TakesItem G.FnMut) (GivesIfRefused G.FnMut) gone.old items.old.store }
     ensures indexed { IsIndexed (X.indexes indexes.new) state.now items.new.store }
-    ensures asked { let within = is_within X.compare lower upper in
+    ensures asked { let within = is_in_bounds X.compare bounds.now in
         RetainsWithin X.order within (AsksAndGives G.FnMut (CalledAt F.FnMut)) (keep.old, gone.old)
         items.old.store items.new.store (keep.new, gone.new) }
-    ensures others { KeepsMisses items.old.store (is_within X.compare lower upper) items.new.store }
+    ensures others { let within = is_in_bounds X.compare bounds.now in
+        KeepsMisses items.old.store within items.new.store }
     ensures fewer { live_count items.new.store ≤ live_count items.old.store }
     ensures limit { items.new.store.limit ≡ items.old.store.limit }
     ensures slots { items.new.capacity ≡ items.old.capacity }
     ensures capacity { X.capacity indexes.new ≡ X.capacity indexes.old }
     ensures cells { X.cells indexes.new ≡ X.cells indexes.old }
 {
-    let Some((first, mut spot)) = indexes.first_between(items, state, lower, upper) else {
+    let Some((first, mut spot)) = indexes.first_between(items, state, bounds) else {
         return;
     };
     let mut next = Some(first);
     while let Some(ix) = next {
         let (_, then) = retain_at::<P, Q, T, S, X, F, G>(
-            items, indexes, state, &mut spot, ix, upper, keep, gone,
+            items, indexes, state, &mut spot, ix, bounds, keep, gone,
         );
         next = then;
     }
@@ -187,7 +181,7 @@ fn retain_at<P, Q, T, S, X, F: FnMut(&T) -> bool, G: FnMut(T)>(
     state: &S,
     spot: &mut X::Spot,
     ix: ItemIndex,
-    upper: Bound<Q>,
+    bounds: &Bounds<Q>,
     keep: &mut F,
     gone: &mut G,
 ) -> (bool, Option<ItemIndex>)
@@ -200,7 +194,8 @@ where
     requires takes { (item : T) → get items.old.store ix ≡ Some item → TakesAt F.FnMut keep.old item }
     requires gives { (item : T) → get items.old.store ix ≡ Some item → TakesItem G.FnMut gone.old item }
     ensures asked { (item : T) → get items.old.store ix ≡ Some item → CalledAt F.FnMut keep.old item result.0 keep.new }
-    ensures next { IsNextHit itself X.order items.old.store (is_up_to (bound_map X.compare upper)) ix result.1 }
+    ensures next { IsNextHit itself X.order items.old.store (is_up_to (bound_map X.compare bounds.now.upper)) ix
+        result.1 }
     ensures stands { IfSome result.1 (X.stands indexes.new spot.new) }
     ensures indexed { IsIndexed (X.indexes indexes.new) state.now items.new.store }
     ensures kept { result.0 ≡ true → items.new ≡ items.old }
@@ -217,9 +212,12 @@ where
         None => unreachable!(),
     };
     if is_kept {
-        return (is_kept, indexes.next_between(items, state, spot, ix, upper));
+        return (
+            is_kept,
+            indexes.next_between(items, state, spot, ix, bounds),
+        );
     }
-    let (taken, next) = take_out_between::<P, Q, T, X, S>(items, indexes, state, spot, ix, upper);
+    let (taken, next) = take_out_between::<P, Q, T, X, S>(items, indexes, state, spot, ix, bounds);
     match taken {
         Some(item) => gone(item),
         None => unreachable!(),

@@ -2,7 +2,8 @@
 ghost use Rattle.std.specs.Prelude.{◌≡◌, ◌≤◌, ◌+◌};
 ghost use Rattle.std.specs.Fn.{TakesAt, CalledAt};
 ghost use Rattle.iddqd.specs.{live_count};
-ghost use Rattle.iddqd_keys.specs.OrderedQuery.{is_equal, is_within};
+ghost use Rattle.iddqd_keys.specs.Bounds.{is_in_bounds};
+ghost use Rattle.iddqd_keys.specs.OrderedQuery.{is_equal};
 ghost use Rattle.iddqd_map.specs.Map.{room};
 ghost use Rattle.iddqd_map.specs.Ranges.{GivesItem};
 ghost use Rattle.iddqd_map.specs.RangeRetain.{GivesRefusedWithin, KeepsMisses, MayAskWithin, MayGiveSomeWithin, RetainsWithin};
@@ -10,7 +11,7 @@ ghost use Rattle.iddqd_map.specs.RangeRetain.{GivesRefusedWithin, KeepsMisses, M
 use super::Map;
 use super::range_retain::retain_counted;
 use crate::key_index::{KeyIndex, StepsAt};
-use std::ops::Bound;
+use iddqd_keys::bounds::{Bounds, IntoBounds};
 
 impl<T, X: KeyIndex<T, S>, S> Map<T, X, S> {
     /// Keeps, of the items whose keys at the place are within the bounds, those at which the first closure answers
@@ -24,35 +25,35 @@ impl<T, X: KeyIndex<T, S>, S> Map<T, X, S> {
     ///
     /// Asks: the first closure may be called on these items in turn, once each, and the second with any of them in
     /// turn.
-    pub fn retain_range_into_by<P, Q, F: FnMut(&T) -> bool, G: FnMut(T)>(
+    pub fn retain_range_into_by<P, Q, R, F: FnMut(&T) -> bool, G: FnMut(T)>(
         &mut self,
-        lower: Bound<Q>,
-        upper: Bound<Q>,
+        range: R,
         mut keep: F,
         mut gone: G,
     ) -> usize
     where
         X: StepsAt<P, Q, T, S>,
         Q: Copy,
-        requires asked { MayAskWithin X.order (is_within X.compare lower upper) (TakesAt F.FnMut)
+        R: IntoBounds<Q>,
+        requires asked { MayAskWithin X.order (is_in_bounds X.compare (R.bounds range)) (TakesAt F.FnMut)
             (CalledAt F.FnMut) keep self.old.store }
-        requires given { MayGiveSomeWithin X.order (is_within X.compare lower upper) G.FnMut gone self.old.store }
-        ensures asked { (last : F) × RetainsWithin X.order (is_within X.compare lower upper)
+        requires given { MayGiveSomeWithin X.order (is_in_bounds X.compare (R.bounds range)) G.FnMut gone
+            self.old.store }
+        ensures asked { (last : F) × RetainsWithin X.order (is_in_bounds X.compare (R.bounds range))
             (CalledAt F.FnMut) keep self.old.store self.new.store last }
-        ensures given { GivesRefusedWithin X.order (is_within X.compare lower upper) (CalledAt F.FnMut)
-            (GivesItem G.FnMut) keep gone self.old.store self.new.store }
-        ensures others { KeepsMisses self.old.store (is_within X.compare lower upper)
-            self.new.store }
+        ensures given { GivesRefusedWithin X.order (is_in_bounds X.compare (R.bounds range))
+            (CalledAt F.FnMut) (GivesItem G.FnMut) keep gone self.old.store self.new.store }
+        ensures others { KeepsMisses self.old.store (is_in_bounds X.compare (R.bounds range)) self.new.store }
         ensures memory { self.new.memory ≡ self.old.memory }
         ensures room { room self.old ≤ room self.new }
         ensures count { result + live_count self.new.store ≡ live_count self.old.store }
     {
+        let bounds = range.into_bounds();
         retain_counted::<P, Q, T, S, X, F, G>(
             &mut self.items,
             &mut self.indexes,
             &self.state,
-            lower,
-            upper,
+            &bounds,
             &mut keep,
             &mut gone,
         )
@@ -88,7 +89,6 @@ impl<T, X: KeyIndex<T, S>, S> Map<T, X, S> {
         ensures room { room self.old ≤ room self.new }
         ensures count { result + live_count self.new.store ≡ live_count self.old.store }
     {
-        let (from, to) = (Bound::Included(query), Bound::Included(query));
-        self.retain_range_into_by::<P, Q, F, G>(from, to, keep, gone)
+        self.retain_range_into_by::<P, Q, Bounds<Q>, F, G>(Bounds::only(query), keep, gone)
     }
 }

@@ -4,7 +4,8 @@
 //! each other table once. No memory is taken.
 ghost use Rattle.std.specs.Prelude.{◌≡◌, ◌≤◌, ◌+◌, Bool};
 ghost use Rattle.iddqd.specs.{live_count};
-ghost use Rattle.iddqd_keys.specs.OrderedQuery.{is_equal, is_within};
+ghost use Rattle.iddqd_keys.specs.Bounds.{is_in_bounds};
+ghost use Rattle.iddqd_keys.specs.OrderedQuery.{is_equal};
 ghost use Rattle.iddqd_map.specs.KeyIndex.{IsIndexed};
 ghost use Rattle.iddqd_map.specs.Map.{capacity, room};
 ghost use Rattle.iddqd_map.specs.Ranges.{LeavesOthers, TakesItem, GivesItem, RemovesAlong};
@@ -14,7 +15,7 @@ use super::Map;
 use super::steps::take_out_between;
 use crate::key_index::{KeyIndex, StepsAt};
 use iddqd::item_set::ItemSet;
-use std::ops::Bound;
+use iddqd_keys::bounds::{Bounds, IntoBounds};
 
 impl<T, X: KeyIndex<T, S>, S> Map<T, X, S> {
     /// Removes the items whose keys at the place are within the bounds, and returns how many there were.
@@ -26,32 +27,27 @@ impl<T, X: KeyIndex<T, S>, S> Map<T, X, S> {
     /// no memory.
     ///
     /// Asks: the closure may be called with each of these items in turn.
-    pub fn remove_range_by<P, Q, F: FnMut(T)>(
-        &mut self,
-        lower: Bound<Q>,
-        upper: Bound<Q>,
-        mut f: F,
-    ) -> usize
+    pub fn remove_range_by<P, Q, R, F: FnMut(T)>(&mut self, range: R, mut f: F) -> usize
     where
         X: StepsAt<P, Q, T, S>,
         Q: Copy,
-        requires { MayGiveWithin X.order (is_within X.compare lower upper) F.FnMut f self.old.store }
-        ensures left { LeavesOthers self.old.store (is_within X.compare lower upper)
-            self.new.store }
-        ensures handed { (last : F) × RemovesAlong X.order (is_within X.compare lower upper)
+        R: IntoBounds<Q>,
+        requires { MayGiveWithin X.order (is_in_bounds X.compare (R.bounds range)) F.FnMut f self.old.store }
+        ensures left { LeavesOthers self.old.store (is_in_bounds X.compare (R.bounds range)) self.new.store }
+        ensures handed { (last : F) × RemovesAlong X.order (is_in_bounds X.compare (R.bounds range))
             (GivesItem F.FnMut) f self.old.store self.new.store last }
         ensures memory { self.new.memory ≡ self.old.memory }
         ensures room { room self.old ≤ room self.new }
         ensures count { result + live_count self.new.store ≡ live_count self.old.store }
         ensures freed { live_count self.old.store ≤ capacity self.old → room self.new ≡ room self.old + result }
     {
+        let bounds = range.into_bounds();
         let before = self.items.len();
         remove_within::<P, Q, T, S, X, F>(
             &mut self.items,
             &mut self.indexes,
             &self.state,
-            lower,
-            upper,
+            &bounds,
             &mut f,
         );
         before - self.items.len()
@@ -77,8 +73,7 @@ impl<T, X: KeyIndex<T, S>, S> Map<T, X, S> {
         ensures count { result + live_count self.new.store ≡ live_count self.old.store }
         ensures freed { live_count self.old.store ≤ capacity self.old → room self.new ≡ room self.old + result }
     {
-        let (from, to) = (Bound::Included(query), Bound::Included(query));
-        self.remove_range_by::<P, Q, F>(from, to, f)
+        self.remove_range_by::<P, Q, Bounds<Q>, F>(Bounds::only(query), f)
     }
 }
 
@@ -88,21 +83,20 @@ fn remove_within<P, Q, T, S, X, F: FnMut(T)>(
     items: &mut ItemSet<T>,
     indexes: &mut X,
     state: &S,
-    lower: Bound<Q>,
-    upper: Bound<Q>,
+    bounds: &Bounds<Q>,
     f: &mut F,
 )
 where
     X: StepsAt<P, Q, T, S>,
     Q: Copy,
     requires indexed { IsIndexed (X.indexes indexes.old) state.now items.old.store }
-    requires can_give { let within = is_within X.compare lower upper in
+    requires can_give { let within = is_in_bounds X.compare bounds.now in
         AsksWithin X.order within (TakesItem F.FnMut) (λ p x (b : Bool) q. GivesItem F.FnMut p x q) f.old
         items.old.store }
     ensures indexed { IsIndexed (X.indexes indexes.new) state.now items.new.store }
-    ensures left { let within = is_within X.compare lower upper in
+    ensures left { let within = is_in_bounds X.compare bounds.now in
         LeavesOthers items.old.store within items.new.store }
-    ensures handed { let within = is_within X.compare lower upper in
+    ensures handed { let within = is_in_bounds X.compare bounds.now in
         RemovesAlong X.order within (GivesItem F.FnMut) f.old items.old.store items.new.store f.new }
     ensures fewer { live_count items.new.store ≤ live_count items.old.store }
     ensures limit { items.new.store.limit ≡ items.old.store.limit }
@@ -110,13 +104,13 @@ where
     ensures capacity { X.capacity indexes.new ≡ X.capacity indexes.old }
     ensures cells { X.cells indexes.new ≡ X.cells indexes.old }
 {
-    let Some((first, mut spot)) = indexes.first_between(items, state, lower, upper) else {
+    let Some((first, mut spot)) = indexes.first_between(items, state, bounds) else {
         return;
     };
     let mut next = Some(first);
     while let Some(ix) = next {
         let (taken, then) = take_out_between::<P, Q, T, X, S>(
-            items, indexes, state, &mut spot, ix, upper,
+            items, indexes, state, &mut spot, ix, bounds,
         );
         match taken {
             Some(item) => f(item),

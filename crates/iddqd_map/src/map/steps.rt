@@ -13,8 +13,8 @@ use crate::grouped_at::StepsInGroup;
 use crate::key_index::{Changes, StepsAt};
 use iddqd::item_index::ItemIndex;
 use iddqd::item_set::ItemSet;
+use iddqd_keys::bounds::Bounds;
 use std::mem;
-use std::ops::Bound;
 
 /// Removes the item at a live index from the store, and its index from the key index. It takes no memory.
 pub(super) fn take_out<T, X: Changes<T, S>, S>(
@@ -41,27 +41,28 @@ pub(super) fn take_out<T, X: Changes<T, S>, S>(
 }
 
 /// Removes the item at a live index as `take_out` does, and moves its spot to the next index behind it whose item's key
-/// is within the bound. Returns the item and that index.
+/// is within the upper bound. Returns the item and that index.
 pub(super) fn take_out_between<P, Q, T, X: StepsAt<P, Q, T, S>, S>(
     items: &mut ItemSet<T>,
     indexes: &mut X,
     state: &S,
     spot: &mut X::Spot,
     ix: ItemIndex,
-    upper: Bound<Q>,
+    bounds: &Bounds<Q>,
 ) -> (Option<T>, Option<ItemIndex>)
     requires live { IsLive items.old.store ix }
     requires map { IsIndexed (X.indexes indexes.old) state.now items.old.store }
     requires stands { X.stands indexes.old spot.old ix }
     ensures value { result.0 ≡ get items.old.store ix }
-    ensures next { IsNextHit itself X.order items.old.store (is_up_to (bound_map X.compare upper)) ix result.1 }
+    ensures next { IsNextHit itself X.order items.old.store (is_up_to (bound_map X.compare bounds.now.upper)) ix
+        result.1 }
     ensures stands { IfSome result.1 (X.stands indexes.new spot.new) }
     ensures map { IsIndexed (X.indexes indexes.new) state.now items.new.store }
     ensures removed { items.new ≡ record items.old { store = removed items.old.store ix } }
     ensures capacity { X.capacity indexes.new ≡ X.capacity indexes.old }
     ensures cells { X.cells indexes.new ≡ X.cells indexes.old }
 {
-    let next = indexes.take_between(items, state, spot, ix, upper);
+    let next = indexes.take_between(items, state, spot, ix, bounds);
     (items.remove(ix), next)
 }
 

@@ -2,7 +2,7 @@
 ghost use Rattle.std.specs.Prelude.{◌≡◌, ◌≤◌, ◌+◌};
 ghost use Rattle.std.specs.Fn.{TakesAt, CalledAt};
 ghost use Rattle.iddqd.specs.{live_count};
-ghost use Rattle.iddqd_keys.specs.OrderedQuery.{is_within};
+ghost use Rattle.iddqd_keys.specs.Bounds.{is_in_bounds};
 ghost use Rattle.iddqd_ord_map.specs.ItemOrder.{GivesRefusedBetween, RemovesBetween, RetainsBetween};
 ghost use Rattle.std.specs.Ordering.{on};
 ghost use Rattle.iddqd_map.specs.Groups.{CountsHits};
@@ -12,10 +12,10 @@ ghost use Rattle.iddqd_map.specs.RangeRetain.{KeepsMisses, MayAskWithin, MayGive
 ghost use Rattle.iddqd_map.specs.Ranges.{GivesItem, LeavesOthers};
 
 use super::OrdMapBy;
+use iddqd_keys::bounds::IntoBounds;
 use iddqd_keys::item_order_query::ItemRangeQuery;
 use iddqd_keys::order_key::OrdKey;
 use iddqd_map::key_index::Here;
-use std::ops::Bound;
 
 impl<T: Drop, E: OrdKey<T>> OrdMapBy<T, E> {
     /// Removes the items whose keys are within the bounds, and returns how many there were.
@@ -26,23 +26,23 @@ impl<T: Drop, E: OrdKey<T>> OrdMapBy<T, E> {
     /// Cost: one search, and for each item a comparison with the upper bound; takes no memory.
     ///
     /// Asks: the closure may be called with each of these items in turn.
-    pub fn remove_range<Q: ItemRangeQuery<T, E>, F: FnMut(T)>(
+    pub fn remove_range<Q: ItemRangeQuery<T, E>, R: IntoBounds<Q>, F: FnMut(T)>(
         &mut self,
-        lower: Bound<Q>,
-        upper: Bound<Q>,
+        range: R,
         f: F,
     ) -> usize
-        requires { MayGiveWithin (on E.key_of E.cmp) (is_within Q.compare_item lower upper) F.FnMut f self.old.store }
-        ensures left { LeavesOthers self.old.store (is_within Q.compare_item lower upper)
+        requires { MayGiveWithin (on E.key_of E.cmp) (is_in_bounds Q.compare_item (R.bounds range)) F.FnMut f
+            self.old.store }
+        ensures left { LeavesOthers self.old.store (is_in_bounds Q.compare_item (R.bounds range))
             self.new.store }
-        ensures handed { RemovesBetween (on E.key_of E.cmp) Q.compare_item lower upper (GivesItem F.FnMut) f
+        ensures handed { RemovesBetween (on E.key_of E.cmp) Q.compare_item (R.bounds range) (GivesItem F.FnMut) f
             self.old.store self.new.store }
         ensures memory { self.new.memory ≡ self.old.memory }
         ensures room { room self.old ≤ room self.new }
         ensures count { result + live_count self.new.store ≡ live_count self.old.store }
         ensures freed { live_count self.old.store ≤ capacity self.old → room self.new ≡ room self.old + result }
     {
-        self.map.remove_range_by::<Here, Q, F>(lower, upper, f)
+        self.map.remove_range_by::<Here, Q, R, F>(range, f)
     }
 
     /// Keeps, of the items whose keys are within the bounds, those at which the closure answers true, and returns how
@@ -54,23 +54,22 @@ impl<T: Drop, E: OrdKey<T>> OrdMapBy<T, E> {
     /// Cost: one search, and for each item a comparison with the upper bound; takes no memory.
     ///
     /// Asks: the closure may be called on these items in turn, once each.
-    pub fn retain_range<Q: ItemRangeQuery<T, E>, F: FnMut(&T) -> bool>(
+    pub fn retain_range<Q: ItemRangeQuery<T, E>, R: IntoBounds<Q>, F: FnMut(&T) -> bool>(
         &mut self,
-        lower: Bound<Q>,
-        upper: Bound<Q>,
+        range: R,
         f: F,
     ) -> usize
-        requires { MayAskWithin (on E.key_of E.cmp) (is_within Q.compare_item lower upper)
+        requires { MayAskWithin (on E.key_of E.cmp) (is_in_bounds Q.compare_item (R.bounds range))
             (TakesAt F.FnMut) (CalledAt F.FnMut) f self.old.store }
-        ensures asked { RetainsBetween (on E.key_of E.cmp) Q.compare_item lower upper (CalledAt F.FnMut) f
+        ensures asked { RetainsBetween (on E.key_of E.cmp) Q.compare_item (R.bounds range) (CalledAt F.FnMut) f
             self.old.store self.new.store }
-        ensures others { KeepsMisses self.old.store (is_within Q.compare_item lower upper)
+        ensures others { KeepsMisses self.old.store (is_in_bounds Q.compare_item (R.bounds range))
             self.new.store }
         ensures memory { self.new.memory ≡ self.old.memory }
         ensures room { room self.old ≤ room self.new }
         ensures count { result + live_count self.new.store ≡ live_count self.old.store }
     {
-        self.map.retain_range_by::<Here, Q, F>(lower, upper, f)
+        self.map.retain_range_by::<Here, Q, R, F>(range, f)
     }
 
     /// Keeps, of the items whose keys are within the bounds, those at which the first closure answers true, passes the
@@ -83,33 +82,32 @@ impl<T: Drop, E: OrdKey<T>> OrdMapBy<T, E> {
     ///
     /// Asks: the first closure may be called on these items in turn, once each, and the second with any of them in
     /// turn.
-    pub fn retain_range_into<Q: ItemRangeQuery<T, E>, F: FnMut(&T) -> bool, G: FnMut(T)>(
-        &mut self,
-        lower: Bound<Q>,
-        upper: Bound<Q>,
-        keep: F,
-        gone: G,
-    ) -> usize
-        requires asked { MayAskWithin (on E.key_of E.cmp) (is_within Q.compare_item lower upper)
+    pub fn retain_range_into<
+        Q: ItemRangeQuery<T, E>,
+        R: IntoBounds<Q>,
+        F: FnMut(&T) -> bool,
+        G: FnMut(T),
+    >(&mut self, range: R, keep: F, gone: G) -> usize
+        requires asked { MayAskWithin (on E.key_of E.cmp) (is_in_bounds Q.compare_item (R.bounds range))
             (TakesAt F.FnMut) (CalledAt F.FnMut) keep self.old.store }
-        requires given { MayGiveSomeWithin (on E.key_of E.cmp) (is_within Q.compare_item lower upper) G.FnMut gone
-            self.old.store }
-        ensures asked { RetainsBetween (on E.key_of E.cmp) Q.compare_item lower upper (CalledAt F.FnMut) keep
+        requires given { MayGiveSomeWithin (on E.key_of E.cmp) (is_in_bounds Q.compare_item (R.bounds range))
+            G.FnMut gone self.old.store }
+        ensures asked { RetainsBetween (on E.key_of E.cmp) Q.compare_item (R.bounds range) (CalledAt F.FnMut) keep
             self.old.store self.new.store }
-        ensures given { GivesRefusedBetween (on E.key_of E.cmp) Q.compare_item lower upper (CalledAt F.FnMut)
+        ensures given { GivesRefusedBetween (on E.key_of E.cmp) Q.compare_item (R.bounds range) (CalledAt F.FnMut)
             G.FnMut keep gone self.old.store self.new.store }
-        ensures others { KeepsMisses self.old.store (is_within Q.compare_item lower upper)
+        ensures others { KeepsMisses self.old.store (is_in_bounds Q.compare_item (R.bounds range))
             self.new.store }
         ensures memory { self.new.memory ≡ self.old.memory }
         ensures room { room self.old ≤ room self.new }
         ensures count { result + live_count self.new.store ≡ live_count self.old.store }
     {
         self.map
-            .retain_range_into_by::<Here, Q, F, G>(lower, upper, keep, gone)
+            .retain_range_into_by::<Here, Q, R, F, G>(range, keep, gone)
     }
 
     /// Calls the closure with a `&mut` to each item whose key is within the bounds, by key, and returns how many there
-    /// are. With two open bounds these are all items.
+    /// are. With `..` these are all items.
     ///
     /// The caller proves that the closure leaves each of them its key, as for `modify`. All other items stay. It takes
     /// no memory. It costs one search, and for each item a comparison with the upper bound.
@@ -117,25 +115,24 @@ impl<T: Drop, E: OrdKey<T>> OrdMapBy<T, E> {
     /// Cost: one search, and for each item a comparison with the upper bound; takes no memory.
     ///
     /// Asks: the closure may be called on each of these items in turn, and leaves each its keys.
-    pub fn modify_range<Q: ItemRangeQuery<T, E>, F: FnMut(&mut T)>(
+    pub fn modify_range<Q: ItemRangeQuery<T, E>, R: IntoBounds<Q>, F: FnMut(&mut T)>(
         &mut self,
-        lower: Bound<Q>,
-        upper: Bound<Q>,
+        range: R,
         f: F,
     ) -> usize
-        requires callable { MayAskWithin (on E.key_of E.cmp) (is_within Q.compare_item lower upper)
+        requires callable { MayAskWithin (on E.key_of E.cmp) (is_in_bounds Q.compare_item (R.bounds range))
             (TakesMut F.FnMut) (MayLeave F.FnMut) f self.old.store }
         requires keeps { KeepsKeys F.FnMut E.key_of
-            (IsStoredHit self.old.store (is_within Q.compare_item lower upper)) }
+            (IsStoredHit self.old.store (is_in_bounds Q.compare_item (R.bounds range))) }
         ensures modified { (last : F) × ModifiesWithin F.FnMut (on E.key_of E.cmp)
-            (is_within Q.compare_item lower upper) f self.old.store self.new.store last result }
-        ensures counted { CountsHits self.old.store (is_within Q.compare_item lower upper) result }
-        ensures others { KeepsMisses self.old.store (is_within Q.compare_item lower upper)
+            (is_in_bounds Q.compare_item (R.bounds range)) f self.old.store self.new.store last result }
+        ensures counted { CountsHits self.old.store (is_in_bounds Q.compare_item (R.bounds range)) result }
+        ensures others { KeepsMisses self.old.store (is_in_bounds Q.compare_item (R.bounds range))
             self.new.store }
         ensures memory { self.new.memory ≡ self.old.memory }
         ensures room { room self.new ≡ room self.old }
         ensures count { live_count self.new.store ≡ live_count self.old.store }
     {
-        self.map.modify_range_by::<Here, Q, F>(lower, upper, f)
+        self.map.modify_range_by::<Here, Q, R, F>(range, f)
     }
 }

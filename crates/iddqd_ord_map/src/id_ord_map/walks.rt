@@ -2,21 +2,20 @@
 ghost use Rattle.std.specs.Prelude.{◌≡◌, ◌≤◌, ◌+◌, length, option_copied, OnSome, IfNone};
 ghost use Rattle.std.specs.declared.cmp.Ordering.TheVariants.{Less, Greater};
 ghost use Rattle.iddqd.specs.{live_count};
-ghost use Rattle.iddqd_keys.specs.OrderedQuery.{is_within};
+ghost use Rattle.iddqd_keys.specs.Bounds.{is_in_bounds};
 ghost use Rattle.std.specs.Ordering.{on};
 ghost use Rattle.iddqd_map.specs.Map.{capacity, room};
 ghost use Rattle.iddqd_map.specs.Ranges.{itself};
 ghost use Rattle.iddqd_ord_map.specs.ByOrder.{FindsGreatest, FindsLeast};
-ghost use Rattle.iddqd_ord_map.specs.KeyOrder.{AreInKeyOrder, FindsEnd, IsKeyWalk, IsWalkBetween, IsWalkWithin, PopsEnd};
+ghost use Rattle.iddqd_ord_map.specs.KeyOrder.{AreInKeyOrder, FindsEnd, IsKeyWalk, IsWalkWithin, PopsEnd};
 
 use super::{IdOrdItem, IdOrdMap, IntoValues, Iter, OrdMapBy, Range, Values};
-use crate::in_order::by_value;
 use crate::ordered_query::range_by;
 use iddqd::item_index::ItemIndex;
+use iddqd_keys::bounds::IntoBounds;
 use iddqd_keys::item_order_query::ItemRangeQuery;
 use iddqd_keys::order_key::OrdKey;
 use std::fmt;
-use std::ops::{Bound, RangeBounds};
 
 impl<T: Drop, E: OrdKey<T>> OrdMapBy<T, E> {
     /// The live indexes with their items, in the order of the keys, from both ends.
@@ -57,30 +56,21 @@ impl<T: Drop, E: OrdKey<T>> OrdMapBy<T, E> {
         }
     }
 
-    /// The live indexes with their items whose keys are between two bounds, in the order of the keys, from both ends:
-    /// none if the lower bound is above the upper one.
+    /// The live indexes with their items whose keys are within the range, in the order of the keys, from both ends:
+    /// none if its lower bound is above its upper one.
     ///
     /// It is one search of the table for each bound that there is, as `find`.
     ///
     /// Cost: one search for each bound that there is, then a step for each item; takes no memory.
-    pub fn range<Q: ItemRangeQuery<T, E>>(&self, lower: Bound<Q>, upper: Bound<Q>) -> Range<'_, T>
-        ensures { let within = is_within Q.compare_item lower upper in
+    pub fn range<Q: ItemRangeQuery<T, E>, R: IntoBounds<Q>>(&self, range: R) -> Range<'_, T>
+        ensures { let within = is_in_bounds Q.compare_item (R.bounds range) in
             IsWalkWithin itself (on E.key_of E.cmp) within self.now.store result }
     {
         let (items, table) = self.parts();
-        Range::new(range_by::<T, E, Q>(table, items, lower, upper), items)
-    }
-
-    /// `range`, with both bounds as one range of queries: `map.range_in::<&u32, _>(&from..=&to)`.
-    ///
-    /// Of a `RangeInclusive` that was iterated to its end nothing is said.
-    ///
-    /// Cost: one search for each bound that there is, then a step for each item; takes no memory.
-    pub fn range_in<Q: ItemRangeQuery<T, E>, R: RangeBounds<Q>>(&self, bounds: R) -> Range<'_, T>
-        ensures { R.has_bounds bounds → IsWalkBetween (on E.key_of E.cmp)
-            Q.compare_item (R.start_bound bounds) (R.end_bound bounds) self.now.store result }
-    {
-        self.range(by_value(bounds.start_bound()), by_value(bounds.end_bound()))
+        Range::new(
+            range_by::<T, E, Q>(table, items, &range.into_bounds()),
+            items,
+        )
     }
 
     /// The item with the least key.

@@ -24,13 +24,13 @@ returns g c =
     let cmp = g.Q.ItemRangeQuery.compare_item in
     let s = c.args.items.now.store in
     let order = order_of c.args.table.now in
-    WalksWithin-walked itself compare cmp s order c.args.lower c.args.upper c.requires _ c.new-asking.result c.range_reading.new.asking
+    WalksWithin-walked itself compare cmp s order c.args.bounds.now.lower c.args.bounds.now.upper c.requires _ c.new-asking.result c.range_reading.new.asking
     (on_total g.E.OrdKey.key_of g.met.E.OrdKey.total) g.met.Q.ItemRangeQuery.fits
     (λ q. Steady-by _ _ (λ f. f ≡ closure_of c.new-asking.result) (λ f f' ix r i h e. search rules) _ _
     (λ f f' ix r i h e.
     let read : IsKeyAt itself s ix r.now = search (rules, i, e) in
     ap (cmp q) read.2 ∙ sym (answer_at itself compare s order (cmp q) ix read.0 read.1))
     _ refl)
-    _ _ (reads_borrowed (λ r. r.query) cmp c.as_ref.result c.by_item-from.result c.args.lower c.as_ref.ensures c.by_item-from.ensures)
-    (reads_borrowed (λ r. r.query) cmp c.as_ref-2.result c.by_item-to.result c.args.upper c.as_ref-2.ensures c.by_item-to.ensures)
+    _ _ (reads_borrowed (λ r. r.query) cmp c.as_ref.result c.by_item-from.result c.args.bounds.now.lower c.as_ref.ensures c.by_item-from.ensures)
+    (reads_borrowed (λ r. r.query) cmp c.as_ref-2.result c.by_item-to.result c.args.bounds.now.upper c.as_ref-2.ensures c.by_item-to.ensures)
     c.range_reading.result c.range_reading.ensures

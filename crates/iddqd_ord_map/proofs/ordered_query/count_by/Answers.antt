@@ -20,7 +20,8 @@ returns g c =
     items_from_drains xs (drains.1.0, drains.1.1, λ _. (drains.0, drains.1.2)) (YieldsList-from_first (λ x. x) indexes_ahead group refl) in
     let sorted = subst (λ within. SortsWithin itself (on g.E.OrdKey.key_of g.E.OrdKey.cmp) within s group)
     (between_equal (g.Q.ItemRangeQuery.compare_item c.args.query))
-    (c.range.ensures.in_place (IsInPlace-items g.E.OrdKey.key_of g.E.OrdKey.cmp s (order_of c.args.table.now) c.requires.placed)) in (
+    (rw c.only.ensures at
+    (c.range.ensures.in_place (IsInPlace-items g.E.OrdKey.key_of g.E.OrdKey.cmp s (order_of c.args.table.now) c.requires.placed))) in (
       group,
       record { each = sorted.each; once = c.range.ensures.once },
       counted ∙ sym (length-map xs (λ x. x)) ∙ ap length all,

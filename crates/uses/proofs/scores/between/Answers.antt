@@ -1,4 +1,4 @@
 use Rattle.uses.proofs.scores.between.Goals as goal
 
 pub returns : goal.returns
-returns c = rw (c.new.ensures.start, c.new.ensures.end) at (c.range_in.ensures c.new.ensures.exhausted)
+returns c = rw (c.new.ensures.start, c.new.ensures.end) at c.range.ensures

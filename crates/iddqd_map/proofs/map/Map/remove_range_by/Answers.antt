@@ -1,6 +1,5 @@
 use Rattle.std.proofs.Common.{Bool, arith}
-use Rattle.std.specs.Range.Bound.{bound_map}
-use Rattle.iddqd_keys.specs.OrderedQuery.{is_between}
+use Rattle.iddqd_keys.specs.Bounds.{is_in_bounds}
 use Rattle.iddqd_map.specs.Ranges.{TakesItem, GivesItem}
 use Rattle.iddqd_map.proofs.RangeRetainLemmas.{MayAskWithin-asks}
 use Rattle.iddqd_map.proofs.RetainLemmas.{same_memory}
@@ -8,9 +7,8 @@ use Rattle.iddqd_map.proofs.map.Map.remove_range_by.Goals as goal
 
 pub remove_within-requires-clause-can_give : goal.remove_within-requires-clause-can_give
 remove_within-requires-clause-can_give g c =
-    let within = is_between (bound_map g.X.OrderedAt.compare c.args.lower)
-    (bound_map g.X.OrderedAt.compare c.args.upper) in
-    rw (← c.self.view_is) at
+    let within = is_in_bounds g.X.OrderedAt.compare (g.R.IntoBounds.bounds c.args.range) in
+    rw (← c.self.view_is, ← c.into_bounds-bounds.ensures) at
     (MayAskWithin-asks g.X.OrderedAt.order within (TakesItem g.F.FnMut) (λ p x (b : Bool) q. GivesItem g.F.FnMut p x q)
     c.args.f c.args.self.now.store c.requires)
 

@@ -11,7 +11,8 @@ retain_counted-requires-clause-can_ask g c =
     let comparing = g.X.OrderedAt.compare c.args.query in
     let s = c.args.self.now.store in
     let asks = MayAskWithin-asks g.X.OrderedAt.order (is_equal comparing) (TakesAt g.F.FnMut) (CalledAt g.F.FnMut) c.args.f s c.requires in
-    rw (← c.self.view_is) at (AsksWithin-group comparing s s g.X.OrderedAt.order (TakesAt g.F.FnMut) (CalledAt g.F.FnMut) c.args.f asks)
+    let within = AsksWithin-group comparing s s g.X.OrderedAt.order (TakesAt g.F.FnMut) (CalledAt g.F.FnMut) c.args.f asks in
+    rw c.only.ensures (rw (← c.self.view_is) at within)
 
 pub retain_counted-requires-clause-can_give : goal.retain_counted-requires-clause-can_give
 retain_counted-requires-clause-can_give g c =
@@ -24,13 +25,13 @@ returns-clause-asked g c =
     let last = c.retain_counted.new.keep in
     let asked = RetainsWithin-asked (CalledAt g.F.FnMut) _ g.X.OrderedAt.order _ c.args.f _ s now _ c.retain_counted.ensures.asked in
     rw (← c.self.view_is)
-    (last, RetainsWithin-group (g.X.OrderedAt.compare c.args.query) s now g.X.OrderedAt.order (CalledAt g.F.FnMut) c.args.f last asked)
+    (last, RetainsWithin-group (g.X.OrderedAt.compare c.args.query) s now g.X.OrderedAt.order (CalledAt g.F.FnMut) c.args.f last (rw c.only.ensures at asked))
 
 pub returns-clause-others : goal.returns-clause-others
 returns-clause-others g c =
     let s = c.self.inside.items.store in
     rw (← c.self.view_is)
-    (KeepsMisses-group (g.X.OrderedAt.compare c.args.query) s c.retain_counted.new.items.store c.retain_counted.ensures.others)
+    (KeepsMisses-group (g.X.OrderedAt.compare c.args.query) s c.retain_counted.new.items.store (rw c.only.ensures at c.retain_counted.ensures.others))
 
 pub returns-clause-memory : goal.returns-clause-memory
 returns-clause-memory g c =

@@ -1,7 +1,6 @@
 use Rattle.std.proofs.Common.{rules, arith}
 use Rattle.std.specs.Fn.{TakesAt, CalledAt}
-use Rattle.std.specs.Range.Bound.{bound_map}
-use Rattle.iddqd_keys.specs.OrderedQuery.{is_between}
+use Rattle.iddqd_keys.specs.Bounds.{is_in_bounds}
 use Rattle.iddqd_map.proofs.RangeIntoLemmas.{RetainsWithin-asked}
 use Rattle.iddqd_map.proofs.RangeRetainLemmas.{AsksWithin-by, MayAskWithin-asks}
 use Rattle.iddqd_map.proofs.RetainLemmas.{same_memory}
@@ -9,8 +8,8 @@ use Rattle.iddqd_map.proofs.map.Map.retain_range_by.Goals as goal
 
 pub retain_counted-requires-clause-can_ask : goal.retain_counted-requires-clause-can_ask
 retain_counted-requires-clause-can_ask g c =
-    let within = is_between (bound_map g.X.OrderedAt.compare c.args.lower) (bound_map g.X.OrderedAt.compare c.args.upper) in
-    rw (← c.self.view_is) at (MayAskWithin-asks g.X.OrderedAt.order within (TakesAt g.F.FnMut) (CalledAt g.F.FnMut) c.args.f c.args.self.now.store c.requires)
+    let within = is_in_bounds g.X.OrderedAt.compare (g.R.IntoBounds.bounds c.args.range) in
+    rw (← c.self.view_is, ← c.into_bounds-bounds.ensures) at (MayAskWithin-asks g.X.OrderedAt.order within (TakesAt g.F.FnMut) (CalledAt g.F.FnMut) c.args.f c.args.self.now.store c.requires)
 
 pub retain_counted-requires-clause-can_give : goal.retain_counted-requires-clause-can_give
 retain_counted-requires-clause-can_give g c =
@@ -21,7 +20,7 @@ returns-clause-asked g c =
     let s = c.self.inside.items.store in
     let now = c.retain_counted.new.items.store in
     let last = c.retain_counted.new.keep in
-    rw (← c.self.view_is)
+    rw (← c.self.view_is, ← c.into_bounds-bounds.ensures)
     (last, RetainsWithin-asked (CalledAt g.F.FnMut) _ g.X.OrderedAt.order _ c.args.f _ s now _ c.retain_counted.ensures.asked)
 
 pub returns-clause-memory : goal.returns-clause-memory
@@ -38,4 +37,4 @@ pub returns-clause-count : goal.returns-clause-count
 returns-clause-count g c = rw (← c.self.view_is) c.retain_counted.ensures.count
 
 pub returns-clause-others : goal.returns-clause-others
-returns-clause-others g c = rw (← c.self.view_is) c.retain_counted.ensures.others
+returns-clause-others g c = rw (← c.self.view_is, ← c.into_bounds-bounds.ensures) c.retain_counted.ensures.others

@@ -1,7 +1,6 @@
 use Rattle.std.proofs.Common.{arith}
 use Rattle.std.specs.Fn.{TakesAt, CalledAt}
-use Rattle.std.specs.Range.Bound.{bound_map}
-use Rattle.iddqd_keys.specs.OrderedQuery.{is_between}
+use Rattle.iddqd_keys.specs.Bounds.{is_in_bounds}
 use Rattle.iddqd_map.specs.Bulk.{GivesIfRefused}
 use Rattle.iddqd_map.specs.Ranges.{TakesItem}
 use Rattle.iddqd_map.proofs.RangeIntoLemmas.{RetainsWithin-asked, GivesRefusedWithin-both}
@@ -11,30 +10,30 @@ use Rattle.iddqd_map.proofs.map.Map.retain_range_into_by.Goals as goal
 
 pub retain_counted-requires-clause-can_ask : goal.retain_counted-requires-clause-can_ask
 retain_counted-requires-clause-can_ask g c =
-    let within = is_between (bound_map g.X.OrderedAt.compare c.args.lower) (bound_map g.X.OrderedAt.compare c.args.upper) in
-    rw (← c.self.view_is) at (MayAskWithin-asks g.X.OrderedAt.order within (TakesAt g.F.FnMut) (CalledAt g.F.FnMut) c.args.keep c.args.self.now.store c.requires.asked)
+    let within = is_in_bounds g.X.OrderedAt.compare (g.R.IntoBounds.bounds c.args.range) in
+    rw (← c.self.view_is, ← c.into_bounds-bounds.ensures) at (MayAskWithin-asks g.X.OrderedAt.order within (TakesAt g.F.FnMut) (CalledAt g.F.FnMut) c.args.keep c.args.self.now.store c.requires.asked)
 
 pub retain_counted-requires-clause-can_give : goal.retain_counted-requires-clause-can_give
 retain_counted-requires-clause-can_give g c =
-    let within = is_between (bound_map g.X.OrderedAt.compare c.args.lower) (bound_map g.X.OrderedAt.compare c.args.upper) in
-    rw (← c.self.view_is) at (MayAskWithin-asks g.X.OrderedAt.order within (TakesItem g.G.FnMut) (GivesIfRefused g.G.FnMut) c.args.gone c.args.self.now.store c.requires.given)
+    let within = is_in_bounds g.X.OrderedAt.compare (g.R.IntoBounds.bounds c.args.range) in
+    rw (← c.self.view_is, ← c.into_bounds-bounds.ensures) at (MayAskWithin-asks g.X.OrderedAt.order within (TakesItem g.G.FnMut) (GivesIfRefused g.G.FnMut) c.args.gone c.args.self.now.store c.requires.given)
 
 pub returns-clause-asked : goal.returns-clause-asked
 returns-clause-asked g c =
-    let within = is_between (bound_map g.X.OrderedAt.compare c.args.lower) (bound_map g.X.OrderedAt.compare c.args.upper) in
+    let within = is_in_bounds g.X.OrderedAt.compare c.into_bounds-bounds.result in
     let s = c.self.inside.items.store in
     let now = c.retain_counted.new.items.store in
     let last : _ × _ = (c.retain_counted.new.keep, c.retain_counted.new.gone) in
-    rw (← c.self.view_is)
+    rw (← c.self.view_is, ← c.into_bounds-bounds.ensures)
     (last.0, RetainsWithin-asked (CalledAt g.F.FnMut) g.G.FnMut g.X.OrderedAt.order within c.args.keep c.args.gone s now last c.retain_counted.ensures.asked)
 
 pub returns-clause-given : goal.returns-clause-given
 returns-clause-given g c =
-    let within = is_between (bound_map g.X.OrderedAt.compare c.args.lower) (bound_map g.X.OrderedAt.compare c.args.upper) in
+    let within = is_in_bounds g.X.OrderedAt.compare c.into_bounds-bounds.result in
     let s = c.self.inside.items.store in
     let now = c.retain_counted.new.items.store in
     let last : _ × _ = (c.retain_counted.new.keep, c.retain_counted.new.gone) in
-    rw (← c.self.view_is)
+    rw (← c.self.view_is, ← c.into_bounds-bounds.ensures)
     (GivesRefusedWithin-both (CalledAt g.F.FnMut) g.G.FnMut g.X.OrderedAt.order within c.args.keep c.args.gone s now last c.retain_counted.ensures.asked)
 
 pub returns-clause-memory : goal.returns-clause-memory
@@ -51,4 +50,4 @@ pub returns-clause-count : goal.returns-clause-count
 returns-clause-count g c = rw (← c.self.view_is) c.retain_counted.ensures.count
 
 pub returns-clause-others : goal.returns-clause-others
-returns-clause-others g c = rw (← c.self.view_is) c.retain_counted.ensures.others
+returns-clause-others g c = rw (← c.self.view_is, ← c.into_bounds-bounds.ensures) c.retain_counted.ensures.others

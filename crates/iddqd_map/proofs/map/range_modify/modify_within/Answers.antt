@@ -36,7 +36,7 @@ loop-next-smaller g c =
     let ix = c.in-Some-next.ix in
     let then = c.modify_slot.new.items in
     let one = ModifyingWithin-one _ _ _ _ _ _ _ _ _ _ ix _ _ _ i.modifying c.in-Some-next.is then _ _ c.requires.keeps c.modify_slot.ensures.called in
-    let is_next = IsNextHit-between itself _ _ g.met.X.StepsAt.fits then.store ix c.args.lower c.args.upper _ one.hit c.next_between-next.ensures.next in
+    let is_next = IsNextHit-between itself _ _ g.met.X.StepsAt.fits then.store ix c.args.bounds.now.lower c.args.bounds.now.upper _ one.hit c.next_between-next.ensures.next in
     ModifyingWithin-fewer _ _ _ _ _ _ _ _ _ _ ix _ _ _ i.modifying c.in-Some-next.is then _ _ one _ is_next
 
 pub loop-next-preserved : goal.loop-next-preserved
@@ -46,7 +46,7 @@ loop-next-preserved g c =
     let now = c.loop-next.items.store in
     let then = c.modify_slot.new.items in
     let one = ModifyingWithin-one _ _ _ _ _ _ _ _ _ _ ix _ _ _ i.modifying c.in-Some-next.is then _ _ c.requires.keeps c.modify_slot.ensures.called in
-    let is_next = IsNextHit-between itself _ _ g.met.X.StepsAt.fits then.store ix c.args.lower c.args.upper _ one.hit c.next_between-next.ensures.next in
+    let is_next = IsNextHit-between itself _ _ g.met.X.StepsAt.fits then.store ix c.args.bounds.now.lower c.args.bounds.now.upper _ one.hit c.next_between-next.ensures.next in
     record {
       kept = IsIndexed-rebound _ c.args.state.now now then.store ix one.left one.is i.kept.valid (live_at now ix one.item one.live)
           (g.met.X.IndexLaws.modified c.args.indexes.now c.args.state.now now ix one.item one.left i.kept.indexed one.live one.same);
@@ -62,5 +62,5 @@ returns-clause-modified g c =
 
 pub returns-in_default-clause-modified : goal.returns-in_default-clause-modified
 returns-in_default-clause-modified g c =
-    let level = level_between g.X.OrderedAt.order g.X.OrderedAt.compare g.met.X.StepsAt.fits c.args.lower c.args.upper in
+    let level = level_between g.X.OrderedAt.order g.X.OrderedAt.compare g.met.X.StepsAt.fits c.args.bounds.now.lower c.args.bounds.now.upper in
     ModifiesWithin-none _ g.X.KeyIndex.keys _ g.met.X.StepsAt.total g.met.X.StepsAt.keys_tie _ level _ _ c.in_default.ensures.first

@@ -1,6 +1,5 @@
 use Rattle.std.proofs.Common.{◌≡◌, IfSome}
-use Rattle.std.specs.Range.Bound.{bound_map}
-use Rattle.iddqd_keys.specs.OrderedQuery.{is_between}
+use Rattle.iddqd_keys.specs.Bounds.{is_in_bounds}
 use Rattle.iddqd_map.specs.KeyIndex.{IsIndexed}
 use Rattle.iddqd_map.specs.Ranges.{itself}
 use Rattle.iddqd_map.proofs.ModifyLemmas.{ModifyingWithin, level_between}
@@ -13,8 +12,8 @@ invariant-loop-next g l =
     let cmp = g.X.OrderedAt.compare in
     let total = g.met.X.StepsAt.total in
     let tie = g.met.X.StepsAt.keys_tie in
-    let within = is_between (bound_map cmp l.fn.lower) (bound_map cmp l.fn.upper) in
-    let level = level_between order cmp g.met.X.StepsAt.fits l.fn.lower l.fn.upper in
+    let within = is_in_bounds cmp l.fn.bounds in
+    let level = level_between order cmp g.met.X.StepsAt.fits l.fn.bounds.lower l.fn.bounds.upper in
     record {
       kept : IsIndexed (g.X.KeyIndex.indexes l.indexes) l.state l.items.store;
       stands : IfSome l.next (g.X.StepsAt.stands l.indexes l.spot);

@@ -1,8 +1,7 @@
 use Rattle.std.proofs.Common.{◌≡◌, ◌≤◌, ℕ, IfSome, Some}
 use Rattle.std.specs.Fn.{TakesAt, CalledAt}
-use Rattle.std.specs.Range.Bound.{bound_map}
 use Rattle.iddqd.specs.Store.{Store, get, live_count}
-use Rattle.iddqd_keys.specs.OrderedQuery.{is_between}
+use Rattle.iddqd_keys.specs.Bounds.{is_in_bounds}
 use Rattle.iddqd_keys.specs.Scan.{IsHit}
 use Rattle.iddqd_map.specs.KeyIndex.{IsIndexed}
 use Rattle.iddqd_map.specs.Bulk.{AsksAndGives, GivesIfRefused}
@@ -15,7 +14,7 @@ use Rattle.iddqd_map.proofs.map.range_retain.retain_within.Given as goal
 abbrev pub invariant-loop-next : goal.invariant-loop-next
 invariant-loop-next g l =
     let compare = g.X.OrderedAt.order in
-    let within = is_between (bound_map g.X.OrderedAt.compare l.fn.lower) (bound_map g.X.OrderedAt.compare l.fn.upper) in
+    let within = is_in_bounds g.X.OrderedAt.compare l.fn.bounds in
     let both = AsksAndGives g.G.FnMut (CalledAt g.F.FnMut) in
     record {
       kept : IsIndexed (g.X.KeyIndex.indexes l.indexes) l.fn.state l.items.store;

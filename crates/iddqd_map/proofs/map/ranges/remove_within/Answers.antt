@@ -1,10 +1,9 @@
 use Rattle.std.proofs.Common.{subst, ◌≡◌, ◌∙◌, ℕ, Bool, true, false, Some, refl, sym, ap, arith}
-use Rattle.std.specs.Range.Bound.{bound_map}
 use Rattle.iddqd.specs.Store.{get, live_count}
 use Rattle.iddqd.specs.ItemSet.{SizedStore}
 use Rattle.iddqd.proofs.LiveCountLemmas.{live_count-removed}
 use Rattle.iddqd_keys.specs.KeyWalk.{IsFirstHit}
-use Rattle.iddqd_keys.specs.OrderedQuery.{is_between}
+use Rattle.iddqd_keys.specs.Bounds.{is_in_bounds}
 use Rattle.iddqd_keys.proofs.NextLemmas.{IsNextHit-between}
 use Rattle.iddqd_map.specs.Ranges.{TakesItem, GivesItem, itself}
 use Rattle.iddqd_map.proofs.GroupLemmas.{LeavesOthers-none, LeavesOthers-hit}
@@ -32,14 +31,12 @@ loop-next-init g c =
 -- none is within
 pub returns-in_default-clause-left : goal.returns-in_default-clause-left
 returns-in_default-clause-left g c =
-    let within = is_between (bound_map g.X.OrderedAt.compare c.args.lower)
-    (bound_map g.X.OrderedAt.compare c.args.upper) in
+    let within = is_in_bounds g.X.OrderedAt.compare c.args.bounds.now in
     LeavesOthers-none within c.args.items.now.store c.in_default.ensures.first
 
 pub returns-in_default-clause-handed : goal.returns-in_default-clause-handed
 returns-in_default-clause-handed g c =
-    let within = is_between (bound_map g.X.OrderedAt.compare c.args.lower)
-    (bound_map g.X.OrderedAt.compare c.args.upper) in
+    let within = is_in_bounds g.X.OrderedAt.compare c.args.bounds.now in
     RemovesAlong-none g.X.OrderedAt.order g.met.X.StepsAt.total within (GivesItem g.F.FnMut) c.args.f.now c.args.items.now.store c.in_default.ensures.first
 
 pub f-requires : goal.f-requires
@@ -47,8 +44,7 @@ f-requires g c =
     let ix = c.in-Some-next.ix in
     let item = c.in-Some-taken.item in
     let live : get c.loop-next.items.store ix ≡ Some item = sym c.take_out_between-taken.ensures.value ∙ c.in-Some-taken.is in
-    let within = is_between (bound_map g.X.OrderedAt.compare c.args.lower)
-    (bound_map g.X.OrderedAt.compare c.args.upper) in
+    let within = is_in_bounds g.X.OrderedAt.compare c.args.bounds.now in
     takes-at g.X.OrderedAt.order within (TakesItem g.F.FnMut) (λ p x (b : Bool) q. GivesItem g.F.FnMut p x q)
     c.loop-next.items.store c.loop-next.f c.loop-next.next ix item c.loop-next.invariant.can c.in-Some-next.is live
 
@@ -64,11 +60,11 @@ loop-next-preserved g c =
     let compare = g.X.OrderedAt.order in
     let total = g.met.X.StepsAt.total in
     let cmp = g.X.OrderedAt.compare in
-    let within = is_between (bound_map cmp c.args.lower) (bound_map cmp c.args.upper) in
+    let within = is_in_bounds cmp c.args.bounds.now in
     let hits = within in
     let then = c.take_out_between-taken.result.1 in
     let first : IsFirstHit itself compare now hits (Some ix) = subst (IsFirstHit itself compare now hits) c.in-Some-next.is i.first in
-    let next = IsNextHit-between itself compare cmp g.met.X.StepsAt.fits now ix c.args.lower c.args.upper then first.0 did.next in
+    let next = IsNextHit-between itself compare cmp g.met.X.StepsAt.fits now ix c.args.bounds.now.lower c.args.bounds.now.upper then first.0 did.next in
     record {
       kept = did.map;
       first = rw gone (IsFirstHit-removed itself compare total now hits ix item live first then next);
@@ -91,7 +87,7 @@ loop-next-preserved g c =
 pub returns-clause-left : goal.returns-clause-left
 returns-clause-left g c =
     let i = c.loop-next.invariant in
-    let hits = is_between (bound_map g.X.OrderedAt.compare c.args.lower) (bound_map g.X.OrderedAt.compare c.args.upper) in
+    let hits = is_in_bounds g.X.OrderedAt.compare c.args.bounds.now in
     let s = c.loop-next.items.store in
     let none = subst (IsFirstHit itself g.X.OrderedAt.order s hits) c.in_default-next.is i.first in
     i.leaves s (LeavesOthers-none hits s none)
@@ -99,8 +95,7 @@ returns-clause-left g c =
 pub returns-clause-handed : goal.returns-clause-handed
 returns-clause-handed g c =
     let i = c.loop-next.invariant in
-    let within = is_between (bound_map g.X.OrderedAt.compare c.args.lower)
-    (bound_map g.X.OrderedAt.compare c.args.upper) in
+    let within = is_in_bounds g.X.OrderedAt.compare c.args.bounds.now in
     let s = c.loop-next.items.store in
     let none = subst (IsFirstHit itself g.X.OrderedAt.order s within) c.in_default-next.is i.first in
     i.removes s c.loop-next.f

@@ -1,8 +1,7 @@
 use Rattle.std.proofs.Common.{◌≡◌, ◌≤◌, ℕ, Bool, IfSome}
-use Rattle.std.specs.Range.Bound.{bound_map}
 use Rattle.iddqd.specs.Store.{Store, live_count}
 use Rattle.iddqd_keys.specs.KeyWalk.{IsFirstHit}
-use Rattle.iddqd_keys.specs.OrderedQuery.{is_between}
+use Rattle.iddqd_keys.specs.Bounds.{is_in_bounds}
 use Rattle.iddqd_map.specs.KeyIndex.{IsIndexed}
 use Rattle.iddqd_map.specs.RangeRetain.{AsksFrom}
 use Rattle.iddqd_map.specs.Ranges.{LeavesOthers, RemovesAlong, TakesItem, GivesItem, itself}
@@ -12,7 +11,7 @@ use Rattle.iddqd_map.proofs.map.ranges.remove_within.Given as goal
 abbrev pub invariant-loop-next : goal.invariant-loop-next
 invariant-loop-next g l =
     let compare = g.X.OrderedAt.order in
-    let within = is_between (bound_map g.X.OrderedAt.compare l.fn.lower) (bound_map g.X.OrderedAt.compare l.fn.upper) in
+    let within = is_in_bounds g.X.OrderedAt.compare l.fn.bounds in
     record {
       kept : IsIndexed (g.X.KeyIndex.indexes l.indexes) l.fn.state l.items.store;
       first : IsFirstHit itself compare l.items.store within l.next;

@@ -5,4 +5,4 @@ use Rattle.iddqd_ord_map.proofs.ordered_parts.PartsOrderedParts.group.Goals as g
 pub returns : goal.returns
 returns g c =
     ListsInOrder-group g.X.OrderedAt.order c.args.self (g.X.OrderedAt.compare c.args.query) (indexes_ahead c.range.result)
-    c.range.ensures
+    (rw c.only.ensures at c.range.ensures)
