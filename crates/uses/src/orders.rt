@@ -19,7 +19,7 @@ ghost use Rattle.iddqd_maps.specs.LiveItems.{live_pairs};
 ghost use Rattle.iddqd_maps.specs.Map.{empty_map, room};
 ghost use Rattle.iddqd_maps.specs.OrderedQuery.{is_equal};
 ghost use Rattle.iddqd_maps.specs.Range.{indexes_ahead};
-ghost use Rattle.iddqd_maps.specs.Ranges.{GivesItem, TakesItem};
+ghost use Rattle.iddqd_maps.specs.Ranges.{GivesEntry, TakesEntry, TakesItem};
 ghost use Rattle.iddqd_maps.specs.Scan.{HasNoHit, IsHit};
 ghost use Rattle.iddqd_maps.specs.Store.{cleared, get, inserted, live_count, slot_limit};
 ghost use Rattle.uses.specs.Exchanges.{IsWhyNotAdded};
@@ -385,15 +385,15 @@ pub fn add_all<I: Iterator<Item = Order>>(
 
 /// Takes orders in turn, up to the first that is refused: it comes back with the rest. An order that was there before
 /// still is, under its index, or went to the closure. With room for all of them none is refused.
-pub fn renew_all<I: Iterator<Item = Order>, F: FnMut(Order)>(
+pub fn renew_all<I: Iterator<Item = Order>, F: FnMut(ItemIndex, Order)>(
     intake: &mut Intake,
     orders: I,
     gone: F,
 ) -> Result<usize, StoppedOverwrite<Order, I>>
     requires next { I.can_next orders }
     requires fits { UpTo (I.remaining orders) usize.MAX }
-    requires given { (p : F) (order : Order) → TakesItem F.FnMut p order }
-    ensures handed { (last : F) × HandsOver (GivesItem F.FnMut) gone last intake.old.store intake.new.store
+    requires given { (p : F) (entry : ℕ × Order) → TakesEntry F.FnMut p entry }
+    ensures handed { (last : F) × HandsOver (GivesEntry F.FnMut) gone last intake.old.store intake.new.store
         (overwritten_count result) }
     ensures all { UpTo (I.remaining orders) (room intake.old) → IsOk result }
 {
