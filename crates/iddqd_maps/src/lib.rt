@@ -87,7 +87,7 @@ pub use iddqd_keys::{
     order_key as order_key, order_query as order_query, starts_with as starts_with,
 };
 pub use iddqd_map::{
-    appended as appended, bi_hash_map as bi_hash_map, by_hash as by_hash, grouped_at as grouped_at,
+    bi_hash_map as bi_hash_map, by_hash as by_hash, grouped_at as grouped_at,
     id_hash_map as id_hash_map, key_index as key_index, map as map, mix as mix,
     no_conflict as no_conflict, pair as pair, pair_conflict as pair_conflict, refusal as refusal,
     tri_hash_map as tri_hash_map,
