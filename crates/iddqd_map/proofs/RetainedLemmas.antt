@@ -16,7 +16,7 @@ pub use Rattle.iddqd_hash.proofs.AskLemmas.{CanAsk-by}
 
 module _ {T : Type 0} (s : Store T) where
   -- a pair of an index and an item is listed only where the item is there
-  pair_live : (indexes : List ℕ) (ix : ℕ) (x : T) → Contains (pairs_at s indexes) (ix, x) → get s ix ≡ Some x
+  pub pair_live : (indexes : List ℕ) (ix : ℕ) (x : T) → Contains (pairs_at s indexes) (ix, x) → get s ix ≡ Some x
   pair_live [] ix x here = absurd (contains_none (ix, x) here)
   pair_live (at ∷ rest) ix x here =
       elim (get s at) as (λ o. get s at ≡ o → get s ix ≡ Some x) [
@@ -47,7 +47,7 @@ module _ {T : Type 0} (s : Store T) where
       ] refl
 
   -- and the pair of a listed index and its item is
-  live_pair :
+  pub live_pair :
       (indexes : List ℕ) (ix : ℕ) (x : T)
       → Contains indexes ix
       → get s ix ≡ Some x

@@ -3,12 +3,13 @@
 //! All calls that name no key are `Map`'s, but for `insert_overwrite`. It is here, beside the calls that name the key;
 //! each of these is the call of `Map` at the place `Here`. They are those of a `HashMapBy`, which takes any key that is
 //! read in place; an `IdHashMap` is one by the key that its items name.
-ghost use Rattle.std.specs.Prelude.{◌≡◌, ◌≤◌, ◌↔◌, ◌+◌, false, Some, Ok, option_copied, IsOk, IfOk, OnErr, OnSome, IfNone};
+ghost use Rattle.std.specs.Prelude.{◌≡◌, ◌≤◌, ◌↔◌, ◌+◌, false, Some, Ok, option_copied, IsOk, IfOk, OnErr, OnSome, IfNone, IfSome};
+ghost use Rattle.std.specs.Option.{option_map};
 ghost use Rattle.iddqd.specs.{live_count};
 ghost use Rattle.iddqd_hash.specs.Sizes.{most_cells};
 ghost use Rattle.iddqd_keys.specs.Scan.{HasNoHit, AnswersScan};
 ghost use Rattle.iddqd_keys.specs.KeyKeeping.{KeepsKey};
-ghost use Rattle.iddqd_map.specs.Map.{capacity, room, shares, FindsItem, Removes};
+ghost use Rattle.iddqd_map.specs.Map.{capacity, room, shares, FindsItem, IsOnly, Removes};
 ghost use Rattle.iddqd_map.specs.Calls.{MayChange};
 ghost use Rattle.iddqd_map.specs.Modify.{Modifies};
 ghost use Rattle.iddqd_map.specs.OneKey.{ChangesOne, OverwritesOne, ReplacesOne};
@@ -85,6 +86,22 @@ impl<T, E: HashKey<T>, S: BuildHasher> Map<T, ByHashOf<E>, S> {
             → room self.new ≡ room self.old + 1) }
     {
         self.remove_by::<Here, Q>(query)
+    }
+
+    /// Removes the item that has the key, and returns the index that it had, with the item.
+    ///
+    /// Cost: one look-up, and a removal from each table; takes no memory.
+    pub fn remove_full<Q: ItemHashQuery<T, E>>(&mut self, query: Q) -> Option<(ItemIndex, T)>
+        ensures found { IfSome result (λ full. IsOnly self.old.store (Q.stands_for_item query) full.0 full.1) }
+        ensures removes { Removes self.old (Q.stands_for_item query) (option_map (λ full. full.1) result) self.new }
+        ensures gone { HasNoHit self.new.store (Q.stands_for_item query) }
+        ensures room { room self.old ≤ room self.new }
+        ensures count { OnSome result (live_count self.old.store ≡ live_count self.new.store + 1) }
+        ensures unchanged { IfNone result (self.new ≡ self.old) }
+        ensures freed { OnSome result (live_count self.old.store ≤ capacity self.old
+            → room self.new ≡ room self.old + 1) }
+    {
+        self.remove_full_by::<Here, Q>(query)
     }
 
     /// Replaces the item that has the key, and returns the old one.
