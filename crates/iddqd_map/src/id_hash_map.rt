@@ -3,13 +3,12 @@
 //! All calls that name no key are `Map`'s, but for `insert_overwrite`. It is here, beside the calls that name the key;
 //! each of these is the call of `Map` at the place `Here`. They are those of a `HashMapBy`, which takes any key that is
 //! read in place; an `IdHashMap` is one by the key that its items name.
-ghost use Rattle.std.specs.Prelude.{◌≡◌, ◌≤◌, ◌↔◌, ◌+◌, false, Some, Ok, option_copied, IsOk, IfOk, OnErr, OnSome, IfNone, IfSome};
-ghost use Rattle.std.specs.Option.{option_map};
+ghost use Rattle.std.specs.Prelude.{◌≡◌, ◌≤◌, ◌↔◌, ◌+◌, false, Some, Ok, option_copied, IsOk, IfOk, OnErr, OnSome, IfNone};
 ghost use Rattle.iddqd.specs.{live_count};
 ghost use Rattle.iddqd_hash.specs.Sizes.{most_cells};
 ghost use Rattle.iddqd_keys.specs.Scan.{HasNoHit, AnswersScan};
 ghost use Rattle.iddqd_keys.specs.KeyKeeping.{KeepsKey};
-ghost use Rattle.iddqd_map.specs.Map.{capacity, room, shares, FindsItem, IsOnly, Removes};
+ghost use Rattle.iddqd_map.specs.Map.{capacity, room, shares, FindsItem, Removes, RemovesFull};
 ghost use Rattle.iddqd_map.specs.Calls.{MayChange};
 ghost use Rattle.iddqd_map.specs.Modify.{Modifies};
 ghost use Rattle.iddqd_map.specs.OneKey.{ChangesOne, OverwritesOne, ReplacesOne};
@@ -92,8 +91,7 @@ impl<T, E: HashKey<T>, S: BuildHasher> Map<T, ByHashOf<E>, S> {
     ///
     /// Cost: one look-up, and a removal from each table; takes no memory.
     pub fn remove_full<Q: ItemHashQuery<T, E>>(&mut self, query: Q) -> Option<(ItemIndex, T)>
-        ensures found { IfSome result (λ full. IsOnly self.old.store (Q.stands_for_item query) full.0 full.1) }
-        ensures removes { Removes self.old (Q.stands_for_item query) (option_map (λ full. full.1) result) self.new }
+        ensures removes { RemovesFull self.old (Q.stands_for_item query) result self.new }
         ensures gone { HasNoHit self.new.store (Q.stands_for_item query) }
         ensures room { room self.old ≤ room self.new }
         ensures count { OnSome result (live_count self.old.store ≡ live_count self.new.store + 1) }

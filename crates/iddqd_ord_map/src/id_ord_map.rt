@@ -4,12 +4,11 @@
 //! iterators, its `retain` and its equality go in the order of the keys. A look-up, an insert or a removal of one item
 //! searches the table once; the comments of calls that search more often, or for many items, say how often they do.
 //! Look-ups, removals and iteration take no memory.
-ghost use Rattle.std.specs.Prelude.{◌≡◌, ◌≤◌, ◌↔◌, ◌+◌, false, [], min, max, length, None, IsTrue, IsOk, IfOk, IfErr, OnOk, OnErr, OnSome, IfNone, IfSome, option_copied};
-ghost use Rattle.std.specs.Option.{option_map};
+ghost use Rattle.std.specs.Prelude.{◌≡◌, ◌≤◌, ◌↔◌, ◌+◌, false, [], min, max, length, None, IsTrue, IsOk, IfOk, IfErr, OnOk, OnErr, OnSome, IfNone, option_copied};
 ghost use Rattle.std.specs.Ordering.{eq_by_cmp};
 ghost use Rattle.iddqd.specs.{get, live_count, next_index, slot_limit, empty, empty_within, inserted, cleared, IsRemapOf};
 ghost use Rattle.iddqd_map.specs.Calls.{Compacts, Inserts, IsDuplicate};
-ghost use Rattle.iddqd_map.specs.Map.{empty_map, shares, capacity, room, IsMap, FindsItem, IsOnly, Removes, RemovesAt};
+ghost use Rattle.iddqd_map.specs.Map.{empty_map, shares, capacity, room, IsMap, FindsItem, Removes, RemovesAt, RemovesFull};
 ghost use Rattle.iddqd_map.specs.Memory.{ReservesItems, ShrinksItems, HasMoreThanNeeded};
 ghost use Rattle.iddqd_map.specs.OneKey.{IsReported, OverwritesOne};
 ghost use Rattle.iddqd_order.specs.MapBTreeTable.{order_of};
@@ -283,9 +282,7 @@ impl<T: Drop, E: OrdKey<T>> OrdMapBy<T, E> {
     ///
     /// Cost: one search; takes no memory.
     pub fn remove_full<Q: ItemOrdQuery<T, E>>(&mut self, query: Q) -> Option<(ItemIndex, T)>
-        ensures found { IfSome result (λ full. IsOnly self.old.store (is_equal (Q.compare_item query)) full.0 full.1) }
-        ensures removes { Removes self.old (is_equal (Q.compare_item query)) (option_map (λ full. full.1) result)
-            self.new }
+        ensures removes { RemovesFull self.old (is_equal (Q.compare_item query)) result self.new }
         ensures gone { HasNoHit self.new.store (is_equal (Q.compare_item query)) }
         ensures room { room self.old ≤ room self.new }
         ensures count { OnSome result (live_count self.old.store ≡ live_count self.new.store + 1) }

@@ -108,9 +108,12 @@ where
 {
     match keyed
         .entries
-        .find_by::<ByFirst, _>(ByteKeyQuery { bytes: key })
+        .remove_full_by::<ByFirst, _>(ByteKeyQuery { bytes: key })
     {
-        Some(ix) => remove_at(keyed, ix, row),
+        Some((ix, entry)) => {
+            *row = Row::of(ix, &entry);
+            OK
+        }
         None => MISSING,
     }
 }

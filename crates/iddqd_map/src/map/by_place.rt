@@ -1,12 +1,11 @@
 //! Calls that name a unique key by its place in the key index: `find_by::<Here, _>(query)`.
 //!
 //! A map with a name of its own has the same calls under the names of its keys.
-ghost use Rattle.std.specs.Prelude.{◌≡◌, ◌↔◌, ◌≤◌, ◌+◌, false, option_copied, OnSome, IfNone, IfSome};
-ghost use Rattle.std.specs.Option.{option_map};
+ghost use Rattle.std.specs.Prelude.{◌≡◌, ◌↔◌, ◌≤◌, ◌+◌, false, option_copied, OnSome, IfNone};
 ghost use Rattle.iddqd.specs.{live_count};
 ghost use Rattle.iddqd_keys.specs.Scan.{HasNoHit, AnswersScan};
 ghost use Rattle.iddqd_keys.specs.KeyKeeping.{KeepsKey};
-ghost use Rattle.iddqd_map.specs.Map.{capacity, room, FindsItem, IsOnly, Removes};
+ghost use Rattle.iddqd_map.specs.Map.{capacity, room, FindsItem, Removes, RemovesFull};
 ghost use Rattle.iddqd_map.specs.Calls.{MayChange, Replaces, ChangesByCall};
 ghost use Rattle.iddqd_map.specs.Modify.{Modifies};
 
@@ -82,8 +81,7 @@ impl<T, X: KeyIndex<T, S>, S> Map<T, X, S> {
     pub fn remove_full_by<P, Q>(&mut self, query: Q) -> Option<(ItemIndex, T)>
     where
         X: TakesAt<P, Q, T, S>,
-        ensures found { IfSome result (λ full. IsOnly self.old.store (X.stands_for query) full.0 full.1) }
-        ensures removes { Removes self.old (X.stands_for query) (option_map (λ full. full.1) result) self.new }
+        ensures removes { RemovesFull self.old (X.stands_for query) result self.new }
         ensures gone { HasNoHit self.new.store (X.stands_for query) }
         ensures room { room self.old ≤ room self.new }
         ensures count { OnSome result (live_count self.old.store ≡ live_count self.new.store + 1) }

@@ -1,6 +1,6 @@
 use Rattle.std.proofs.Common.{◌≡◌, ◌∙◌, None, Some, refl, sym}
-use Rattle.iddqd_map.proofs.RoomLemmas.{Removes-count, Removes-freed, Removes-unchanged}
-use Rattle.iddqd_map.proofs.TakeLemmas.{IsIndexed-taken, Removes-gone, Removes-hit, Removes-none, room-removes}
+use Rattle.iddqd_map.proofs.RoomLemmas.{Removes-count, Removes-freed}
+use Rattle.iddqd_map.proofs.TakeLemmas.{IsIndexed-taken, Removes-full, Removes-gone, RemovesFull-hit, RemovesFull-none, room-removes}
 use Rattle.iddqd_map.proofs.map.Map.remove_full_by.Goals as goal
 
 pub unreachable-requires : goal.unreachable-requires
@@ -17,17 +17,13 @@ invariant_of-self-2 g c =
     IsIndexed-taken c.self.inside.items c.remove.new.self test c.in_ok-ix.ix c.remove.result did.found out.value
     out.removed _ c.self.inside.state c.self.invariant.valid did.taken
 
-pub returns-clause-found : goal.returns-clause-found
-returns-clause-found g c =
-    rw (← c.self.view_is)
-    (record { live = sym c.remove.ensures.value ∙ c.in-Some.is; only = c.in_ok-ix.ensures.found })
-
 pub returns-in_err-ix-clause-removes : goal.returns-in_err-ix-clause-removes
 returns-in_err-ix-clause-removes g c =
     let test = g.X.UniqueAt.stands_for c.args.query in
     let did = c.in_err-ix.ensures in
-    rw (← c.self.view_is, c.from_residual.ensures)
-    (Removes-none c.self.inside.items test None _ _ _ _ refl did.found did.capacity did.cells)
+    rw (← c.self.view_is)
+    (RemovesFull-none c.self.inside.items test c.from_residual.result _ _ _ _ c.from_residual.ensures did.found
+    did.capacity did.cells)
 
 pub returns-clause-removes : goal.returns-clause-removes
 returns-clause-removes g c =
@@ -35,9 +31,8 @@ returns-clause-removes g c =
     let did = c.in_ok-ix.ensures in
     let out = c.remove.ensures in
     rw (← c.self.view_is)
-    (rw c.in-Some.is at
-    (Removes-hit c.self.inside.items c.remove.new.self test c.in_ok-ix.ix c.remove.result did.found out.value
-    out.removed _ _ _ _ did.capacity did.cells))
+    (RemovesFull-hit c.self.inside.items c.remove.new.self test c.in_ok-ix.ix c.remove.result did.found out.value
+    out.removed c.in-Some.item c.in-Some.is _ _ _ _ did.capacity did.cells)
 
 pub returns-in_err-ix-clause-gone : goal.returns-in_err-ix-clause-gone
 returns-in_err-ix-clause-gone g c =
@@ -48,14 +43,14 @@ returns-in_err-ix-clause-gone g c =
 pub returns-clause-gone : goal.returns-clause-gone
 returns-clause-gone g c =
     let test = g.X.UniqueAt.stands_for c.args.query in
-    Removes-gone _ _ test (Some c.in-Some.item) (returns-clause-removes g c)
+    Removes-gone _ _ test (Some c.in-Some.item) (Removes-full _ _ test _ _ (returns-clause-removes g c))
 
 pub returns-clause-room : goal.returns-clause-room
 returns-clause-room g c =
     let test = g.X.UniqueAt.stands_for c.args.query in
     let valid = c.self.invariant.valid in
     room-removes _ _ test (Some c.in-Some.item) (rw (← c.self.view_is) valid) (invariant_of-self-2 g c).valid
-    (returns-clause-removes g c)
+    (Removes-full _ _ test _ _ (returns-clause-removes g c))
 
 pub returns-in_err-ix-clause-count : goal.returns-in_err-ix-clause-count
 returns-in_err-ix-clause-count g c = rw c.from_residual.ensures tt
@@ -72,10 +67,12 @@ pub returns-clause-count : goal.returns-clause-count
 returns-clause-count g c =
     let test = g.X.UniqueAt.stands_for c.args.query in
     let valid = c.self.invariant.valid in
-    Removes-count _ _ (rw (← c.self.view_is) valid) test (Some c.in-Some.item) (returns-clause-removes g c)
+    Removes-count _ _ (rw (← c.self.view_is) valid) test (Some c.in-Some.item)
+    (Removes-full _ _ test _ _ (returns-clause-removes g c))
 
 pub returns-clause-freed : goal.returns-clause-freed
 returns-clause-freed g c =
     let test = g.X.UniqueAt.stands_for c.args.query in
     let valid = c.self.invariant.valid in
-    Removes-freed _ _ (rw (← c.self.view_is) valid) test (Some c.in-Some.item) (returns-clause-removes g c)
+    Removes-freed _ _ (rw (← c.self.view_is) valid) test (Some c.in-Some.item)
+    (Removes-full _ _ test _ _ (returns-clause-removes g c))
