@@ -2,3 +2,4 @@ pub mod LawfulLemmas
 pub mod LayerLemmas
 mod LoopLemmas
 mod RoomLemmas
+pub mod RunLemmas

@@ -115,7 +115,7 @@ abbrev HaveAsMany : Store (Unit {0}) → List Order → Type 0
 HaveAsMany s tables = (k : ℕ) (t : Order) → k < length tables → length (order_of (get_or tables k t)) ≡ live_count s
 
 -- no ordered table has more indexes than its capacity
-abbrev Fit : List Order → Type 0
+abbrev pub Fit : List Order → Type 0
 Fit tables = (k : ℕ) (t : Order) → k < length tables
     → length (order_of (get_or tables k t)) ≤ order_table.capacity (get_or tables k t)
 
