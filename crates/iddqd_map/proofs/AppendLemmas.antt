@@ -348,9 +348,12 @@ module _ {T : Type 0} (alike : T → T → Bool) (grown : ℕ → ℕ) where
               ];
               moved = λ move here. elim (Contains-append_cases r.moves ((p, at) ∷ []) move here) [
                 | inl before ↦
-                    let (item, was, there) = r.moved move before in
-                    (item, was, stays-along alike grown (x ∷ []) now_into new_into w.valid (new_into, (at, did), refl)
-                    move.1 item there)
+                    let (item, was, there) = r.moved move before in (
+                      item,
+                      was,
+                      stays-along alike grown (x ∷ []) now_into new_into w.valid (new_into, (at, did), refl)
+                          move.1 item there,
+                    )
                 | inr last ↦ elim (contains_cases (p, at) move [] last) [
                   | inl same ↦
                       subst (λ (m : ℕ × ℕ). (item : T) × (get from.store m.0 ≡ Some item) × (get new_into.store m.1 ≡ Some item))

@@ -49,8 +49,8 @@ ReportsIfMoved give ix None f f' = f' ≡ f
 ReportsIfMoved give ix (Some at) f f' = give f (ix, at) f'
 
 -- Of two stores between which so many items were moved, by rising index: the closure was called with each move in turn.
--- Each of these items was under the first index in `from`, and is under the second in `into`. All others stay in `from`.
--- `give p move q` says that a call with the move in the state p may leave the state q.
+-- Each of these items was under the first index in `from`, and is under the second in `into`. All others stay in
+-- `from`. `give p move q` says that a call with the move in the state p may leave the state q.
 pub record ReportsMoves
     {F T : Type 0} (give : F → ℕ × ℕ → F → Type 0) (f last : F) (from new_into new_from : Store T) (count : ℕ)
     : Type 0 where
@@ -118,7 +118,8 @@ module _ {T : Type 0} (alike : T → T → Bool) where
     -- What the move of the item at an index may answer and leave: its new index; or `None` if no item is there, or one
     -- that shares a key, which stays; or why it is refused, and then it stays.
     abbrev pub AppendsItem :
-        ℕ → Option T → (into from : MapState T) → Result (Option ℕ) GrowError → (new_into new_from : MapState T) → Type 0
+        ℕ → Option T → (into from : MapState T) → Result (Option ℕ) GrowError → (new_into new_from : MapState T)
+        → Type 0
     AppendsItem ix None into from (Ok None) new_into new_from = (new_into ≡ into) × (new_from ≡ from)
     AppendsItem ix None into from answer new_into new_from = ⊥
     AppendsItem ix (Some item) into from (Ok (Some at)) new_into new_from =

@@ -30,19 +30,20 @@ module _ {G T : Type 0} (g : Mut G (ℕ × (T × Unit {0})) (Unit {0})) where
 
 -- of an iterator: `gives` says what a call of `next` gives
 module _ {I G T : Type 0} (gives : I → Option T → I → Type 0) (g : Mut G (ℕ × (T × Unit {0})) (Unit {0})) where
-  -- f may be called with each item of the store and with each that the iterator gives, at any index, in every state that
-  -- such calls lead to
+  -- f may be called with each item of the store and with each that the iterator gives, at any index, in every state
+  -- that such calls lead to
   abbrev pub CanDisplace : I → G → Store T → Type 0
-  CanDisplace it f s = HoldsAlong gives it (λ came. CanAsk (TakesAnywhere g) (GivesSomewhere g) f (live_items s ++ came))
+  CanDisplace it f s =
+      HoldsAlong gives it (λ came. CanAsk (TakesAnywhere g) (GivesSomewhere g) f (live_items s ++ came))
 
   -- equivalent to `CanDisplace`, and in the form of `MayAsk` for the same reason
   abbrev pub MayDisplace : I → G → Store T → Type 0
   MayDisplace it f s = (((p : G) (x : ℕ × T) → TakesEntry g p x) → CanDisplace it f s) → CanDisplace it f s
 
 -- The closure was called with each of these items and its index in turn. Each item that was stored before still is,
--- under its index, or it is one of these with that index, and the number of items is right. What the others of these are, `OverwritesAll` says: items
--- that the call inserted, and that a later item displaced.
--- `give p x q` says that a call with this index and item in the state p may leave the state q.
+-- under its index, or it is one of these with that index, and the number of items is right. What the others of these
+-- are, `OverwritesAll` says: items that the call inserted, and that a later item displaced. `give p x q` says that a
+-- call with this index and item in the state p may leave the state q.
 pub record HandsOver
     {G T : Type 0} (give : G → ℕ × T → G → Type 0) (gone last : G) (old new : Store T) (inserted : ℕ)
     : Type 0 where
@@ -54,8 +55,8 @@ pub record HandsOver
 -- Of a map: `alike x y` says that the items share a unique key, and `grown n` is the most by which the cells grow in an
 -- insert that leaves n indexes. Below, a key is a unique one.
 module _ {T : Type 0} (alike : T → T → Bool) (grown : ℕ → ℕ) where
-  -- The items that share a key were removed by rising index: these, each with its index. Then the new item was stored at
-  -- the next index. If one was removed, the counts of the memory stay.
+  -- The items that share a key were removed by rising index: these, each with its index. Then the new item was stored
+  -- at the next index. If one was removed, the counts of the memory stay.
   pub record DisplacesAt (old : MapState T) (item : T) (ix : ℕ) (displaced : List (ℕ × T)) (new : MapState T)
       : Type 0 where
     pub conflicts : List ℕ

@@ -67,7 +67,8 @@ module _ {T K : Type 0} (key_of : T → K) (compare : K → K → Ordering) wher
       OverwritesFrom alike (λ count. 0) true give gives remaining most_cells it old gone result new
 
   -- what moving the items of one map into another may answer, and what it leaves in both
-  abbrev pub AppendsInOrder : (into from : MapState T) → Result ℕ StoppedAppend → (new_into new_from : MapState T) → Type 0
+  abbrev pub AppendsInOrder :
+      (into from : MapState T) → Result ℕ StoppedAppend → (new_into new_from : MapState T) → Type 0
   AppendsInOrder into from answer new_into new_from =
       Appends (alike_in_order key_of compare) (λ count. 0) into from answer new_into new_from
 

@@ -27,7 +27,9 @@ ghost use Rattle.uses.specs.Updates.{Updates, UpdatesAll, UpdatesAt, UpdatesHit,
 use crate::scores::Score;
 use iddqd_maps::id_ord_map::{IdOrdMap, IntoValues, Iter, Values};
 use iddqd_maps::item_index::ItemIndex;
-use iddqd_maps::refusal::{InsertRefusal, OverwriteRefusal, ReplaceRefusal, Stopped, StoppedAppend};
+use iddqd_maps::refusal::{
+    InsertRefusal, OverwriteRefusal, ReplaceRefusal, Stopped, StoppedAppend,
+};
 use iddqd_maps::{ValidateCompact, ValidateRefusal, ValidationError};
 use std::alloc::{AllocError, Global};
 

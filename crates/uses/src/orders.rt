@@ -33,8 +33,8 @@ use iddqd_maps::id_ord_map::Iter;
 use iddqd_maps::ordered_walk::Range;
 use iddqd_maps::ranges_at::RangesAt;
 use iddqd_maps::{
-    ByHash, ByHashMulti, ByOrderMulti, Field, GroupItems, Here, InGroups, InOrder,
-    InsertRefusal, ItemIndex, Map, OrderedParts, Stopped, StoppedAppend, StoppedOverwrite, btree_table,
+    ByHash, ByHashMulti, ByOrderMulti, Field, GroupItems, Here, InGroups, InOrder, InsertRefusal,
+    ItemIndex, Map, OrderedParts, Stopped, StoppedAppend, StoppedOverwrite, btree_table,
 };
 use std::alloc::{AllocError, Global};
 use std::default::MadeWith;
@@ -397,8 +397,8 @@ pub fn blank(alloc: Global) -> Intake
 }
 
 /// Moves the orders of another intake into this one, up to the first for which this one is full or memory runs out, and
-/// returns how many were moved. Those whose number is taken stay in the other intake. The closure gets the index that an
-/// order had there, and the one that it has here.
+/// returns how many were moved. Those whose number is taken stay in the other intake. The closure gets the index that
+/// an order had there, and the one that it has here.
 pub fn take_over<F: FnMut(ItemIndex, ItemIndex)>(
     intake: &mut Intake,
     other: &mut Intake,

@@ -12,9 +12,9 @@ ghost use Rattle.iddqd_maps.specs.Ranges.{GivesEntry, TakesEntry, itself};
 ghost use Rattle.uses.specs.Scores.{by_hour, is_between};
 ghost use Rattle.uses.specs.declared.scores.Score.{Score};
 
+use iddqd_maps::ItemIndex;
 use iddqd_maps::id_ord_map::{IdOrdItem, IdOrdMap, Range};
 use iddqd_maps::refusal::StoppedOverwrite;
-use iddqd_maps::ItemIndex;
 use std::alloc::{AllocError, Global};
 use std::default::MadeWith;
 

@@ -74,9 +74,9 @@ impl<T, X: IndexLaws<T, S> + PlanLaws<T, S> + Changes<T, S>, S> Map<T, X, S> {
         ensures moved { OnOk result ((to : Option ℕ)
             × AppendsItem X.alike X.grown from (get other.old.store from) self.old other.old (Ok to) self.new other.new
             × ReportsIfMoved (GivesMove F.FnMut) from to moved.old moved.new) }
-        ensures refused { IfErr result (λ error.
-            AppendsItem X.alike X.grown from (get other.old.store from) self.old other.old (Err error) self.new other.new
-            × (moved.new ≡ moved.old)) }
+        ensures refused { IfErr result (λ error. (moved.new ≡ moved.old)
+            × AppendsItem X.alike X.grown from (get other.old.store from) self.old other.old (Err error) self.new
+            other.new) }
     {
         if let Some(to) = self.append_at(other, from)? {
             moved(from, to);

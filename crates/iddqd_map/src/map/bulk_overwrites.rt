@@ -27,10 +27,10 @@ impl<T, X: Changes<T, S> + Upkeep<T, S>, S> Map<T, X, S> {
     /// is refused, and returns how many were inserted.
     ///
     /// Stored items that share a key with an item are first removed, by rising index, and passed to the closure by
-    /// value, each with the index that it had. An item that was inserted before may be displaced, too. A refusal comes as that of `overwrite_into`,
-    /// before anything is removed for its item. It comes back with that item, with the number of items that were
-    /// inserted before it, and with the rest of the iterator; the items that were inserted stay. If there is `room` for
-    /// all that the iterator can give, nothing is refused.
+    /// value, each with the index that it had. An item that was inserted before may be displaced, too. A refusal comes
+    /// as that of `overwrite_into`, before anything is removed for its item. It comes back with that item, with the
+    /// number of items that were inserted before it, and with the rest of the iterator; the items that were inserted
+    /// stay. If there is `room` for all that the iterator can give, nothing is refused.
     ///
     /// Memory is reserved at once for as many items as the lower bound of `size_hint`, or as the limit allows; if it
     /// runs out, the items are inserted all the same, as far as there is memory. Each key of an item is hashed once.

@@ -75,9 +75,9 @@ impl<T: Drop, E: OrdKey<T>> OrdMapBy<T, E> {
     /// A stored item that has the key of an item is first removed, and passed to the closure by value, with the index
     /// that it had. An item that was inserted before may be displaced, too. One that displaces another is refused only
     /// if memory runs out and the table has more indexes than its capacity, before anything is removed. Each other one
-    /// is refused as by `insert_unique`. A refusal comes back with its item, with the number of items that were inserted
-    /// before it, and with the rest of the iterator; the items that were inserted stay. If there is `room` for all that
-    /// the iterator can give, nothing is refused. Memory is reserved as by `insert_all`.
+    /// is refused as by `insert_unique`. A refusal comes back with its item, with the number of items that were
+    /// inserted before it, and with the rest of the iterator; the items that were inserted stay. If there is `room` for
+    /// all that the iterator can give, nothing is refused. Memory is reserved as by `insert_all`.
     ///
     /// Cost: an `insert_overwrite` for each item; reserves memory for the lower bound of `size_hint` at once, then
     /// takes it as that call does.

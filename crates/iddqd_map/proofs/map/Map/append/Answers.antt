@@ -45,7 +45,7 @@ stops :
 stops g c =
     Appending-stops g.X.KeyIndex.alike g.X.KeyIndex.grown c.args.self.now c.args.other.now c.loop-at.self c.loop-at.other
     c.loop-at.at c.len-before.ensures.state.valid c.loop-at.invariant.appending c.len-before.result c.len.result
-    c.len-before.ensures.value c.append_reported.new.self c.append_reported.new.other c.new-from.result c.in-Err.error c.in-Err.ensures.refused.0
+    c.len-before.ensures.value c.append_reported.new.self c.append_reported.new.other c.new-from.result c.in-Err.error c.in-Err.ensures.refused.1
     c.new-from.ensures c.len.ensures.value
 
 -- what is there after all slots
@@ -70,13 +70,13 @@ returns-in-Err-clause-reported g c =
     let (same, same_from) =
     Appending-stores g.X.KeyIndex.alike g.X.KeyIndex.grown c.args.self.now c.args.other.now c.loop-at.self c.loop-at.other
     c.loop-at.at c.len-before.ensures.state.valid c.loop-at.invariant.appending c.len-before.result c.len.result
-    c.len-before.ensures.value c.append_reported.new.self c.append_reported.new.other c.new-from.result c.in-Err.error c.in-Err.ensures.refused.0
+    c.len-before.ensures.value c.append_reported.new.self c.append_reported.new.other c.new-from.result c.in-Err.error c.in-Err.ensures.refused.1
     c.new-from.ensures in (
       c.append_reported.new.moved,
       ReportsMoves-all g.X.KeyIndex.alike g.X.KeyIndex.grown (GivesMove g.F.FnMut) c.args.moved c.args.self.now
           c.args.other.now c.loop-at.self c.loop-at.other c.loop-at.at c.append_reported.new.moved c.append_reported.new.self
           c.append_reported.new.other (c.len.result - c.len-before.result)
-          (rw c.in-Err.ensures.refused.1 c.loop-at.invariant.reporting) same same_from
+          (rw c.in-Err.ensures.refused.0 c.loop-at.invariant.reporting) same same_from
           (stops g c.before).left,
     )
 
