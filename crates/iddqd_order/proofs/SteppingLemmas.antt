@@ -647,6 +647,13 @@ leaf-node (suc h) n p q above =
     ap row is ∙ leaf-node h (child n (slice_index p (suc h))) p q above
     ∙ ap (λ c. leaf h (child n c) q) (sym (above (suc h) lt))
 
+pub leaf-in :
+    (r : Option Node) (h : ℕ) (p q : List ℕ)
+    → ((m : ℕ) → 0 < m → slice_index q m ≡ slice_index p m)
+    → row_in 0 r h p ≡ leaf_in r h q
+leaf-in None h p q above = refl
+leaf-in (Some n) h p q above = leaf-node h n p q above
+
 -- a cursor at a gap of a leaf
 pub is-at :
     (t : Order) (p : List ℕ) (l i : ℕ)
@@ -667,13 +674,6 @@ is-at t p l i g e le long =
       },
       gap.place_is ∙ ap (λ z. low_in z t.root t.height p + i) (sym e),
     )
-  where
-    leaf-in :
-        (r : Option Node) (h : ℕ) (p q : List ℕ)
-        → ((m : ℕ) → 0 < m → slice_index q m ≡ slice_index p m)
-        → row_in 0 r h p ≡ leaf_in r h q
-    leaf-in None h p q above = refl
-    leaf-in (Some n) h p q above = leaf-node h n p q above
 
 -- what stands in a list is read there
 pub none_past : (xs : List ℕ) (i : ℕ) → i < length xs → slice_get xs i ≡ None → ⊥
