@@ -26,7 +26,11 @@ pub mod RemakeLemmas
 pub mod RetainLemmas
 pub mod RetainedLemmas
 pub mod RoomLemmas
+pub mod SelectedLemmas
+pub mod SelectionCallerLemmas
+pub mod SelectionLemmas
 pub mod SizeLemmas
+pub mod SweepLemmas
 pub mod TakeLemmas
 pub mod ThreeKeysLemmas
 pub mod TwoKeysLemmas

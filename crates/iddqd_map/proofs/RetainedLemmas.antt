@@ -33,7 +33,7 @@ module _ {T : Type 0} (s : Store T) where
       ] refl
 
   -- and only where the index is
-  pair_listed : (indexes : List ℕ) (ix : ℕ) (x : T) → Contains (pairs_at s indexes) (ix, x) → Contains indexes ix
+  pub pair_listed : (indexes : List ℕ) (ix : ℕ) (x : T) → Contains (pairs_at s indexes) (ix, x) → Contains indexes ix
   pair_listed [] ix x here = absurd (contains_none (ix, x) here)
   pair_listed (at ∷ rest) ix x here =
       elim (get s at) as (λ o. get s at ≡ o → Contains (at ∷ rest) ix) [

@@ -29,7 +29,10 @@ pub mod Ranges
 pub mod Refusal
 pub mod Remake
 pub mod Retain
+pub mod Selection
+pub mod SelectionLaws
 pub mod Several
+pub mod Sweep
 pub mod ThreeKeys
 pub mod TwoKeys
 pub mod Upsert

@@ -22,5 +22,7 @@ pub mod pair_conflict;
 pub mod pair_hashes;
 pub mod refusal;
 mod reported;
+pub mod selection;
 pub mod tri_hash_map;
+pub mod verdict;
 mod word;

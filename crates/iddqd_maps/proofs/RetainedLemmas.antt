@@ -4,3 +4,4 @@ pub use Rattle.iddqd_map.proofs.RetainedLemmas.{CanAsk-by, RetainsTo-tested, Ret
 pub use Rattle.iddqd_ord_map.proofs.OrderedCallerLemmas.{RetainsAlong-tested, walked}
 pub use Rattle.iddqd_by_hash.proofs.RetainLemmas.{AsksInTurn-by, AsksInTurn-to_come, AsksInTurn-can}
 pub use Rattle.iddqd_map.proofs.RangeRetainLemmas.{AsksWithin-by}
+pub use Rattle.iddqd_map.proofs.SelectionCallerLemmas.{RetainsSelected-stays, RetainsSelected-gone, GivesRejected-tested}

@@ -35,6 +35,8 @@ pub use Rattle.iddqd_map.specs.RangeRetain
 pub use Rattle.iddqd_map.specs.Groups
 pub use Rattle.iddqd_map.specs.NoConflict
 pub use Rattle.iddqd_map.specs.Retain
+pub use Rattle.iddqd_map.specs.Selection
+pub use Rattle.iddqd_map.specs.Sweep
 pub use Rattle.iddqd_map.specs.Equality
 pub use Rattle.iddqd_map.specs.KeyIndex
 pub use Rattle.iddqd_map.specs.PairConflict

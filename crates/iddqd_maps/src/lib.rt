@@ -50,7 +50,12 @@ pub use iddqd_map::pair_conflict::PairConflict;
 pub use iddqd_map::refusal::{
     InsertRefusal, OverwriteRefusal, ReplaceRefusal, Stopped, StoppedAppend, StoppedOverwrite,
 };
+pub use iddqd_map::map::sweep::Swept;
 pub use iddqd_map::tri_hash_map::TriClash;
+pub use iddqd_map::verdict::Verdict;
+
+// Which items a call goes over.
+pub use iddqd_map::selection::{All, Selection, equal, having, within};
 
 // The key indexes of a mix, the places of its keys, and the traits with its calls in order and on groups.
 pub use iddqd_groups::by_hash_multi::{ByHashMulti, ByHashMultiOf};
@@ -92,7 +97,7 @@ pub use iddqd_map::{
     bi_hash_map as bi_hash_map, by_hash as by_hash, grouped_at as grouped_at,
     id_hash_map as id_hash_map, key_index as key_index, map as map, mix as mix,
     no_conflict as no_conflict, pair as pair, pair_conflict as pair_conflict, refusal as refusal,
-    tri_hash_map as tri_hash_map,
+    selection as selection, tri_hash_map as tri_hash_map, verdict as verdict,
 };
 pub use iddqd_ord_map::{
     by_order as by_order, by_order_multi as by_order_multi, id_ord_map as id_ord_map,

@@ -7,6 +7,7 @@ mod artifacts;
 mod board;
 mod calendar;
 mod devices;
+mod dispatch;
 mod guests;
 mod handles;
 mod ledger;
@@ -57,6 +58,7 @@ fn print_all(rt: &(impl Print + RandomSource), alloc: Global) -> io::Result<()> 
     print(rt, sessions::line(alloc))?;
     print(rt, ledger::line(alloc))?;
     print(rt, orders::line(alloc))?;
+    print(rt, dispatch::line(alloc))?;
     print(rt, calendar::line(alloc))?;
     print(rt, registry::line(alloc))?;
     print_keys(rt, alloc)
