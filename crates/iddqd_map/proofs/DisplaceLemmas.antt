@@ -24,7 +24,7 @@ use Rattle.iddqd_map.specs.Calls.{InsertsAt, OverwritesAt}
 use Rattle.iddqd_map.specs.KeyIndex.{IsNextReported}
 use Rattle.iddqd_map.specs.Map.{MapState, room}
 use Rattle.iddqd_map.specs.Overwrite.{GivesReported}
-use Rattle.iddqd_map.specs.Ranges.{GivesEntry}
+use Rattle.iddqd_map.specs.Sweep.{GivesPair}
 use Rattle.iddqd_map.specs.declared.refusal.OverwriteRefusal.{OverwriteRefusal}
 use Rattle.iddqd_map.specs.declared.refusal.OverwriteRefusal.TheVariants.{Full, Memory}
 use Rattle.iddqd_map.proofs.GroupRetainLemmas.{CanAsk-among}
@@ -300,7 +300,7 @@ module _ {G T : Type 0} (g : Mut G (ℕ × (T × Unit {0})) (Unit {0})) where
       (f : G) (xs : List T) (given : List (ℕ × T)) (last : G)
       → ((x : ℕ × T) → Contains given x → Contains xs x.1)
       → CanAsk (TakesAnywhere g) (GivesSomewhere g) f xs
-      → FoldsTo (GivesEntry g) f given last
+      → FoldsTo (GivesPair g) f given last
       → CanAsk (TakesAnywhere g) (GivesSomewhere g) last xs
   CanAsk-after f xs [] last among can same = subst (λ p. CanAsk (TakesAnywhere g) (GivesSomewhere g) p xs) same can
   CanAsk-after f xs (x ∷ given) last among can (next, called, more) =
@@ -409,7 +409,7 @@ module _
       pub counted : count ≡ length items
       pub came : Yields gives start items it
       pub in_turn : FoldsTo (DisplacesNext alike grown) (old, []) items (now, displaced)
-      pub handed : FoldsTo (GivesEntry g) gone displaced state
+      pub handed : FoldsTo (GivesPair g) gone displaced state
       pub may_go_on : can it
       pub valid : IsValid now.store
       pub may_give : CanDisplace gives g it state now.store
@@ -451,7 +451,7 @@ module _
         pub Overwriting-one :
             (ix : ℕ) (new : MapState T) (last : G) (more : List (ℕ × T))
             → DisplacesAt alike grown now item ix more new
-            → FoldsTo (GivesEntry g) state more last
+            → FoldsTo (GivesPair g) state more last
             → Overwriting start old gone then new last (count + 1)
         Overwriting-one ix new last more did given =
             let (is_finite, most) = w.nearer in
@@ -464,7 +464,7 @@ module _
               came = came_more gives start w.items it item then w.came step;
               in_turn = FoldsTo-push (DisplacesNext alike grown) (old, []) w.items (now, w.displaced) item (new, w.displaced ++ more)
                   w.in_turn (ix, more, did, refl);
-              handed = FoldsTo-both (GivesEntry g) gone w.displaced more state last w.handed given;
+              handed = FoldsTo-both (GivesPair g) gone w.displaced more state last w.handed given;
               may_go_on = goes.keeps;
               valid = displaced-valid alike grown now new item w.valid ix more did;
               may_give = λ came rest run.

@@ -14,7 +14,7 @@ use Rattle.iddqd_keys.specs.Scan.{HasNoHit}
 use Rattle.iddqd_map.specs.Calls.{AreConflicts, RefusesFull, RefusesMemory, RefusesToOverwrite}
 use Rattle.iddqd_map.specs.Map.{MapState}
 use Rattle.iddqd_map.specs.Memory.{MakesRoom, ReservesItems}
-use Rattle.iddqd_map.specs.Ranges.{GivesEntry, TakesEntry}
+use Rattle.iddqd_map.specs.Sweep.{GivesPair, TakesPair}
 use Rattle.iddqd_map.specs.declared.refusal.OverwriteRefusal.{OverwriteRefusal}
 use Rattle.iddqd_map.specs.declared.refusal.OverwriteRefusal.TheVariants.{Full, Memory}
 use Rattle.iddqd_map.specs.declared.refusal.StoppedOverwrite.{StoppedOverwrite}
@@ -22,11 +22,11 @@ use Rattle.iddqd_map.specs.declared.refusal.StoppedOverwrite.{StoppedOverwrite}
 module _ {G T : Type 0} (g : Mut G (ℕ × (T × Unit {0})) (Unit {0})) where
   -- the closure may be called with the item, whatever the index
   abbrev pub TakesAnywhere : G → T → Type 0
-  TakesAnywhere f x = (ix : ℕ) → TakesEntry g f (ix, x)
+  TakesAnywhere f x = (ix : ℕ) → TakesPair g f (ix, x)
 
   -- what a call with the item leaves of the closure, at some index; it answers nothing
   abbrev pub GivesSomewhere : G → T → Bool → G → Type 0
-  GivesSomewhere f x b f' = (ix : ℕ) × GivesEntry g f (ix, x) f'
+  GivesSomewhere f x b f' = (ix : ℕ) × GivesPair g f (ix, x) f'
 
 -- of an iterator: `gives` says what a call of `next` gives
 module _ {I G T : Type 0} (gives : I → Option T → I → Type 0) (g : Mut G (ℕ × (T × Unit {0})) (Unit {0})) where
@@ -38,7 +38,7 @@ module _ {I G T : Type 0} (gives : I → Option T → I → Type 0) (g : Mut G (
 
   -- equivalent to `CanDisplace`, and in the form of `MayAsk` for the same reason
   abbrev pub MayDisplace : I → G → Store T → Type 0
-  MayDisplace it f s = (((p : G) (x : ℕ × T) → TakesEntry g p x) → CanDisplace it f s) → CanDisplace it f s
+  MayDisplace it f s = (((p : G) (x : ℕ × T) → TakesPair g p x) → CanDisplace it f s) → CanDisplace it f s
 
 -- The closure was called with each of these items and its index in turn. Each item that was stored before still is,
 -- under its index, or it is one of these with that index, and the number of items is right. What the others of these

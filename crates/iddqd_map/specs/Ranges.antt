@@ -23,13 +23,6 @@ TakesItem g f x = Takes g f (x, tt)
 abbrev pub GivesItem : {F T : Type 0} → Mut F (T × Unit {0}) (Unit {0}) → F → T → F → Type 0
 GivesItem g f x f' = Called g f (x, tt) tt f'
 
--- the same of a closure that takes an item with its index
-abbrev pub TakesEntry : {F T : Type 0} → Mut F (ℕ × (T × Unit {0})) (Unit {0}) → F → ℕ × T → Type 0
-TakesEntry g f x = Takes g f (x.0, (x.1, tt))
-
-abbrev pub GivesEntry : {F T : Type 0} → Mut F (ℕ × (T × Unit {0})) (Unit {0}) → F → ℕ × T → F → Type 0
-GivesEntry g f x f' = Called g f (x.0, (x.1, tt)) tt f'
-
 -- f may be called with each of the items, in every state that such calls lead to
 abbrev pub MayGive : {F T : Type 0} → Mut F (T × Unit {0}) (Unit {0}) → F → List T → Type 0
 MayGive g f items = MayAsk (TakesItem g) (λ p x (b : Bool) q. GivesItem g p x q) f items

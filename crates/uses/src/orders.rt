@@ -19,7 +19,8 @@ ghost use Rattle.iddqd_maps.specs.LiveItems.{live_pairs};
 ghost use Rattle.iddqd_maps.specs.Map.{empty_map, room};
 ghost use Rattle.iddqd_maps.specs.OrderedQuery.{is_equal};
 ghost use Rattle.iddqd_maps.specs.Range.{indexes_ahead};
-ghost use Rattle.iddqd_maps.specs.Ranges.{GivesEntry, TakesEntry, TakesItem};
+ghost use Rattle.iddqd_maps.specs.Ranges.{TakesItem};
+ghost use Rattle.iddqd_maps.specs.Sweep.{GivesPair, TakesPair};
 ghost use Rattle.iddqd_maps.specs.Scan.{HasNoHit, IsHit};
 ghost use Rattle.iddqd_maps.specs.Store.{cleared, get, inserted, live_count, slot_limit};
 ghost use Rattle.uses.specs.Exchanges.{IsWhyNotAdded};
@@ -381,8 +382,8 @@ pub fn renew_all<I: Iterator<Item = Order>, F: FnMut(ItemIndex, Order)>(
 ) -> Result<usize, StoppedOverwrite<Order, I>>
     requires next { I.can_next orders }
     requires fits { UpTo (I.remaining orders) usize.MAX }
-    requires given { (p : F) (entry : ℕ × Order) → TakesEntry F.FnMut p entry }
-    ensures handed { (last : F) × HandsOver (GivesEntry F.FnMut) gone last intake.old.store intake.new.store
+    requires given { (p : F) (entry : ℕ × Order) → TakesPair F.FnMut p entry }
+    ensures handed { (last : F) × HandsOver (GivesPair F.FnMut) gone last intake.old.store intake.new.store
         (overwritten_count result) }
     ensures all { UpTo (I.remaining orders) (room intake.old) → IsOk result }
 {

@@ -8,7 +8,8 @@ ghost use Rattle.iddqd_maps.specs.Drops.{Drops};
 ghost use Rattle.iddqd_maps.specs.KeyOrder.{IsWalkWithin};
 ghost use Rattle.iddqd_maps.specs.Map.{empty_map, room};
 ghost use Rattle.iddqd_maps.specs.OrdMap.{OverwritesFromInOrder};
-ghost use Rattle.iddqd_maps.specs.Ranges.{GivesEntry, TakesEntry, itself};
+ghost use Rattle.iddqd_maps.specs.Ranges.{itself};
+ghost use Rattle.iddqd_maps.specs.Sweep.{GivesPair, TakesPair};
 ghost use Rattle.uses.specs.Scores.{by_hour, is_between};
 ghost use Rattle.uses.specs.declared.scores.Score.{Score};
 
@@ -70,10 +71,10 @@ pub fn enter_all<I: Iterator<Item = Score>, F: FnMut(ItemIndex, Score)>(
 ) -> Result<usize, StoppedOverwrite<Score, I>>
     requires next { I.can_next entries }
     requires fits { UpTo (I.remaining entries) usize.MAX }
-    requires given { (p : F) (entry : ℕ × Score) → TakesEntry F.FnMut p entry }
-    ensures entered { OverwritesFromInOrder (λ score. score.hour) nat_cmp (GivesEntry F.FnMut) I.next_gives
+    requires given { (p : F) (entry : ℕ × Score) → TakesPair F.FnMut p entry }
+    ensures entered { OverwritesFromInOrder (λ score. score.hour) nat_cmp (GivesPair F.FnMut) I.next_gives
         I.remaining entries scores.old gone result scores.new }
-    ensures handed { (last : F) × HandsOver (GivesEntry F.FnMut) gone last scores.old.store scores.new.store
+    ensures handed { (last : F) × HandsOver (GivesPair F.FnMut) gone last scores.old.store scores.new.store
         (overwritten_count result) }
     ensures all { UpTo (I.remaining entries) (room scores.old) → IsOk result }
 {

@@ -10,7 +10,7 @@ ghost use Rattle.iddqd_map.specs.BulkOverwrite.{CanDisplace, Displaces, Displace
 ghost use Rattle.iddqd_map.specs.KeyIndex.{IsIndexed, IsNextReported};
 ghost use Rattle.iddqd_map.specs.Map.{map_with, room};
 ghost use Rattle.iddqd_map.specs.Overwrite.{GivesReported};
-ghost use Rattle.iddqd_map.specs.Ranges.{GivesEntry, TakesEntry};
+ghost use Rattle.iddqd_map.specs.Sweep.{GivesPair, TakesPair};
 
 use super::Map;
 use super::inserts::insert;
@@ -48,9 +48,9 @@ impl<T, X: Changes<T, S> + Upkeep<T, S>, S> Map<T, X, S> {
         requires next { I.can_next iter }
         requires fits { UpTo (I.remaining iter) usize.MAX }
         requires given { MayDisplace I.next_gives G.FnMut iter gone self.old.store }
-        ensures overwrites { OverwritesFrom X.alike X.grown X.may_need_memory (GivesEntry G.FnMut) I.next_gives
+        ensures overwrites { OverwritesFrom X.alike X.grown X.may_need_memory (GivesPair G.FnMut) I.next_gives
             I.remaining X.most iter self.old gone result self.new }
-        ensures handed { (last : G) × HandsOver (GivesEntry G.FnMut) gone last self.old.store self.new.store
+        ensures handed { (last : G) × HandsOver (GivesPair G.FnMut) gone last self.old.store self.new.store
             (overwritten_count result) }
         ensures not_refused { UpTo (I.remaining iter) (room self.old) → IsOk result }
         ensures goes_on { IfErr result (λ stopped. I.can_next stopped.rest) }
@@ -84,7 +84,7 @@ impl<T, X: Changes<T, S> + Upkeep<T, S>, S> Map<T, X, S> {
         requires given { CanDisplace I.next_gives G.FnMut iter.old gone.old self.old.store }
         ensures overwrites { (items : List T) × (displaced : List (ℕ × T)) × (result.0 ≡ length items)
             × OverwritesUntil X.alike X.grown X.may_need_memory I.next_gives iter.old self.old items result.1 iter.new
-            self.new displaced × FoldsTo (GivesEntry G.FnMut) gone.old displaced gone.new }
+            self.new displaced × FoldsTo (GivesPair G.FnMut) gone.old displaced gone.new }
         ensures not_refused { UpTo (I.remaining iter.old) (room self.old) → IsNone result.1 }
         ensures goes_on { IfSome result.1 (λ refusal. I.can_next iter.new) }
         ensures nearer { IfSome result.1 (λ refusal. IsNearerEnd I.can_next I.remaining iter.old iter.new) }
@@ -108,7 +108,7 @@ impl<T, X: Changes<T, S> + Upkeep<T, S>, S> Map<T, X, S> {
         requires next { I.can_next iter.old }
         requires can_give { CanAsk (TakesAnywhere G.FnMut) (GivesSomewhere G.FnMut) gone.old
             (live_items self.old.store) }
-        ensures { DisplacesByNext X.alike X.grown X.may_need_memory (GivesEntry G.FnMut) I.next_gives I.remaining
+        ensures { DisplacesByNext X.alike X.grown X.may_need_memory (GivesPair G.FnMut) I.next_gives I.remaining
             I.can_next iter.old self.old gone.old result iter.new self.new gone.new }
     {
         match iter.next() {
@@ -136,7 +136,7 @@ fn insert_or_displace<T, X: Changes<T, S>, S, G: FnMut(ItemIndex, T)>(
     requires can_give { CanAsk (TakesAnywhere G.FnMut) (GivesSomewhere G.FnMut) gone.old
         (live_items items.old.store) }
     ensures map { IsIndexed (X.indexes indexes.new) state.now items.new.store }
-    ensures displaces { Displaces X.alike X.grown X.may_need_memory (GivesEntry G.FnMut)
+    ensures displaces { Displaces X.alike X.grown X.may_need_memory (GivesPair G.FnMut)
         (map_with items.old (X.capacity indexes.old) (X.cells indexes.old)) gone.old item result
         (map_with items.new (X.capacity indexes.new) (X.cells indexes.new)) gone.new }
 {
@@ -168,7 +168,7 @@ fn displace<T, X: Changes<T, S>, S, G: FnMut(ItemIndex, T)>(
     requires can_give { CanAsk (TakesAnywhere G.FnMut) (GivesSomewhere G.FnMut) gone.old
         (live_items items.old.store) }
     ensures map { IsIndexed (X.indexes indexes.new) state.now items.new.store }
-    ensures displaces { Displaces X.alike X.grown X.may_need_memory (GivesEntry G.FnMut)
+    ensures displaces { Displaces X.alike X.grown X.may_need_memory (GivesPair G.FnMut)
         (map_with items.old (X.capacity indexes.old) (X.cells indexes.old)) gone.old item result
         (map_with items.new (X.capacity indexes.new) (X.cells indexes.new)) gone.new }
 {
@@ -198,7 +198,7 @@ fn give_reported<T, X: Changes<T, S>, S, G: FnMut(ItemIndex, T)>(
     requires can_give { CanAsk (TakesAnywhere G.FnMut) (GivesSomewhere G.FnMut) gone.old
         (live_items items.old.store) }
     ensures map { IsIndexed (X.indexes indexes.new) state.now items.new.store }
-    ensures given { GivesReported (X.reports at.now) (GivesEntry G.FnMut) items.old.store gone.old items.new.store
+    ensures given { GivesReported (X.reports at.now) (GivesPair G.FnMut) items.old.store gone.old items.new.store
         gone.new }
     ensures slots { items.new.capacity ≡ items.old.capacity }
     ensures room { 1 ≤ set_room items.new }
@@ -224,10 +224,10 @@ fn give_entry<T, S, X: Changes<T, S>, G: FnMut(ItemIndex, T)>(
 )
     requires live { IsLive items.old.store ix }
     requires map { IsIndexed (X.indexes indexes.old) state.now items.old.store }
-    requires given { (item : T) → get items.old.store ix ≡ Some item → TakesEntry G.FnMut gone.old (ix, item) }
+    requires given { (item : T) → get items.old.store ix ≡ Some item → TakesPair G.FnMut gone.old (ix, item) }
     ensures map { IsIndexed (X.indexes indexes.new) state.now items.new.store }
     ensures given { (item : T) → get items.old.store ix ≡ Some item →
-        GivesEntry G.FnMut gone.old (ix, item) gone.new }
+        GivesPair G.FnMut gone.old (ix, item) gone.new }
     ensures removed { items.new ≡ record items.old { store = removed items.old.store ix } }
     ensures items_room { set_room items.new ≡ set_room items.old + 1 }
     ensures enough { (blocks : X.Blocks) → X.are_enough_after indexes.old blocks

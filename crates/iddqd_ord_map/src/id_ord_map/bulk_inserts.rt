@@ -7,7 +7,7 @@ ghost use Rattle.iddqd_map.specs.Bulk.{inserted_all, inserted_count};
 ghost use Rattle.iddqd_map.specs.BulkOverwrite.{HandsOver, MayDisplace, overwritten_count};
 ghost use Rattle.iddqd_map.specs.Calls.{IsDuplicate};
 ghost use Rattle.iddqd_map.specs.Map.{room};
-ghost use Rattle.iddqd_map.specs.Ranges.{GivesEntry};
+ghost use Rattle.iddqd_map.specs.Sweep.{GivesPair};
 ghost use Rattle.iddqd_ord_map.specs.OrdMap.{InsertsFromInOrder, MakesOfInOrder, OverwritesFromInOrder, RefusesOneInOrder};
 
 use super::OrdMapBy;
@@ -92,9 +92,9 @@ impl<T: Drop, E: OrdKey<T>> OrdMapBy<T, E> {
         requires next { I.can_next iter }
         requires fits { UpTo (I.remaining iter) usize.MAX }
         requires given { MayDisplace I.next_gives G.FnMut iter gone self.old.store }
-        ensures overwrites { OverwritesFromInOrder E.key_of E.cmp (GivesEntry G.FnMut) I.next_gives I.remaining iter
+        ensures overwrites { OverwritesFromInOrder E.key_of E.cmp (GivesPair G.FnMut) I.next_gives I.remaining iter
             self.old gone result self.new }
-        ensures handed { (last : G) × HandsOver (GivesEntry G.FnMut) gone last self.old.store self.new.store
+        ensures handed { (last : G) × HandsOver (GivesPair G.FnMut) gone last self.old.store self.new.store
             (overwritten_count result) }
         ensures not_refused { UpTo (I.remaining iter) (room self.old) → IsOk result }
         ensures goes_on { IfErr result (λ stopped. I.can_next stopped.rest) }

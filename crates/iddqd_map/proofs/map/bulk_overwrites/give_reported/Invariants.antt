@@ -5,7 +5,7 @@ use Rattle.iddqd.specs.Store.{live_count}
 use Rattle.iddqd_hash.specs.Asks.{CanAsk}
 use Rattle.iddqd_map.specs.KeyIndex.{IsIndexed}
 use Rattle.iddqd_map.specs.BulkOverwrite.{GivesSomewhere, TakesAnywhere}
-use Rattle.iddqd_map.specs.Ranges.{GivesEntry}
+use Rattle.iddqd_map.specs.Sweep.{GivesPair}
 use Rattle.iddqd_map.proofs.DisplaceLemmas.{Displacing}
 use Rattle.iddqd_map.proofs.map.bulk_overwrites.give_reported.Given as goal
 
@@ -16,7 +16,7 @@ invariant-loop-next g l = record {
       (live_items l.fn.items.store);
   enough : (blocks : g.row.X-Blocks.Denot) → g.X.Changes.are_enough_after l.fn.indexes blocks
       → g.X.Changes.are_enough_after l.indexes blocks;
-  displacing : Displacing (g.X.Changes.reports l.at) l.fn.items.store (GivesEntry g.G.FnMut) l.fn.gone
+  displacing : Displacing (g.X.Changes.reports l.at) l.fn.items.store (GivesPair g.G.FnMut) l.fn.gone
       ((1 ≤ room l.items)
       × ((plan : g.row.X-InsertPlan.Denot) (blocks : g.row.X-Blocks.Denot)
       → g.X.Changes.are_enough_after l.fn.indexes blocks → g.X.Changes.has_room_for l.indexes plan blocks))
