@@ -206,19 +206,19 @@ class Functions:
         self.add_read(f"How many {self.plural} have {this}.", f"count_of_{of}", given, "usize",
                       f"CountsHits {self.map}.now.store {test} result", self.call(key, call, [argument]))
 
-    def add_range(self, key, name, given, which, test, call, arguments):
+    def add_range(self, key, name, given, which, test, call, arguments, inferred=1):
         self.add_read(f"The {self.plural} {which}.", name, given, f"Range<'_, {self.kind}>",
                       f"IteratesInOrder compare_by_{key.name} {test} {self.map}.now.store result",
-                      self.call(key, call, arguments))
+                      self.call(key, call, arguments, inferred))
 
-    def add_removal(self, key, name, given, which, test, call, arguments):
+    def add_removal(self, key, name, given, which, test, call, arguments, inferred=2):
         m = self.map
         self.add_write(f"Removes the {self.plural} {which}, and returns how many they were.", f"remove_{name}", given,
                        "usize", [
                            ("left", f"LeavesOthers {m}.old.store {test} {m}.new.store"),
                            ("count", f"result + live_count {m}.new.store ≡ live_count {m}.old.store"),
                            ("memory", f"{m}.new.memory ≡ {m}.old.memory"),
-                       ], self.call(key, call, [*arguments, f"|_{self.item}| ()"], 2))
+                       ], self.call(key, call, [*arguments, f"|_{self.item}| ()"], inferred))
         self.prove_signed(f"remove_{name}", given, call, "left")
 
     # Calls in the order of a key.
@@ -252,14 +252,14 @@ class Functions:
         values = [*map(said, fixed), *(said(last, name=end) for end in ends)]
         test = f"(has_{key.name}_between {' '.join(values)})"
         queries = (tuple_of([*map(query, fixed), query(last, name=end)]) for end in ends)
-        arguments = [f"Bound::Included({it})" for it in queries]
+        range_ = "..=".join(queries)
         of = f"of_{'_and_'.join(field.name for field in fixed)}_" if fixed else ""
         which = f"with {these(fixed)} " if fixed else ""
         which += f"whose {last.words} is within the bounds, which are included"
         by = last.words if key.is_unique else f"{last.words} and then by index"
         name = f"{of}{last.name}_between"
-        self.add_range(key, name, given, f"{which}, and their indexes, by {by}", test, "range_by", arguments)
-        self.add_removal(key, name, given, which, test, "remove_range_by", arguments)
+        self.add_range(key, name, given, f"{which}, and their indexes, by {by}", test, "range_by", [range_], 2)
+        self.add_removal(key, name, given, which, test, "remove_range_by", [range_], 3)
 
     def order_words(self, key):
         return key.words if key.is_unique else f"{key.words} and then by index"
