@@ -158,7 +158,7 @@ renamed-in_order {K} {cmp} total key key' s t u sorted holds is same =
     (IsInKeyOrder-renamed total key key' (rank s) (order_of t) (λ i here. same i ((holds.each i).0 here))
     (λ i j here there less. rank_rises s i j less ((holds.each i).0 here)) sorted)
 
--- a record with another key: removed, sought in the list without it, and inserted at the place where its new key belongs
+-- a record whose key changed: its index is removed, sought in the list without it, and inserted where it belongs now
 pub moved-in_order :
     {K : Type 0} {cmp : K → K → Ordering} (total : IsTotalOrder cmp) (key key' : ℕ → K) (ix : ℕ) (way : Way)
     (t mid u : Order)

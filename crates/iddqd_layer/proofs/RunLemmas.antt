@@ -126,7 +126,9 @@ served-along :
     → count_by is_insert commands ≤ room old
     → All IsServed replies
 served-along No_step keeps some = All-nil IsServed
-served-along {old = old} (Next_step {next = next} {command = command} {reply = reply} {commands = rest_of} {replies = others} step rest) keeps some =
+served-along {old = old}
+    (Next_step {next = next} {command = command} {reply = reply} {commands = rest_of} {replies = others} step rest)
+    keeps some =
     let more = count-more command rest_of in
     let used = used-by_insert old next command reply step.answers in
     let left = step.room (All-head (λ command. is_shrink command ≡ false) command rest_of keeps) in

@@ -4,9 +4,12 @@
 //! way and takes all memory before it writes anything, so nothing is left in one table alone. A removal finds the index
 //! in each table, by a walk if a hash or a way is wrong.
 //!
-//! A key that changed in order has no call that moves its index: the way to the new place is found while the index
-//! stands at the old one, and is stale once it has left. So `remove`, search, and `insert`, which gives the same index,
-//! and takes no memory within the capacity.
+//! A key that changed in order has no call that moves its index. A way to the new place that was found while the index
+//! stood at the old one is stale once it has left, since nodes merge then. An insert before the removal would need a
+//! node where the table is full, so it could run out of memory. To find the gap again by its place in the list would
+//! take a step for each index. So a record is moved by `remove`, a search, and `insert`. The index is the same (`next`
+//! of `remove`). Where the ordered tables fit their memory there is room for it (`freed`), so no memory is taken. The
+//! place is one in the list without the index: `moved-in_order` of `LawfulLemmas`.
 ghost use Rattle.std.specs.Prelude.{◌≡◌, ◌≢◌, ◌↔◌, ◌+◌, ◌-◌, ◌<◌, ◌≤◌, ℕ, length, max, min, slice_get, slice_index_or, IfOk, IfSome, IsNone, IsOk, OnOk, OnErr, Err, IsTrue, true, false, option_copied};
 ghost use Rattle.iddqd.specs.Compaction.{IsRemapOf, compacted, rank};
 ghost use Rattle.iddqd.specs.ItemSet as slots;
