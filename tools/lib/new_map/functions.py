@@ -252,14 +252,15 @@ class Functions:
         values = [*map(said, fixed), *(said(last, name=end) for end in ends)]
         test = f"(has_{key.name}_between {' '.join(values)})"
         queries = (tuple_of([*map(query, fixed), query(last, name=end)]) for end in ends)
-        range_ = "..=".join(queries)
+        # Not `from..=to`: what that is made by has to be named in a proof file.
+        both = tuple_of([f"Bound::Included({it})" for it in queries])
         of = f"of_{'_and_'.join(field.name for field in fixed)}_" if fixed else ""
         which = f"with {these(fixed)} " if fixed else ""
         which += f"whose {last.words} is within the bounds, which are included"
         by = last.words if key.is_unique else f"{last.words} and then by index"
         name = f"{of}{last.name}_between"
-        self.add_range(key, name, given, f"{which}, and their indexes, by {by}", test, "range_by", [range_], 2)
-        self.add_removal(key, name, given, which, test, "remove_range_by", [range_], 3)
+        self.add_range(key, name, given, f"{which}, and their indexes, by {by}", test, "range_by", [both], 2)
+        self.add_removal(key, name, given, which, test, "remove_range_by", [both], 3)
 
     def order_words(self, key):
         return key.words if key.is_unique else f"{key.words} and then by index"
