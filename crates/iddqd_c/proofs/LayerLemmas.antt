@@ -71,7 +71,8 @@ under_most hash t =
     let m = filed t in
     let has : ℕ × ℕ → Bool = λ e. e.1 == hash in
     let es = finite.entries m in
-    omega (arith, finite.len-entries m, length-map (filter has es) (λ e. e.0), length-filter has es, count_by-le-length has es)
+    let under = length-map (filter has es) (λ e. e.0) in
+    omega (arith, finite.len-entries m, under, length-filter has es, count_by-le-length has es)
 
 module _ (s : Store (Unit {0})) where
   opened :
