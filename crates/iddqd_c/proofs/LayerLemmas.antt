@@ -70,7 +70,9 @@ pub under_most : (hash : ℕ) (t : Table ℕ) → length (indexes_under hash (fi
 under_most hash t =
     let m = filed t in
     let has : ℕ × ℕ → Bool = λ e. e.1 == hash in
-    omega (arith, finite.len-entries m, length-map (filter has (finite.entries m)) (λ e. e.0), length-filter has (finite.entries m), count_by-le-length has (finite.entries m))
+    let es = finite.entries m in
+    let under = length-map (filter has es) (λ e. e.0) in
+    omega (arith, finite.len-entries m, under, length-filter has es, count_by-le-length has es)
 
 module _ (s : Store (Unit {0})) where
   opened :
@@ -96,7 +98,9 @@ module _ (s : Store (Unit {0})) where
   -- from behind the last slot on there is none
   pub live_none : (ix : ℕ) → slot_count s ≤ ix → live_from ix s ≡ []
   live_none ix past =
-      ap (filter (λ k. is_some (get s k))) (drop_of_length-le (numbers (slot_count s)) (omega (arith, past, length-numbers (slot_count s))))
+      let n = slot_count s in
+      let none = drop_of_length-le (numbers n) (omega (arith, past, length-numbers n)) in
+      ap (filter (λ k. is_some (get s k))) none
 
 pub not_live : (b : Bool) → (b ≡ true → ⊥) → b ≡ false
 not_live true never = absurd (never refl)

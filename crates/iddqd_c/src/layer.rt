@@ -28,12 +28,7 @@ use std::alloc::Global;
 
 /// Makes an empty layer with this many hashed and ordered keys, at most sixteen of each, where the handle is zero.
 #[unsafe(no_mangle)]
-pub extern "C" fn iddqd_layer_new(
-    t: &mut CTable,
-    alloc: Global,
-    hashed: u32,
-    ordered: u32,
-) -> u32
+pub extern "C" fn iddqd_layer_new(t: &mut CTable, alloc: Global, hashed: u32, ordered: u32) -> u32
     ensures codes { (result ≡ OK) ⊎ (result ≡ COUNT) ⊎ (result ≡ MEMORY) ⊎ (result ≡ HANDLE) }
     ensures handle { (result ≡ HANDLE) ↔ (t.old.state ≢ 0) }
     ensures few { result ≡ OK → AreFew hashed ordered }

@@ -59,10 +59,12 @@ HasRead-step towards xs from at i j ix was now h within s =
     let opened : now ≡ done ++ next ∷ behind = h.filled ∙ ap (λ ys. done ++ ys) (drop_more was at ix within) in
     let put : slice_set now at ix ≡ done ++ ix ∷ behind =
     ap (λ ys. slice_set ys at ix) opened
-    ∙ subst (λ n. slice_set (done ++ next ∷ behind) n ix ≡ done ++ ix ∷ behind) h.counted (set-append_seam done next behind ix) in
+    ∙ subst (λ n. slice_set (done ++ next ∷ behind) n ix ≡ done ++ ix ∷ behind) h.counted
+    (set-append_seam done next behind ix) in
     record {
       done = done ++ ix ∷ [];
-      joined = h.joined ∙ ap (λ ys. done ++ ys) (ahead-step towards xs i j ix s) ∙ sym (append_assoc done (ix ∷ []) (ahead_of towards j xs));
+      joined = h.joined ∙ ap (λ ys. done ++ ys) (ahead-step towards xs i j ix s)
+          ∙ sym (append_assoc done (ix ∷ []) (ahead_of towards j xs));
       counted = length_push done ix ∙ ap (λ n. n + 1) h.counted;
       filled = put ∙ sym (append_assoc done (ix ∷ []) behind);
       ahead = lies-step towards xs from at i j ix h.ahead s;
@@ -88,7 +90,7 @@ fills-at towards xs from at gap was now h le ended =
     ap length h.joined ∙ length-append h.done rest ∙ ap (λ n. n + length rest) h.counted in
     record {
       fills = record {
-        counted = elim ended [ | inl full ↦ omega arith | inr none ↦ omega arith ];
+        counted = elim ended [ inl full ↦ omega arith | inr none ↦ omega arith ];
         filled = h.filled
             ∙ ap (λ ys. ys ++ drop at was) (sym (ap (take at) h.joined ∙ take_at h.done rest at h.counted));
       };

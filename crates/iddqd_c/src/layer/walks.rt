@@ -63,12 +63,7 @@ fn walk(table: &Table, key: u32, way: &mut Way, indexes: &mut [u32], count: &mut
     }
 }
 
-fn read_behind(
-    order: &MapBTreeTable,
-    way: &mut Way,
-    indexes: &mut [u32],
-    count: &mut usize,
-) -> u32
+fn read_behind(order: &MapBTreeTable, way: &mut Way, indexes: &mut [u32], count: &mut usize) -> u32
     ensures walks { WalksBehind way.old way.new result count.new indexes.old indexes.new order.now }
     ensures way_kept { result ≢ OK → way.new ≡ way.old }
     ensures kept { result ≢ OK → (indexes.new ≡ indexes.old) × (count.new ≡ count.old) }
@@ -113,13 +108,7 @@ pub extern "C" fn iddqd_layer_walk_back(
     answer
 }
 
-fn walk_back(
-    table: &Table,
-    key: u32,
-    way: &mut Way,
-    indexes: &mut [u32],
-    count: &mut usize,
-) -> u32
+fn walk_back(table: &Table, key: u32, way: &mut Way, indexes: &mut [u32], count: &mut usize) -> u32
     ensures walks { ReadsLayer (ReadsOrdered (WalksBefore way.old way.new result count.new indexes.old indexes.new)
         key result) (Some table.now) result }
     ensures way_kept { result ≢ OK → way.new ≡ way.old }
@@ -134,12 +123,7 @@ fn walk_back(
     }
 }
 
-fn read_before(
-    order: &MapBTreeTable,
-    way: &mut Way,
-    indexes: &mut [u32],
-    count: &mut usize,
-) -> u32
+fn read_before(order: &MapBTreeTable, way: &mut Way, indexes: &mut [u32], count: &mut usize) -> u32
     ensures walks { WalksBefore way.old way.new result count.new indexes.old indexes.new order.now }
     ensures way_kept { result ≢ OK → way.new ≡ way.old }
     ensures kept { result ≢ OK → (indexes.new ≡ indexes.old) × (count.new ≡ count.old) }

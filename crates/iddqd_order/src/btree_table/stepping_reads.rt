@@ -114,12 +114,7 @@ impl<'a> Cursor<'a> {
     }
 
     // Moves over the next index towards an end, and returns it.
-    fn step(
-        &mut self,
-        root: &'a Option<Node>,
-        height: usize,
-        towards: End,
-    ) -> Option<ItemIndex>
+    fn step(&mut self, root: &'a Option<Node>, height: usize, towards: End) -> Option<ItemIndex>
         requires tree { IsTree root.now height }
         requires stands { Stands root.now height self.old }
         ensures stands { Stands root.now height self.new }

@@ -30,7 +30,8 @@ returns c =
     let few : length c.indexes_under-found.result ≤ finite.len (filed c.args.filed.now) =
     omega (arith, length_permutation _ _ c.indexes_under-found.ensures, under_most c.new.result c.args.filed.now) in
     let most = c.len-at-end.ensures in
-    let at_end : c.loop-at.at ≡ finite.len (filed c.args.filed.now) = omega (arith, c.loop-at.auto.at-end, c.loop-at-test.false, most) in
+    let at_end : c.loop-at.at ≡ finite.len (filed c.args.filed.now) =
+    omega (arith, c.loop-at.auto.at-end, c.loop-at-test.false, most) in
     let none : c.loop-at.found ≡ [] = nothing_left _ _ _ _ _ c.loop-at.invariant (omega (arith, few, at_end)) in
     let end = IsCopied-end _ _ _ _ (rw none at c.loop-at.invariant) in
     record {

@@ -12,7 +12,8 @@ pub returns-in-None : goal.returns-in-None
 returns-in-None c =
     let is = c.loop-at.invariant in
     let all = length_filled _ _ _ _ _ is in
-    let none : length (live_from c.loop-at.next (store_of c.args.layer.now)) ≡ 0 = ap length (c.in-None.ensures.none refl) in
+    let none : length (live_from c.loop-at.next (store_of c.args.layer.now)) ≡ 0 =
+    ap length (c.in-None.ensures.none refl) in
     Fills-from _ _ _ _ _ is (omega (arith, all, none, c.loop-at-test.true, c.loop-at.auto.indexes))
 
 pub loop-at-preserved : goal.loop-at-preserved
@@ -25,5 +26,6 @@ returns c =
     let is = c.loop-at.invariant in
     let all = length_filled _ _ _ _ _ is in
     let long = c.loop-at.auto.indexes in
-    let end : c.loop-at.at ≡ length c.args.indexes.now = omega (arith, c.loop-at.auto.at-end, c.loop-at-test.false, long) in
+    let end : c.loop-at.at ≡ length c.args.indexes.now =
+    omega (arith, c.loop-at.auto.at-end, c.loop-at-test.false, long) in
     rw (long ∙ sym end) (Fills-from _ _ _ _ _ is (omega (arith, all, end)))
