@@ -10,7 +10,7 @@ ghost use Rattle.iddqd_maps.specs.Calls.{IsDuplicate};
 ghost use Rattle.iddqd_maps.specs.Compaction.{compacted};
 ghost use Rattle.iddqd_maps.specs.Groups.{CountsHits};
 ghost use Rattle.iddqd_maps.specs.KeyOrder.{AreInKeyOrder, FindsEnd, IsKeyWalk, PopsEnd};
-ghost use Rattle.iddqd_maps.specs.Map.{FindsItem, Removes, RemovesAt, RemovesHit, capacity, empty_map, room};
+ghost use Rattle.iddqd_maps.specs.Map.{FindsItem, Removes, RemovesAt, RemovesFull, RemovesHit, capacity, empty_map, room};
 ghost use Rattle.iddqd_maps.specs.OneKey.{IsTaken};
 ghost use Rattle.iddqd_maps.specs.Ranges.{TakesItem};
 ghost use Rattle.iddqd_maps.specs.Scan.{AnswersScan, HasNoHit, IsHit};
@@ -253,6 +253,13 @@ pub fn take(board: &mut Board, hour: u32) -> Option<Score>
     ensures { Removes board.old (λ score. eq_by_cmp nat_cmp hour score.hour) result board.new }
 {
     board.remove(&hour)
+}
+
+/// Takes the score of an hour, and says which index it had. All others stay.
+pub fn take_full(board: &mut Board, hour: u32) -> Option<(ItemIndex, Score)>
+    ensures { RemovesFull board.old (λ score. eq_by_cmp nat_cmp hour score.hour) result board.new }
+{
+    board.remove_full(&hour)
 }
 
 /// Takes the score at an index. All others stay.

@@ -77,7 +77,7 @@ PART_TYPES = [("iddqd_map", "Parts"), ("iddqd_groups", "ByHashMultiOf")]
 REFUSAL_TYPES = [("iddqd_map", "InsertRefusal"), ("iddqd_map", "OverwriteRefusal"), ("iddqd_map", "ReplaceRefusal"),
                  ("iddqd_map", "Stopped"), ("iddqd_map", "StoppedOverwrite"),
                  ("iddqd_map", "PairConflict"), ("iddqd_map", "NoConflict"),
-                 ("iddqd_map", "BiClash"), ("iddqd_map", "TriClash"), ("iddqd_map", "Appended"),
+                 ("iddqd_map", "BiClash"), ("iddqd_map", "TriClash"), ("iddqd_map", "StoppedAppend"),
                  ("iddqd", "GrowError"), ("iddqd", "ItemIndex"), ("iddqd", "IndexRemap"), ("iddqd_driver", "InsertRefusal"),
                  ("iddqd_tri", "TriRefusal"), ("iddqd", "ValidateRefusal"),
                  ("iddqd", "ValidationError"), ("iddqd", "TableValidationError")]
