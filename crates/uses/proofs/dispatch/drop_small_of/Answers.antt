@@ -6,7 +6,7 @@ use Rattle.uses.proofs.dispatch.drop_small_of.Goals as goal
 pub returns-clause-dropped : goal.returns-clause-dropped
 returns-clause-dropped c =
     let least : ℕ × Order → _ = λ p. nat_le c.args.least p.1.amount in
-    let (last, retains) = c.retain_in.ensures.asked in
+    let (last, retains) = rw c.having.ensures at c.retain_in.ensures.asked in
     Drops-retained c.args.dispatch.now.store c.retain_in.new.self.store
     (λ (order : Order). order.customer)
     (λ (customer : ℕ). c.args.customer == customer)
@@ -18,4 +18,4 @@ returns-clause-dropped c =
     (RetainsSelected-stays _ (λ s. s.0.now ≡ c.args.least) least (λ s p b t i asked. search rules) _ _ _ _ _ refl retains)
     (λ ix item live inside. RetainsSelected-gone _ (λ s. s.0.now ≡ c.args.least) least (λ s p b t i asked. search rules)
     _ _ _ _ _ refl retains ix item live ((retains.listed.each ix).1 (item, live, inside)))
-    c.retain_in.ensures.others
+    (rw c.having.ensures at c.retain_in.ensures.others)
