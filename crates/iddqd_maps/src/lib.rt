@@ -45,12 +45,12 @@ pub use iddqd::item_index::ItemIndex;
 pub use iddqd_groups::in_groups::GroupItems;
 pub use iddqd_map::bi_hash_map::BiClash;
 pub use iddqd_map::map::Parts;
+pub use iddqd_map::map::sweep::Swept;
 pub use iddqd_map::no_conflict::NoConflict;
 pub use iddqd_map::pair_conflict::PairConflict;
 pub use iddqd_map::refusal::{
     InsertRefusal, OverwriteRefusal, ReplaceRefusal, Stopped, StoppedAppend, StoppedOverwrite,
 };
-pub use iddqd_map::map::sweep::Swept;
 pub use iddqd_map::tri_hash_map::TriClash;
 pub use iddqd_map::verdict::Verdict;
 

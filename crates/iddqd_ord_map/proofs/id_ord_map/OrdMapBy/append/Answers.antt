@@ -4,4 +4,4 @@ pub returns-clause-appends : goal.returns-clause-appends
 returns-clause-appends g c = rw (← c.self.view_is, ← c.other.view_is) c.append.ensures.appends
 
 pub returns-clause-reported : goal.returns-clause-reported
-returns-clause-reported g c = rw (← c.self.view_is, ← c.other.view_is) c.append.ensures.reported
+returns-clause-reported g c = rw (← c.other.view_is) c.append.ensures.reported
