@@ -9,8 +9,7 @@ returns-then-height-eq0-clause-full t c =
     record {
       above = c.requires.above;
       not_full = c.full_from-full.ensures.not_full;
-      is_full =
-          c.full_from-full.ensures.is_full;
+      is_full = c.full_from-full.ensures.is_full;
     } in
     full-at c.full_from-full.result c.args.height c.args.self.now c.args.path.now
     (counts_here c.args.self.now c.args.full c.args.height c.full_from-full.result c.full_from-full.result counts
@@ -40,8 +39,7 @@ returns-clause-full t c =
     record {
       above = c.requires.above;
       not_full = c.full_from-full.ensures.not_full;
-      is_full =
-          c.full_from-full.ensures.is_full;
+      is_full = c.full_from-full.ensures.is_full;
     } in
     full-at c.fullness.result c.args.height c.args.self.now c.args.path.now
     (counts_here c.args.self.now c.args.full c.args.height c.full_from-full.result c.fullness.result counts
