@@ -12,8 +12,9 @@
  *     iddqd_free(&users);
  *
  * A table lives behind a handle of two words, `iddqd_table`. A handle begins as IDDQD_NONE, which is also what zeroed
- * memory is; `iddqd_keyed_new`, `iddqd_keyed_new_shared` and `iddqd_index_new` open it, and `iddqd_free` closes it. Every
- * other function on a handle that is closed, or that has a table of another kind, returns IDDQD_HANDLE and does nothing.
+ * memory is. `iddqd_keyed_new`, `iddqd_keyed_new_shared`, `iddqd_index_new`, `iddqd_layer_new` and `iddqd_layer_clone`
+ * open it, and `iddqd_free` closes it. Every other function on a handle that is closed, or that has a table of another
+ * kind, returns IDDQD_HANDLE and does nothing.
  * Reads take the handle as one to write to, too: each function takes the table out of it and puts it back.
  *
  * A function writes through a pointer that it got for an answer only where its comment says so; with any other code the
@@ -27,6 +28,10 @@
  *     keyed_range, _range_down        the rows there are     is filled; OK              the rows that were written
  *     keyed_group                     the rows there are     is filled; OK              the rows that were written
  *     index_under                     the numbers there are  is filled; OK              the numbers there are
+ *     layer_under                     the indexes there are  is filled; OK              the indexes there are
+ *     layer_walk, _walk_back, _live   the indexes there are  is filled; OK              the indexes that were written
+ *     layer_enter, _row, _down        those of the row       stays as it was; SMALL     the indexes of the row
+ *     layer_compact                   the slots              stays as it was; SMALL     the slots
  *     keyed_key                       the bytes of the key   stays as it was; SMALL     the bytes of the key
  *     keyed_compact                   the slots              stays as it was; SMALL     the slots
  *     keyed_find_many, _find_many1    the keys               stays as it was; SMALL     (there is none)
@@ -52,7 +57,7 @@ extern "C" {
 #endif
 
 /* The version of this header, and that of the library. They differ if a program was compiled with another header. */
-#define IDDQD_VERSION UINT32_C(2)
+#define IDDQD_VERSION UINT32_C(3)
 uint32_t iddqd_version(void);
 
 /* What the functions return, as a uint32_t. */
@@ -64,7 +69,10 @@ typedef enum iddqd_code {
     IDDQD_MEMORY = 4,    /* memory ran out; no item changed */
     IDDQD_HANDLE = 5,    /* no table, or one of another kind; of a function that makes one: the handle isn't zero */
     IDDQD_SMALL = 6,     /* the buffer is too short; nothing was written to it, and nothing changed */
-    IDDQD_UNSOUND = 7    /* a check failed: something else has written to the memory of the table */
+    IDDQD_UNSOUND = 7,   /* a check failed: something else has written to the memory of the table */
+    IDDQD_COUNT = 8,     /* not as many hashes or ways as keys; or more than IDDQD_KEYS keys of a kind; nothing changed */
+    IDDQD_KEY = 9,       /* the layer has no key of that number; nothing changed */
+    IDDQD_WAY = 10       /* the way leads to no node, child or gap of the table as it is now; nothing changed */
 } iddqd_code;
 
 /* A table, or none. Write neither field. */
@@ -301,6 +309,168 @@ uint32_t iddqd_index_len(iddqd_table *table, size_t *count);
 /* Forgets all pairs, and keeps the memory. OK.
  * Cost: clears the cells of the table. */
 uint32_t iddqd_index_clear(iddqd_table *table);
+
+/* ---- A layer: indexes under hashed and ordered keys, for records in the caller's own memory
+ *
+ * The caller keeps records of any type in an array of its own, compares them and computes their hashes itself. The
+ * layer draws an index for each record, and keeps a table of the indexes for each key: a hash table for each hashed key,
+ * a list in order for each ordered key. So adding a record to an array `books` in the order of `compare` is:
+ *
+ *     iddqd_layer_new(&layer, 1, 1);                       one hashed key and one ordered key
+ *     uint32_t code = iddqd_layer_enter(&layer, 0, &way, row, IDDQD_ROW, &n);
+ *     for (;; code = iddqd_layer_down(&layer, 0, &way, place, row, IDDQD_ROW, &n)) {
+ *         for (place = 0; place < n && compare(&books[row[place]], &book) < 0; place++) {}
+ *         if (way.level == 0) break;
+ *     }
+ *     way.places[0] = (uint8_t)place;                      the gap before the first book that isn't less
+ *     if (iddqd_layer_insert(&layer, &hash, 1, &way, 1, &index) == IDDQD_OK)
+ *         books[index] = book;
+ *
+ * docs/LAYER.md has a whole program. Keys are numbered from 0, the hashed ones and the ordered ones apart.
+ *
+ * No function here calls back: a search is handed to the caller a node at a time. Whatever the caller's comparisons and
+ * hashes are, and whatever it passes as a way, a hash or an index: each table has each live index exactly once and no
+ * other, and a function returns a code. That an order is by key and that no two records are equal is up to the caller.
+ * An honest search ends at the one right gap.
+ *
+ * A way is plain data: it may be copied, kept, or filled with any bytes. It holds for a table until an index is inserted,
+ * removed, cleared or compacted there; `rehash`, `reserve`, `shrink_to` and reads leave it as it is. A stale way is
+ * refused as IDDQD_WAY, or leads to some place of the table: an insert there puts the index at a wrong place of the
+ * order. So insert with ways that were found since the last change.
+ *
+ * Where nothing is said of memory, a function takes none. One call at a time works on a layer, in the thread that made
+ * it, as on all tables. That holds for reads too, since each call writes to the handle: no two threads may read a layer
+ * at the same time.
+ *
+ * Any hash serves that equal keys share, also an integer or an address itself: the layer mixes it. Each call on a hash
+ * goes through the indexes under it. So to insert or remove n indexes under one hash, one call each, takes time that
+ * grows with the square of n. If many records share a key, give it an ordered key instead, where a call costs some steps
+ * a level however many are equal, or put the first of them alone under the hash and chain the others to it.
+ */
+
+/* The most keys of one kind, and the most indexes of a node's row. */
+#define IDDQD_KEYS 16
+#define IDDQD_ROW 11
+
+/* The way to a node of an ordered key's table: the place that it takes at each level above the node, and the node's
+ * level, which is 0 in a leaf. places[level] is a place in the node itself. In a leaf it is that of a gap: gap i lies
+ * before index i of the row, and the last gap behind all of them. */
+typedef struct iddqd_way {
+    uint8_t places[12];
+    uint32_t level;
+} iddqd_way;
+
+/* Makes an empty layer with so many hashed and ordered keys, where the handle is zero: OK, MEMORY, HANDLE where it isn't
+ * zero, COUNT where more than IDDQD_KEYS of one kind are asked for.
+ * Cost: a step for each key; takes memory for the block behind the handle and for the list of the tables. */
+uint32_t iddqd_layer_new(iddqd_table *layer, uint32_t hashed, uint32_t ordered);
+
+/* Makes a copy in the other handle, which has to be zero: OK, MEMORY, and nothing is left of the copy, or HANDLE. The
+ * copy has the same live indexes and slots, and the same indexes in each table.
+ * Cost: a step for each slot and each index of each table; takes memory for them. */
+uint32_t iddqd_layer_clone(iddqd_table *layer, iddqd_table *copy);
+
+/* The indexes under a hash in a hashed key, in no order that a caller can rely on, as many as the buffer of `room` places
+ * has room for. OK: *count is how many there are, also past the buffer. KEY. Compare their records to find the one
+ * sought: two keys may share a hash.
+ * Cost: a look-up; a step for each index under the hash. */
+uint32_t iddqd_layer_under(iddqd_table *layer, uint32_t key, uint64_t hash, uint32_t *indexes, size_t room,
+                           size_t *count);
+
+/* The steps of a search in an ordered key. `enter` is the root of the table, `row` the node to which a way leads, `down`
+ * the child at a place of the node's row: child i lies before index i of the row, and the last child behind all of them.
+ * OK: the row of the node is in the buffer, in order, and *count is how many indexes it has, at most IDDQD_ROW; of
+ * `enter` and `down` *way leads to the node. KEY. WAY: there is no such node or child. SMALL: the row has *count indexes,
+ * and the buffer has fewer places; the way stays.
+ *
+ * All indexes that lie below a node stand together in the order. Those of its row divide them: what lies below child i
+ * stands between the indexes i - 1 and i of the row.
+ * Cost: a step for each level above the node. A search takes one call a level: 3 or 4 at 1,000 indexes, 6 or 7 at a
+ * million. */
+uint32_t iddqd_layer_enter(iddqd_table *layer, uint32_t key, iddqd_way *way, uint32_t *row, size_t room,
+                           size_t *count);
+uint32_t iddqd_layer_row(iddqd_table *layer, uint32_t key, const iddqd_way *way, uint32_t *row, size_t room,
+                         size_t *count);
+uint32_t iddqd_layer_down(iddqd_table *layer, uint32_t key, iddqd_way *way, uint32_t place, uint32_t *row, size_t room,
+                          size_t *count);
+
+/* Whether a way leads to a gap of a leaf, where an index can be inserted and a walk can begin: level 0, and places[0] at
+ * most the number of indexes of the row. OK. WAY: it doesn't. KEY.
+ * Cost: some steps for each level. */
+uint32_t iddqd_layer_gap(iddqd_table *layer, uint32_t key, const iddqd_way *way);
+
+/* The indexes behind the gap of a way, in order, or those before it, from the last one down, as many as the buffer of
+ * `room` places has room for. OK: *count is how many were written, and the way has moved to the gap beyond the last of
+ * them. So the same call goes on from there; it has come to the end when it writes fewer than the buffer has room for.
+ * WAY: the way leads to no gap. KEY.
+ * Cost: some steps for each level, then a step for each index. */
+uint32_t iddqd_layer_walk(iddqd_table *layer, uint32_t key, iddqd_way *way, uint32_t *indexes, size_t room,
+                          size_t *count);
+uint32_t iddqd_layer_walk_back(iddqd_table *layer, uint32_t key, iddqd_way *way, uint32_t *indexes, size_t room,
+                               size_t *count);
+
+/* The live indexes that are at least `from`, by number, as many as the buffer of `room` places has room for. OK: *count
+ * is how many were written. Begin with 0. To go on, call it again with the last one plus 1.
+ * Cost: a step for each slot that it passes. */
+uint32_t iddqd_layer_live(iddqd_table *layer, uint32_t from, uint32_t *indexes, size_t room, size_t *count);
+
+/* Whether an index is live. OK: it is. MISSING: it isn't.
+ * Cost: a few steps. */
+uint32_t iddqd_layer_is_live(iddqd_table *layer, uint32_t index);
+
+/* Draws the next index, and inserts it into each hashed key under its hash, and into each ordered key at the gap to which
+ * its way leads. hashes[i] is for hashed key i, ways[i] for ordered key i. OK: *index is the index: the one that was freed
+ * last, or the number of slots if none is free. COUNT: there are not `hash_count` hashed keys or not `way_count` ordered
+ * ones. WAY: a way leads to no gap. FULL: IDDQD_SENTINEL indexes are live. MEMORY. With any of these codes each table has
+ * what it had, and all ways stay right. It is refused for the first of them that holds, in this order.
+ * Cost: a look-up for each hashed key, some steps for each level of each ordered key; takes memory where a table has no
+ * room. */
+uint32_t iddqd_layer_insert(iddqd_table *layer, const uint64_t *hashes, size_t hash_count, const iddqd_way *ways,
+                            size_t way_count, uint32_t *index);
+
+/* Removes an index from the layer and from each table. OK: it was live. MISSING: it wasn't, and nothing changed. The
+ * index is the next that is drawn.
+ *
+ * hashes[i] says under which hash the index stands in hashed key i, and ways[i] at which node of ordered key i, with
+ * places[level] as its place in the row. They save time and nothing else: where one is wrong, or there are fewer than
+ * keys, the table is walked. More than there are keys aren't read.
+ * Cost: a look-up for each hashed key, some steps for each level of each ordered key; a step for each index of each table
+ * for which the hash or the way is wrong or missing. */
+uint32_t iddqd_layer_remove(iddqd_table *layer, uint32_t index, const uint64_t *hashes, size_t hash_count,
+                            const iddqd_way *ways, size_t way_count);
+
+/* Puts an index under another hash in one hashed key, for a record whose key changed. `from` is the hash that it stands
+ * under. OK. KEY. MISSING: the index isn't live. For a record whose ordered key changed, remove the index, search, and
+ * insert: the index is the same, and the insert takes no memory.
+ * Cost: two look-ups; if `from` is wrong, a step for each index. */
+uint32_t iddqd_layer_rehash(iddqd_table *layer, uint32_t index, uint32_t key, uint64_t from, uint64_t to);
+
+/* How many indexes are live, how many slots there are, which is one for each index that was used since the layer was
+ * made, compacted or cleared, and how many inserts need no memory. OK: *count is the number.
+ * Cost: a few steps; of room a step for each key. */
+uint32_t iddqd_layer_len(iddqd_table *layer, size_t *count);
+uint32_t iddqd_layer_slots(iddqd_table *layer, size_t *count);
+uint32_t iddqd_layer_room(iddqd_table *layer, size_t *count);
+
+/* Makes room in each table for so many more indexes, or for as many as there can be. OK. MEMORY: the contents stay.
+ * Cost: a step for each index of each table that grows; takes memory where there is less room. */
+uint32_t iddqd_layer_reserve(iddqd_table *layer, size_t additional);
+
+/* Gives back memory that is needed neither for the slots and indexes that there are nor for `least` of them. OK. MEMORY:
+ * there is none for the smaller tables; the contents stay.
+ * Cost: a step for each slot and each index, where memory is given back; takes memory for the smaller tables. */
+uint32_t iddqd_layer_shrink_to(iddqd_table *layer, size_t least);
+
+/* Forgets all indexes and slots, and keeps the memory. The next index is 0. OK.
+ * Cost: a step for each index of each table. */
+uint32_t iddqd_layer_clear(iddqd_table *layer);
+
+/* Gives each live index its rank as its new number, so that these are 0, 1 and so on, and no slot is vacant. OK:
+ * indexes[i] is the new number of index i, or IDDQD_SENTINEL if it wasn't live; *count is how many slots there were. Move
+ * each record from i to indexes[i], from 0 upwards. SMALL: there are *count slots, and the buffer of `room` places has
+ * fewer. MEMORY: there is none for a list of the new indexes, and nothing changed.
+ * Cost: a step for each slot and each index of each table; takes memory for that list if a slot is vacant. */
+uint32_t iddqd_layer_compact(iddqd_table *layer, uint32_t *indexes, size_t room, size_t *count);
 
 #ifdef __cplusplus
 }

@@ -1,5 +1,5 @@
-//! The keyed items of the library for C, called from C and from Rust, beside sqlite in memory, Boost.MultiIndex and two
-//! maps of std's. All have the same items: the least nanoseconds an entry over some rounds.
+//! The keyed items of the library for C, called from C and from Rust, and its layer over records in an array, called from
+//! C, beside sqlite in memory, Boost.MultiIndex and two maps of std's. All have the same items: the least nanoseconds an entry over some rounds.
 use iddqd_proved::Keyed;
 use rounds::Least;
 use shared::{Random, bench_now};
@@ -17,7 +17,7 @@ mod shared;
 const KEY: usize = 16;
 const ROWS: usize = 10;
 const PARTS: usize = 5;
-const SIDES: usize = 5;
+const SIDES: usize = 6;
 const NAMES: [&str; PARTS] =
     ["insert, growing", "find by the first key", "find by the second key", "range of 10", "remove by the first key"];
 
@@ -46,6 +46,7 @@ struct LoadPointers {
 
 unsafe extern "C" {
     fn ours_round(load: &LoadPointers) -> Round;
+    fn layer_round(load: &LoadPointers) -> Round;
     fn sqlite_round(load: &LoadPointers) -> Round;
     fn boost_round(load: &LoadPointers) -> Round;
 }
@@ -206,8 +207,9 @@ fn least(count: usize, rounds: usize) -> Least<PARTS, SIDES> {
     let mut random = Random(7);
     rounds::least(count, rounds, || {
         let load = Load::new(count, &mut random);
-        let [ours, sqlite, boost] = [ours_round, sqlite_round, boost_round].map(|round| load.run(round));
-        [ours, round_of::<Keyed>(&load), sqlite, boost, round_of::<TwoMaps>(&load)]
+        let in_c = [ours_round, layer_round, sqlite_round, boost_round];
+        let [ours, layer, sqlite, boost] = in_c.map(|round| load.run(round));
+        [ours, round_of::<Keyed>(&load), layer, sqlite, boost, round_of::<TwoMaps>(&load)]
     })
 }
 
@@ -217,12 +219,12 @@ fn main() {
     shared::keep_memory();
     let sizes = [(1_000, 200 * scale), (100_000, 4 * scale), (1_000_000, scale)];
     let all = sizes.map(|(count, rounds)| least(count, rounds));
-    println!("| ns an entry: from C, from Rust; sqlite, Boost, std's maps | 1,000 | 100,000 | 1,000,000 |");
+    println!("| ns an entry: from C, from Rust, a layer; sqlite, Boost, std's maps | 1,000 | 100,000 | 1,000,000 |");
     println!("|---|---|---|---|");
     for (at, name) in NAMES.iter().enumerate() {
         let cells = all.map(|least| {
-            let [c, rust, sqlite, boost, std] = least.map(|parts| parts[at]);
-            format!(" {c:.0}, {rust:.0}; {sqlite:.0}, {boost:.0}, {std:.0} |")
+            let [c, rust, layer, sqlite, boost, std] = least.map(|parts| parts[at]);
+            format!(" {c:.0}, {rust:.0}, {layer:.0}; {sqlite:.0}, {boost:.0}, {std:.0} |")
         });
         println!("| {name} |{}", cells.concat());
     }

@@ -4,8 +4,8 @@ use crate::NewError;
 use std::cell::UnsafeCell;
 use std::ptr::null_mut;
 
-/// The version of `iddqd.h` whose functions this file declares: its `IDDQD_VERSION`.
-pub(crate) const VERSION: u32 = 2;
+/// The version of `iddqd.h` that this file is for: its `IDDQD_VERSION`. Of its functions those on a layer aren't here.
+pub(crate) const VERSION: u32 = 3;
 
 /// What the functions return.
 pub(crate) const OK: u32 = 0;

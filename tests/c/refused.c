@@ -172,8 +172,122 @@ static int is_index_refused_at(long at) {
     return refused;
 }
 
+/* The way to the first gap of an ordered key. */
+static iddqd_way front(iddqd_table *table, uint32_t key, long at) {
+    iddqd_way way;
+    uint32_t row[IDDQD_ROW];
+    size_t count;
+    CHECK(iddqd_layer_enter(table, key, &way, row, IDDQD_ROW, &count) == IDDQD_OK);
+    while (way.level > 0) {
+        CHECK(iddqd_layer_down(table, key, &way, 0, row, IDDQD_ROW, &count) == IDDQD_OK);
+    }
+    way.places[0] = 0;
+    return way;
+}
+
+/* Inserts an index at the front of both ordered keys. */
+static uint32_t insert_index(iddqd_table *table, uint64_t i, long at) {
+    const uint64_t hashes[2] = { i, i / 2 };
+    const iddqd_way ways[2] = { front(table, 0, at), front(table, 1, at) };
+    uint32_t index;
+    return iddqd_layer_insert(table, hashes, 2, ways, 2, &index);
+}
+
+/* Both ordered keys have the indexes below `len`, the greatest first, and each stands under its hashes. */
+static void check_layer(iddqd_table *table, uint32_t len, long at) {
+    uint32_t found[ITEMS + 1];
+    size_t count;
+    CHECK(iddqd_layer_len(table, &count) == IDDQD_OK && count == len);
+    for (uint32_t key = 0; key < 2; key++) {
+        iddqd_way way = front(table, key, at);
+        CHECK(iddqd_layer_walk(table, key, &way, found, ITEMS + 1, &count) == IDDQD_OK && count == len);
+        for (uint32_t i = 0; i < len; i++) {
+            CHECK(found[i] == len - 1 - i);
+        }
+    }
+    for (uint32_t i = 0; i < len; i++) {
+        CHECK(iddqd_layer_under(table, 0, i, found, 1, &count) == IDDQD_OK && count == 1 && found[0] == i);
+        CHECK(iddqd_layer_under(table, 1, i / 2, found, 2, &count) == IDDQD_OK && count <= 2 && found[0] / 2 == i / 2);
+    }
+}
+
+/* Calls that take memory, one after the other: the first one that is refused, or 4. */
+static int copy_and_compact(iddqd_table *table, long at) {
+    iddqd_table copy = IDDQD_NONE;
+    uint32_t names[ITEMS];
+    size_t count;
+    CHECK(iddqd_layer_remove(table, ITEMS - 1, NULL, 0, NULL, 0) == IDDQD_OK);
+    const uint32_t answers[3] = {
+        iddqd_layer_clone(table, &copy),
+        iddqd_layer_reserve(table, 2 * ITEMS),
+        iddqd_layer_compact(table, names, ITEMS, &count),
+    };
+    if (answers[0] == IDDQD_OK) {
+        check_layer(&copy, ITEMS - 1, at);
+    } else {
+        CHECK(copy.at == NULL && copy.state == 0);
+    }
+    iddqd_free(&copy);
+    check_layer(table, ITEMS - 1, at);
+    const uint32_t shrunk = iddqd_layer_shrink_to(table, 0);
+    CHECK(shrunk == IDDQD_OK || shrunk == IDDQD_MEMORY);
+    check_layer(table, ITEMS - 1, at);
+    int refused = shrunk != IDDQD_OK;
+    for (int i = 0; i < 3; i++) {
+        CHECK(answers[i] == IDDQD_OK || answers[i] == IDDQD_MEMORY);
+        refused += answers[i] != IDDQD_OK;
+    }
+    return refused;
+}
+
+/* The same of a layer. After a removal or a clear an insert takes no memory, and neither do reads, removals and other
+ * hashes. */
+static int is_layer_refused_at(long at) {
+    iddqd_table table = IDDQD_NONE;
+    int refused = 0;
+    before_refusal = at;
+    uint32_t answer = iddqd_layer_new(&table, 2, 2);
+    if (answer != IDDQD_OK) {
+        CHECK(answer == IDDQD_MEMORY && table.at == NULL && table.state == 0);
+        refused++;
+        CHECK(iddqd_layer_new(&table, 2, 2) == IDDQD_OK);
+    }
+    for (uint32_t i = 0; i < ITEMS; i++) {
+        answer = insert_index(&table, i, at);
+        if (answer != IDDQD_OK) {
+            CHECK(answer == IDDQD_MEMORY);
+            check_layer(&table, i, at);
+            refused++;
+            CHECK(insert_index(&table, i, at) == IDDQD_OK);
+        }
+    }
+    check_layer(&table, ITEMS, at);
+    const long was = before_refusal;
+    refuses_all = 1;
+    for (uint32_t i = 0; i < ITEMS; i++) {
+        CHECK(iddqd_layer_rehash(&table, i, 0, i, ITEMS + i) == IDDQD_OK);
+        CHECK(iddqd_layer_rehash(&table, i, 0, ITEMS + i, i) == IDDQD_OK);
+    }
+    for (uint32_t i = 0; i < ITEMS; i++) {
+        const uint64_t hashes[2] = { i, i / 2 };
+        CHECK(iddqd_layer_remove(&table, i, hashes, 2, NULL, 0) == IDDQD_OK && insert_index(&table, i, at) == IDDQD_OK);
+    }
+    check_layer(&table, ITEMS, at);
+    CHECK(iddqd_layer_clear(&table) == IDDQD_OK);
+    for (uint32_t i = 0; i < ITEMS; i++) {
+        CHECK(insert_index(&table, i, at) == IDDQD_OK);
+    }
+    refuses_all = 0;
+    before_refusal = was;
+    refused += copy_and_compact(&table, at);
+    iddqd_free(&table);
+    CHECK(held == 0);
+    CHECK(refused <= 1);
+    return refused;
+}
+
 int main(void) {
-    long refusals = 0, of_shared = 0, of_index = 0;
+    long refusals = 0, of_shared = 0, of_index = 0, of_layer = 0;
     while (is_refused_at(refusals, iddqd_keyed_new)) {
         refusals++;
     }
@@ -183,6 +297,9 @@ int main(void) {
     while (is_index_refused_at(of_index)) {
         of_index++;
     }
-    printf("refused: ok, %ld and %ld allocations, %ld of an index\n", refusals, of_shared, of_index);
-    return refusals > ITEMS && of_shared > ITEMS && of_index > 1 ? 0 : 1;
+    while (is_layer_refused_at(of_layer)) {
+        of_layer++;
+    }
+    printf("refused: ok, %ld and %ld allocations, %ld of an index, %ld of a layer\n", refusals, of_shared, of_index, of_layer);
+    return refusals > ITEMS && of_shared > ITEMS && of_index > 1 && of_layer > 10 ? 0 : 1;
 }

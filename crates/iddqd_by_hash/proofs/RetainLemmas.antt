@@ -1,27 +1,18 @@
--- For callers: what asks up to a slot leave, where each item that is refused is removed before the next is asked about;
--- that each index is live when it is removed; and which indexes a hash table keeps by a test.
-use Rattle.std.proofs.Common.{◌≡◌, ◌≢◌, ◌∙◌, inl, inr, ℕ, suc, ◌+◌, ◌<◌, ◌≤◌, List, [], ◌∷◌, ◌++◌, length, get_or, take, drop, set, map, filter, cond, not, Bool, true, false, Option, Some, None, slice_get, refl, sym, ap, subst, arith, Contains, ◌==◌, eqb-true, eq-eqb, length-set, length-take-le, append-nil}
-use Rattle.std.specs.Ordering.{nat_cmp}
-use Rattle.std.specs.FinMap as finite
-use Rattle.std.specs.FinMap.{FinMap}
+-- For callers: what asks up to a slot leave, where each item that is refused is removed before the next is asked about.
+use Rattle.std.proofs.Common.{◌≡◌, ◌∙◌, inl, inr, ℕ, ◌+◌, ◌<◌, ◌≤◌, List, [], ◌∷◌, ◌++◌, length, get_or, take, drop, set, map, not, Bool, true, false, Option, Some, None, refl, sym, ap, subst, arith, Contains, length-set, length-take-le, append-nil}
 use Rattle.std.specs.List.{FoldsTo}
 use Rattle.std.proofs.lemmas.Bool.{cases_eq, cases_lt}
 use Rattle.std.proofs.lemmas.Fn.{FoldsTo-push}
-use Rattle.std.proofs.lemmas.List.{at_drop_more, map-append, length-map, get_or-map, take_all, take_more, take-set, get_or_past, get_or-set_same, get_or-set_other}
+use Rattle.std.proofs.lemmas.List.{at_drop_more, map-append, length-map, take_all, take_more, take-set, get_or_past, get_or-set_same, get_or-set_other}
 use Rattle.std.proofs.lemmas.List.Elements.{filter-append}
-use Rattle.std.proofs.lemmas.List.Sorted.{IsPermutation-sym, Contains-permutation}
-use Rattle.std.proofs.lemmas.Option.{slice_get_read}
 use Rattle.iddqd.specs.Store.{Store, get, live_count, removed}
 use Rattle.iddqd.specs.LiveItems.{pairs_from, live_pairs, items_in, live_items}
-use Rattle.iddqd.proofs.StoreLemmas.{contains_head, contains_tail, contains_cases, contains_none}
-use Rattle.iddqd.proofs.LiveLemmas.{live_at, get-removed_other}
+use Rattle.iddqd.proofs.StoreLemmas.{contains_head, contains_tail}
+use Rattle.iddqd.proofs.LiveLemmas.{get-removed_other}
 use Rattle.iddqd.proofs.LiveItemLemmas.{pairs_from-append, length-pairs_from, items_of_pairs, IsWalkOf-live_pairs}
-use Rattle.iddqd_hash.specs.Asks.{CanAsk, RetainsPairs}
-use Rattle.iddqd_hash.specs.MapHashTable.{swapped, pairs_of}
+use Rattle.iddqd_hash.specs.Asks.{CanAsk}
 use Rattle.iddqd_hash.proofs.AskLemmas.{CanAsk-takes, CanAsk-asked, CanAsk-everywhere}
-use Rattle.iddqd_hash.proofs.FiledLemmas.{filed_from_under, under_from_filed}
-use Rattle.iddqd_hash.proofs.RetainLemmas.{Contains-values, RetainsPairs-tested}
-use Rattle.iddqd_keys.specs.Scan.{IsLive}
+use Rattle.iddqd_hash.proofs.RetainLemmas.{Contains-values}
 use Rattle.iddqd_keys.specs.Removals.{removed_all}
 use Rattle.iddqd_by_hash.specs.Retain.{MayAsk, MayAskInTurn, AsksInTurn, kept_of, removed_of, RetainsTo}
 
@@ -306,190 +297,3 @@ module _ {F T : Type 0} (takes : F → T → Type 0) (ask : F → T → Bool →
               counted = long ∙ counted;
               can = can-next.1 false next asked;
             })
-
--- ---- each index that is removed is live then
-
-module _ {T : Type 0} where
-  -- these indexes are removed in turn, each while it is live
-  abbrev pub AreLiveInTurn : Store T → List ℕ → Type 0
-  AreLiveInTurn s [] = Unit {0}
-  AreLiveInTurn s (ix ∷ rest) = IsLive s ix × AreLiveInTurn (removed s ix) rest
-
-  -- no two of these asks are about the same index
-  abbrev AreApart : List ((ℕ × T) × Bool) → Type 0
-  AreApart [] = Unit {0}
-  AreApart (a ∷ asks) = ((b : (ℕ × T) × Bool) → Contains asks b → b.0.0 ≢ a.0.0) × AreApart asks
-
-  -- asks by rising index are such
-  apart_by_rising :
-      (asks : List ((ℕ × T) × Bool))
-      → ((i j : ℕ) (a b : ℕ × T) → i < j → slice_get (map (λ (a : (ℕ × T) × Bool). a.0) asks) i ≡ Some a
-      → slice_get (map (λ (a : (ℕ × T) × Bool). a.0) asks) j ≡ Some b → a.0 < b.0)
-      → AreApart asks
-  apart_by_rising [] rising = tt
-  apart_by_rising (a ∷ asks) rising = (
-    λ b here same.
-        let pairs = map (λ (a : (ℕ × T) × Bool). a.0) asks in
-        let within : here.0 < length pairs = omega (arith, length-map asks (λ (a : (ℕ × T) × Bool). a.0), here.1) in
-        let read : b.0 ≡ get_or pairs here.0 b.0 =
-        sym (get_or-map (λ (a : (ℕ × T) × Bool). a.0) asks here.0 b b.0 here.1
-        ∙ ap (λ (a : (ℕ × T) × Bool). a.0) here.2) in
-        let less =
-        rising 0 (suc here.0) a.0 b.0 (omega arith) refl
-        (slice_get_read pairs (length pairs) here.0 b.0 refl within read) in
-        omega (arith, less, same),
-    apart_by_rising asks (λ i j x y less at_i at_j. rising (suc i) (suc j) x y (omega arith) at_i at_j),
-  )
-
-  live_in_turn :
-      (s : Store T) (asks : List ((ℕ × T) × Bool))
-      → ((b : (ℕ × T) × Bool) → Contains asks b → IsLive s b.0.0)
-      → AreApart asks
-      → AreLiveInTurn s (removed_of asks)
-  live_in_turn s [] live apart = tt
-  live_in_turn s ((pair, true) ∷ asks) live apart =
-      live_in_turn s asks (λ b here. live b (contains_tail (pair, true) b asks here)) apart.1
-  live_in_turn s ((pair, false) ∷ asks) live apart = (
-    live (pair, false) (contains_head (pair, false) asks),
-    live_in_turn (removed s pair.0) asks
-        (λ b here.
-        rw (get-removed_other s pair.0 b.0.0 (apart.0 b here)) (live b (contains_tail (pair, false) b asks here)))
-        apart.1,
-  )
-
-  -- so are the indexes of the items that were answered false
-  pub AreLiveInTurn-refused :
-      {F : Type 0} (ask : F → T → Bool → F → Type 0) (f : F) (old now : Store T) (last : F)
-      (r : RetainsTo ask f old now last)
-      → AreLiveInTurn old (removed_of r.asks)
-  AreLiveInTurn-refused ask f old now last r =
-      let walk = IsWalkOf-live_pairs old in
-      live_in_turn old r.asks
-      (λ b here.
-      let pairs = map (λ (a : (ℕ × T) × Bool). a.0) r.asks in
-      let listed : Contains pairs b.0 = (
-        here.0,
-        omega (arith, length-map r.asks (λ (a : (ℕ × T) × Bool). a.0), here.1),
-        get_or-map (λ (a : (ℕ × T) × Bool). a.0) r.asks here.0 b b.0 here.1 ∙ ap (λ (a : (ℕ × T) × Bool). a.0) here.2,
-      ) in
-      live_at old b.0.0 b.0.1 ((walk.live b.0.0 b.0.1).0 (rw r.each_once at listed)))
-      (apart_by_rising r.asks (rw r.each_once walk.rising))
-
--- ---- what a hash table keeps by a test
-
-contains_pair : (es : List (ℕ × ℕ)) (hash ix : ℕ) → Contains (map swapped es) (hash, ix) → Contains es (ix, hash)
-contains_pair [] hash ix here = absurd (contains_none _ here)
-contains_pair (e ∷ es) hash ix here =
-    elim (contains_cases _ _ _ here) [
-      | inl same ↦ subst (Contains (e ∷ es)) (ap swapped same) (contains_head e es)
-      | inr there ↦ contains_tail e (ix, hash) es (contains_pair es hash ix there)
-    ]
-
-contains_mapped : {X Y : Type 0} (f : X → Y) (xs : List X) (x : X) → Contains xs x → Contains (map f xs) (f x)
-contains_mapped f [] x here = absurd (contains_none x here)
-contains_mapped f (y ∷ xs) x here =
-    elim (contains_cases y x xs here) [
-      | inl same ↦ subst (λ z. Contains (f y ∷ map f xs) (f z)) same (contains_head (f y) (map f xs))
-      | inr there ↦ contains_tail (f y) (f x) (map f xs) (contains_mapped f xs x there)
-    ]
-
-from_mapped :
-    {X Y : Type 0} (f : X → Y) (xs : List X) (y : Y)
-    → Contains (map f xs) y
-    → (x : X) × Contains xs x × (f x ≡ y)
-from_mapped f [] y here = absurd (contains_none y here)
-from_mapped f (x ∷ xs) y here =
-    elim (contains_cases (f x) y (map f xs) here) [
-      | inl same ↦ (x, contains_head x xs, same)
-      | inr there ↦
-          let (z, in_rest, is) = from_mapped f xs y there in
-          (z, contains_tail x z xs in_rest, is)
-    ]
-
-contains_passed :
-    {X : Type 0} (t : X → Bool) (xs : List X) (x : X)
-    → Contains xs x
-    → t x ≡ true
-    → Contains (filter t xs) x
-contains_passed t [] x here passes = here
-contains_passed t (y ∷ xs) x here passes =
-    elim (contains_cases y x xs here) [
-      | inl same ↦
-          let kept : t y ≡ true = ap t same ∙ passes in
-          rw kept (subst (Contains (y ∷ filter t xs)) same (contains_head y (filter t xs)))
-      | inr there ↦
-          let later = contains_passed t xs x there passes in
-          elim (t y) as (λ b. Contains (cond b (y ∷ filter t xs) (filter t xs)) x) [
-            | true ↦ contains_tail y x (filter t xs) later
-            | false ↦ later
-          ]
-    ]
-
-from_passed :
-    {X : Type 0} (t : X → Bool) (xs : List X) (x : X)
-    → Contains (filter t xs) x
-    → Contains xs x × (t x ≡ true)
-from_passed t [] x here = absurd (contains_none x here)
-from_passed t (y ∷ xs) x here =
-    elim (t y) as (λ b. t y ≡ b → Contains (cond b (y ∷ filter t xs) (filter t xs)) x
-    → Contains (y ∷ xs) x × (t x ≡ true)) [
-      | true ↦ λ yes here.
-          elim (contains_cases y x (filter t xs) here) [
-            | inl same ↦ (subst (Contains (y ∷ xs)) same (contains_head y xs), ap t (sym same) ∙ yes)
-            | inr there ↦
-                let rest = from_passed t xs x there in
-                (contains_tail y x xs rest.0, rest.1)
-          ]
-      | false ↦ λ no here.
-          let rest = from_passed t xs x here in
-          (contains_tail y x xs rest.0, rest.1)
-    ] refl here
-
-module _ (m : FinMap nat_cmp ℕ) (hash ix : ℕ) where
-  pair_filed : Contains (pairs_of m) (hash, ix) → finite.get m ix ≡ Some hash
-  pair_filed here =
-      let entry = contains_pair (finite.entries m) hash ix here in
-      let under_hash : (e : ℕ × ℕ) → Bool = λ e. e.1 == hash in
-      filed_from_under m hash ix
-      (contains_mapped (λ (e : ℕ × ℕ). e.0) (filter under_hash (finite.entries m)) (ix, hash)
-      (contains_passed under_hash (finite.entries m) (ix, hash) entry (eq-eqb hash hash refl)))
-
-  filed_pair : finite.get m ix ≡ Some hash → Contains (pairs_of m) (hash, ix)
-  filed_pair is =
-      let under_hash : (e : ℕ × ℕ) → Bool = λ e. e.1 == hash in
-      let (e, passed, at) =
-      from_mapped (λ (e : ℕ × ℕ). e.0) (filter under_hash (finite.entries m)) ix (under_from_filed m hash ix is) in
-      let both = from_passed under_hash (finite.entries m) e passed in
-      let same : e ≡ (ix, hash) = λ i. (at i, eqb-true e.1 hash both.1 i) in
-      contains_mapped swapped (finite.entries m) (ix, hash) (subst (Contains (finite.entries m)) same both.0)
-
--- where each answer is a function of the index, an index is kept exactly where it passes the test, under its hash
-pub filed_kept :
-    {F : Type 0} (ask : F → ℕ → Bool → F → Type 0) (I : F → Type 0) (test : ℕ → Bool)
-    → ((s : F) (ix : ℕ) (b : Bool) (t : F) → I s → ask s ix b t → (b ≡ test ix) × I t)
-    → (f : F) (old new : FinMap nat_cmp ℕ)
-    → I f
-    → RetainsPairs ask f (pairs_of old) (pairs_of new)
-    → (ix : ℕ)
-    → finite.get new ix ≡ cond (test ix) (finite.get old ix) None
-filed_kept ask I test says f old new i keeps ix =
-    let moved = RetainsPairs-tested ask I test says f (pairs_of old) (pairs_of new) i keeps in
-    let passes : ℕ × ℕ → Bool = λ (e : ℕ × ℕ). test e.1 in
-    elim (finite.get new ix) as (λ o. finite.get new ix ≡ o → o ≡ cond (test ix) (finite.get old ix) None) [
-      | Some hash ↦ λ is.
-          let here = Contains-permutation _ _ (hash, ix) (IsPermutation-sym _ _ moved) (filed_pair new hash ix is) in
-          let both = from_passed passes (pairs_of old) (hash, ix) here in
-          rw (both.1, pair_filed old hash ix both.0) refl
-      | None ↦ λ none.
-          elim (test ix) as (λ b. test ix ≡ b → None ≡ cond b (finite.get old ix) None) [
-            | false ↦ λ _. refl
-            | true ↦ λ yes.
-                elim (finite.get old ix) as (λ o. finite.get old ix ≡ o → None ≡ o) [
-                  | None ↦ λ _. refl
-                  | Some hash ↦ λ was.
-                      let here = contains_passed passes (pairs_of old) (hash, ix) (filed_pair old hash ix was) yes in
-                      let found = pair_filed new hash ix (Contains-permutation _ _ (hash, ix) moved here) in
-                      absurd (cc)
-                ] refl
-          ] refl
-    ] refl

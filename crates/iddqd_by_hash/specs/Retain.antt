@@ -1,6 +1,6 @@
--- How `retain` of `Map` and of `KeyedItems` calls its closure, and which items it leaves in the store. (`IdOrdMap` has
--- a definition of its own in place of `RetainsTo`, since its `retain` goes in the order of the keys.) The calls that
--- use these definitions are those of `iddqd_map`, `iddqd_ord_map` and `iddqd_driver`.
+-- How `retain` of `Map` calls its closure, and which items it leaves in the store. (`IdOrdMap` has a definition of its
+-- own in place of `RetainsTo`, since its `retain` goes in the order of the keys.) The calls that use these definitions
+-- are those of `iddqd_map` and `iddqd_ord_map`.
 use Rattle.std.specs.Prelude.{◌≡◌, ℕ, Bool, not, List, [], ◌∷◌, map, filter}
 use Rattle.std.specs.List.{FoldsTo}
 use Rattle.iddqd.specs.Store.{Store}

@@ -3,7 +3,6 @@
 //! The look-ups, ranges and removals are free functions that are handed the table and the store.
 #![tactic(auto)]
 
-mod borrowed_key_query;
 mod item_bound;
 pub mod ordered;
 pub mod ordered_item;

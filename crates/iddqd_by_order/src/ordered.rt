@@ -1,8 +1,7 @@
 //! A table of indexes beside a store, in the order of a key, ties by index.
 //!
 //! Keys may change silently. Then the list may be out of order: a search may miss, but it never hits an index whose
-//! item's key doesn't compare Equal now. An iteration between two bounds returns a part of the list, and `remove_index`
-//! still removes an index.
+//! item's key doesn't compare Equal now, and `remove_index` still removes an index.
 //!
 //! `KeyedItems` inserts through `entry`, which finds the place, or the index that has the key, by one search. The entry
 //! borrows the table and not the store, so the store may change before the index is inserted. `Map` inserts at a `Gap`
@@ -10,22 +9,16 @@
 //!
 //! In `iddqd_by_hash` it is a premise that a query stands for one key; here it is a law of `Comparable`.
 ghost use Rattle.std.specs.Prelude.{◌≡◌};
-ghost use Rattle.std.specs.Range.Bound.{bound_map};
-ghost use Rattle.iddqd_order.specs.{NeedsNoMoreBlocks, capacity, entry_table, indexes_ahead, order_of, without};
+ghost use Rattle.iddqd_order.specs.{NeedsNoMoreBlocks, capacity, entry_table, order_of, without};
 ghost use Rattle.iddqd_keys.specs.Scan.{IsLive, IsKeyAt};
-ghost use Rattle.iddqd_keys.specs.OrderedQuery.{is_within};
 ghost use Rattle.iddqd_by_order.specs.Ordered.{AreLive, IsEntryOf, Holds, LooksUp, Takes};
-ghost use Rattle.iddqd_by_order.specs.OrderedWalk.{WalksWithin};
 
-use crate::borrowed_key_query::BorrowedKeyQuery;
 use iddqd::item_index::ItemIndex;
 use iddqd::item_set::ItemSet;
 use iddqd::map_hash::Comparable;
 use iddqd_keys::key_of::{KeyOf, key_at};
-use iddqd_keys::order_query::OrdQuery;
-use iddqd_order::btree_table::{Asking, Entry, MapBTreeTable, Range};
+use iddqd_order::btree_table::{Asking, Entry, MapBTreeTable};
 use std::cmp::Ordering;
-use std::ops::Bound;
 
 /// The index of an item whose key the query compares Equal with.
 ///
@@ -113,45 +106,5 @@ where
     let is_removed = table.prepare_remove(ix, &key, &mut asking).remove();
     if !is_removed {
         table.remove_exact(ix);
-    }
-}
-
-/// The indexes whose items have keys between two bounds, in the order of the keys: none if the lower bound is above the
-/// upper one. If the list isn't sorted, the result is some consecutive part of it, whatever the keys there are.
-///
-/// It is one search of the table for each bound that there is, as `find` is one. It takes no memory.
-pub fn range<'t, T, E, Q>(
-    table: &'t MapBTreeTable,
-    items: &ItemSet<T>,
-    lower: Bound<Q>,
-    upper: Bound<Q>,
-) -> Range<'t>
-where
-    E: KeyOf<T>,
-    E::Key: Ord,
-    Q: OrdQuery<E::Key>,
-    requires { Holds items.now.store (order_of table.now) }
-    ensures { let within = is_within Q.compare lower upper in
-        WalksWithin E.key_of E.Key.cmp within items.now.store (order_of table.now) (indexes_ahead result) }
-{
-    let mut asking = Asking::new(
-        |at: ItemIndex|
-            requires { IsLive items.now.store at }
-            ensures { IsKeyAt E.key_of items.entry.now.store at result.now }
-        { key_at::<T, E>(items, at) },
-    );
-    let from = by_borrowed_key(lower);
-    let to = by_borrowed_key(upper);
-    table.range(from.as_ref(), to.as_ref(), &mut asking)
-}
-
-// The same bound, with its query wrapped in `BorrowedKeyQuery`.
-pub(crate) fn by_borrowed_key<Q>(bound: Bound<Q>) -> Bound<BorrowedKeyQuery<Q>>
-    ensures { bound_map (λ query. query.0) result ≡ bound }
-{
-    match bound {
-        Bound::Included(query) => Bound::Included(BorrowedKeyQuery(query)),
-        Bound::Excluded(query) => Bound::Excluded(BorrowedKeyQuery(query)),
-        Bound::Unbounded => Bound::Unbounded,
     }
 }

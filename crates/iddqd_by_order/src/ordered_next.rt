@@ -86,7 +86,7 @@ pub fn next_between<T, E, Q>(
     table: &MapBTreeTable,
     items: &ItemSet<T>,
     spot: &mut Spot,
-    bounds: &Bounds<Q>,
+    to: &Bounds<Q>,
 ) -> Option<ItemIndex>
 where
     E: OrdKey<T>,
@@ -94,11 +94,11 @@ where
     requires spot { IsSpot table.now spot.old }
     requires sorted { IsSortedScan E.key_of E.cmp items.now.store (order_of table.now) }
     ensures next { IsNextHit itself (on E.key_of E.cmp) items.now.store
-        (is_up_to (bound_map Q.compare_item bounds.now.upper)) (spot_index table.now spot.old) result }
+        (is_up_to (bound_map Q.compare_item to.now.upper)) (spot_index table.now spot.old) result }
     ensures spot { IfSome result (λ next. StandsAt table.now spot.new next) }
 {
     let next = table.step(spot);
-    if_up_to::<T, E, Q>(items, next, bounds.upper)
+    if_up_to::<T, E, Q>(items, next, to.upper)
 }
 
 /// Removes the index at the spot from the table, and moves the spot as `next_between` does. The store still has the
@@ -109,7 +109,7 @@ pub fn take_between<T, E, Q>(
     table: &mut MapBTreeTable,
     items: &ItemSet<T>,
     spot: &mut Spot,
-    bounds: &Bounds<Q>,
+    to: &Bounds<Q>,
 ) -> Option<ItemIndex>
 where
     E: OrdKey<T>,
@@ -117,13 +117,13 @@ where
     requires spot { IsSpot table.old spot.old }
     requires sorted { IsSortedScan E.key_of E.cmp items.now.store (order_of table.old) }
     ensures next { IsNextHit itself (on E.key_of E.cmp) items.now.store
-        (is_up_to (bound_map Q.compare_item bounds.now.upper)) (spot_index table.old spot.old) result }
+        (is_up_to (bound_map Q.compare_item to.now.upper)) (spot_index table.old spot.old) result }
     ensures spot { IfSome result (λ next. StandsAt table.new spot.new next) }
     ensures taken { order_of table.new ≡ without (order_of table.old) (spot_index table.old spot.old) }
     ensures memory { capacity table.new ≡ capacity table.old }
 {
     let next = table.take_at(spot);
-    if_up_to::<T, E, Q>(items, next, bounds.upper)
+    if_up_to::<T, E, Q>(items, next, to.upper)
 }
 
 // The next index, if there is one and its item's key is within the upper bound.

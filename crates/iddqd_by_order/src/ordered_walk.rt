@@ -1,7 +1,7 @@
 //! An iterator over the indexes between two bounds of a key, with their items.
 //!
 //! It goes along the table, and reads each item from the store. It has no parameter for the key and assumes nothing of
-//! the order, so `KeyedItems` and `IdOrdMap` share it.
+//! the order, so the ranges of a map by every key share it.
 ghost use Rattle.std.specs.Prelude.{◌≡◌, ⊤};
 ghost use Rattle.std.specs.Iterator.{YieldsFirstBy, YieldsLastBy, item_count};
 ghost use Rattle.iddqd_order.specs.Range.{indexes_ahead};

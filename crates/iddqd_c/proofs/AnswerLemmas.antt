@@ -5,14 +5,15 @@ use Rattle.std.specs.Str.{bytes_eq}
 use Rattle.iddqd.specs.Store.{Store, get, live_count}
 use Rattle.iddqd_hash.specs.Sizes.{most_cells}
 use Rattle.iddqd_keys.specs.Scan.{AnswersScan, AreApart, HasNoHit}
-use Rattle.iddqd_map.specs.Map.{RemovesHit}
+use Rattle.iddqd_codes.specs.declared.TheConstants.{OK}
+use Rattle.iddqd_map.specs.Map.{RemovesFull, RemovesHit}
 use Rattle.iddqd_map.specs.Memory.{MakesRoom}
 use Rattle.iddqd_map.specs.PairConflict.{Reports}
 use Rattle.iddqd_map.specs.Several.{either_key}
 use Rattle.iddqd_c.specs.Entries.{FindsFirst, FindsLeast, FindsSecond, RemovesFirst, RemovesIndex, RemovesSecond, TakesMemory}
 use Rattle.iddqd_c.specs.Held.{Items, Taken}
 use Rattle.iddqd_c.specs.Keys.{has_first, has_second}
-use Rattle.iddqd_c.specs.Rows.{SaysRow}
+use Rattle.iddqd_c.specs.Rows.{SaysRow, row_of}
 use Rattle.iddqd_c.specs.declared.entry.Entry.{Entry}
 use Rattle.iddqd_c.specs.declared.entry.Row.{Row}
 
@@ -39,25 +40,7 @@ module _ (ix code : ℕ) (row : Row) where
       let said = subst (SaysRow code row ix) live says in
       inl (said.0, (ix, (entry, record { live = live; hit = hit; least = least }, said.1)))
 
-  -- the same of removals
-  pub removes_first :
-      (bytes : List ℕ) (old new : Items)
-      → AnswersScan old.store (has_first bytes) (Some ix)
-      → RemovesIndex ix code row old new
-      → RemovesFirst bytes code row old new
-  removes_first bytes old new scan (Some entry, says, removes) =
-      let hit : RemovesHit old (has_first bytes) entry new = record {
-        ix = ix;
-        hit = record { live = removes.0; only = scan };
-        left = removes.1;
-        memory = removes.2;
-      } in
-      inl (says.0, (entry, (hit, says.1)))
-  removes_first bytes old new scan (None, says, removes) =
-      let (entry, live, passes) = (scan ix).1 refl in
-      let both : Some entry ≡ None = sym live ∙ removes.0 in
-      cc
-
+  -- the same of a removal
   pub removes_second :
       (second : ℕ) (old new : Items)
       → FindsLeast old.store (has_second second) (Some ix)
@@ -69,6 +52,16 @@ module _ (ix code : ℕ) (row : Row) where
       let (entry, live, passes) = hit in
       let both : Some entry ≡ None = sym live ∙ removes.0 in
       cc
+
+-- a removal that says which index it was
+pub removes_first :
+    (bytes : List ℕ) (row : Row) (old new : Items) (ix : ℕ) (entry : Entry)
+    → RemovesFull old (has_first bytes) (Some (ix, entry)) new
+    → row ≡ row_of ix entry
+    → RemovesFirst bytes OK row old new
+removes_first bytes row old new ix entry (only, left, memory) says =
+    let hit : RemovesHit old (has_first bytes) entry new = record { ix = ix; hit = only; left = left; memory = memory } in
+    inl (refl, (entry, (hit, says)))
 
 -- a table that stayed took no memory
 pub takes_none : (old new : Items) → new ≡ old → TakesMemory old new

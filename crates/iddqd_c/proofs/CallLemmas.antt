@@ -13,6 +13,7 @@ use Rattle.iddqd_c.specs.declared.entry.Entry.{Entry}
 use Rattle.iddqd_c.specs.declared.entry.Row.{Row}
 use Rattle.iddqd_c.specs.declared.table.Table.{Table}
 use Rattle.iddqd_c.specs.declared.table.Table.TheVariants.{Unique, Shared, Index}
+use Rattle.iddqd_c.specs.declared.table.Table.TheVariants.{Layer as Records}
 
 module _ (bytes : List ℕ) (second value looked done at : ℕ) (row : Row) (conflict : Conflict) where
   -- a scan that hits finds this entry
@@ -52,11 +53,14 @@ module _ (bytes : List ℕ) (second value looked done at : ℕ) (row : Row) (con
   found_held (Some (Shared old)) (Some (Shared new)) ok finds inserts = found_here _ old.entries new.entries ok finds inserts
   found_held (Some (Unique old)) (Some (Shared new)) ok finds inserts = absurd inserts
   found_held (Some (Unique old)) (Some (Index new)) ok finds inserts = absurd inserts
+  found_held (Some (Unique old)) (Some (Records new)) ok finds inserts = absurd inserts
   found_held (Some (Unique old)) None ok finds inserts = absurd inserts
   found_held (Some (Shared old)) (Some (Unique new)) ok finds inserts = absurd inserts
   found_held (Some (Shared old)) (Some (Index new)) ok finds inserts = absurd inserts
+  found_held (Some (Shared old)) (Some (Records new)) ok finds inserts = absurd inserts
   found_held (Some (Shared old)) None ok finds inserts = absurd inserts
   found_held (Some (Index old)) new ok finds inserts = absurd (omega (arith, ok, finds))
+  found_held (Some (Records old)) new ok finds inserts = absurd (omega (arith, ok, finds))
   found_held None new ok finds inserts = absurd (omega (arith, ok, finds))
 
   -- the same of what a handle holds between the two
@@ -107,9 +111,12 @@ module _ (bytes : List ℕ) (second value looked done at : ℕ) (row : Row) (con
   inserted (Some (Shared old)) (Some (Shared new)) inserts looks ok = inserted_here _ old.entries new.entries ok inserts looks
   inserted (Some (Unique old)) (Some (Shared new)) inserts looks ok = absurd inserts
   inserted (Some (Unique old)) (Some (Index new)) inserts looks ok = absurd inserts
+  inserted (Some (Unique old)) (Some (Records new)) inserts looks ok = absurd inserts
   inserted (Some (Unique old)) None inserts looks ok = absurd inserts
   inserted (Some (Shared old)) (Some (Unique new)) inserts looks ok = absurd inserts
   inserted (Some (Shared old)) (Some (Index new)) inserts looks ok = absurd inserts
+  inserted (Some (Shared old)) (Some (Records new)) inserts looks ok = absurd inserts
   inserted (Some (Shared old)) None inserts looks ok = absurd inserts
   inserted (Some (Index old)) new inserts looks ok = absurd (omega (arith, ok, inserts.0))
+  inserted (Some (Records old)) new inserts looks ok = absurd (omega (arith, ok, inserts.0))
   inserted None new inserts looks ok = absurd (omega (arith, ok, inserts.0))

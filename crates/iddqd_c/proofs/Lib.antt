@@ -7,5 +7,6 @@ pub mod CallLemmas
 pub mod CopyLemmas
 pub mod ManyLemmas
 pub mod CompactingLemmas
+pub mod LayerLemmas
 mod MixingLemmas
 mod FilingLemmas

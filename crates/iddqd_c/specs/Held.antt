@@ -3,12 +3,14 @@
 -- items keep their kind.
 use Rattle.std.specs.Prelude.{◌≡◌, ℕ, Bool, Option, Some}
 use Rattle.iddqd_hash.specs.HashTable.{Table as Numbers}
+use Rattle.iddqd_layer.specs.Layer.{Layer}
 use Rattle.iddqd_map.specs.Map.{MapState}
 use Rattle.iddqd_codes.specs.declared.TheConstants.{HANDLE}
 use Rattle.iddqd_c.specs.Keys.{has_second, never}
 use Rattle.iddqd_c.specs.declared.entry.Entry.{Entry}
 use Rattle.iddqd_c.specs.declared.table.Table.{Table}
 use Rattle.iddqd_c.specs.declared.table.Table.TheVariants.{Unique, Shared, Index}
+use Rattle.iddqd_c.specs.declared.table.Table.TheVariants.{Layer as Records}
 
 -- keyed items with their memory
 abbrev pub Items : Type 0
@@ -63,3 +65,18 @@ ReadsIndex P held code = code ≡ HANDLE
 abbrev pub ChangesIndex : (Numbers ℕ → Numbers ℕ → Type 0) → Option Table → ℕ → Option Table → Type 0
 ChangesIndex P (Some (Index numbers)) code after = HoldsIndex (P numbers) after
 ChangesIndex P held code after = (code ≡ HANDLE) × (after ≡ held)
+
+-- the handle holds a layer, and this holds of it
+abbrev pub HoldsLayer : (Layer → Type 0) → Option Table → Type 0
+HoldsLayer P (Some (Records layer)) = P layer
+HoldsLayer P held = ⊥
+
+-- a function that reads a layer
+abbrev pub ReadsLayer : (Layer → Type 0) → Option Table → ℕ → Type 0
+ReadsLayer P (Some (Records layer)) code = P layer
+ReadsLayer P held code = code ≡ HANDLE
+
+-- a function that changes a layer
+abbrev pub ChangesLayer : (Layer → Layer → Type 0) → Option Table → ℕ → Option Table → Type 0
+ChangesLayer P (Some (Records layer)) code after = HoldsLayer (P layer) after
+ChangesLayer P held code after = (code ≡ HANDLE) × (after ≡ held)

@@ -8,3 +8,5 @@ pub mod Replacing
 pub mod Compacting
 pub mod Numbers
 pub mod Mixing
+pub mod Layers
+pub mod Steps

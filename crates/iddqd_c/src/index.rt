@@ -46,7 +46,7 @@ fn insert(table: &mut Table, hash: u64, number: u32) -> u32
 {
     match table {
         Table::Index(numbers) => numbers.file(hash, number),
-        Table::Unique(_) | Table::Shared(_) => HANDLE,
+        Table::Unique(_) | Table::Shared(_) | Table::Layer(_) => HANDLE,
     }
 }
 
@@ -71,7 +71,7 @@ fn remove(table: &mut Table, hash: u64, number: u32) -> u32
 {
     match table {
         Table::Index(numbers) => numbers.unfile(hash, number),
-        Table::Unique(_) | Table::Shared(_) => HANDLE,
+        Table::Unique(_) | Table::Shared(_) | Table::Layer(_) => HANDLE,
     }
 }
 
@@ -110,7 +110,7 @@ fn under(table: &Table, hash: u64, numbers: &mut [u32], count: &mut usize) -> u3
             *count = list(filed, hash, numbers);
             OK
         }
-        Table::Unique(_) | Table::Shared(_) => HANDLE,
+        Table::Unique(_) | Table::Shared(_) | Table::Layer(_) => HANDLE,
     }
 }
 
@@ -129,7 +129,7 @@ fn list(filed: &Numbers, hash: u64, numbers: &mut [u32]) -> usize
 }
 
 // Writes a number to a place of a buffer, if it has that place.
-fn write(numbers: &mut [u32], at: usize, number: u32)
+pub(crate) fn write(numbers: &mut [u32], at: usize, number: u32)
     ensures inside { at < length numbers.old → numbers.new ≡ slice_set numbers.old at number }
     ensures outside { length numbers.old ≤ at → numbers.new ≡ numbers.old }
 {
@@ -165,7 +165,7 @@ fn len(table: &Table, count: &mut usize) -> u32
             *count = numbers.len();
             OK
         }
-        Table::Unique(_) | Table::Shared(_) => HANDLE,
+        Table::Unique(_) | Table::Shared(_) | Table::Layer(_) => HANDLE,
     }
 }
 
@@ -193,6 +193,6 @@ fn clear(table: &mut Table) -> u32
             numbers.clear();
             OK
         }
-        Table::Unique(_) | Table::Shared(_) => HANDLE,
+        Table::Unique(_) | Table::Shared(_) | Table::Layer(_) => HANDLE,
     }
 }

@@ -11,7 +11,7 @@ ghost use Rattle.iddqd_c.specs.Entries.{Clears, Counts};
 ghost use Rattle.iddqd_c.specs.Held.{ReadsKeyed, ChangesKeyed, HoldsShared, HoldsUnique};
 
 mod bytes;
-mod compaction;
+pub(crate) mod compaction;
 pub(crate) mod finds;
 mod groups;
 pub(crate) mod inserts;
@@ -105,7 +105,7 @@ fn len(table: &Table, count: &mut usize) -> u32
             *count = keyed.entries.len();
             OK
         }
-        Table::Index(_) => HANDLE,
+        Table::Index(_) | Table::Layer(_) => HANDLE,
     }
 }
 
@@ -131,7 +131,7 @@ fn clear(table: &mut Table) -> u32
     match table {
         Table::Unique(keyed) => clear_entries(keyed),
         Table::Shared(keyed) => clear_entries(keyed),
-        Table::Index(_) => HANDLE,
+        Table::Index(_) | Table::Layer(_) => HANDLE,
     }
 }
 

@@ -16,6 +16,7 @@ mod entry;
 mod handle;
 mod index;
 mod keyed;
+mod layer;
 mod numbers;
 mod second_key;
 mod table;

@@ -110,7 +110,7 @@ fn unfile(table: &mut OpenHashTable<u32>, hash: u64, number: u32) -> u32
 
 // Spreads a hash: its low bits and its top bits both depend on all of its bits. No two hashes become one.
 #[inline(always)]
-fn mix(hash: u64) -> u64
+pub(crate) fn mix(hash: u64) -> u64
     ensures { result ≡ mixed hash }
 {
     fold(fold(hash).wrapping_mul(0xc4ce_b9fe_1a85_ec53))

@@ -3,6 +3,7 @@ ghost use Rattle.std.specs.Prelude.{◌≡◌};
 
 use crate::entry::{Entries, Entry, Shared, Unique};
 use crate::numbers::Numbers;
+use iddqd_layer::layer::Layer;
 use iddqd_map::key_index::KeyIndex;
 use std::hash::{DefaultHasher, RandomState};
 use std::marker::PhantomData;
@@ -16,6 +17,8 @@ pub enum Table {
     Shared(Keyed<Shared>),
     /// Numbers under hashes: of the caller's own records, say.
     Index(Numbers),
+    /// Indexes of records of the caller's own, under hashed and ordered keys.
+    Layer(Layer),
 }
 
 /// Entries whose second keys go by the key index `B`.

@@ -25,3 +25,13 @@ pub const SMALL: u32 = 6;
 
 /// A check failed: an item isn't found by one of its keys, or two items share one.
 pub const UNSOUND: u32 = 7;
+
+/// There are not as many hashes as hashed keys, or not as many ways as ordered keys; of a function that makes a layer:
+/// more than sixteen keys of one kind were asked for. Nothing changed.
+pub const COUNT: u32 = 8;
+
+/// The layer has no key of that number. Nothing changed.
+pub const KEY: u32 = 9;
+
+/// The way leads to no node, child or gap of the table as it is now. Nothing changed.
+pub const WAY: u32 = 10;

@@ -1,7 +1,7 @@
 -- How many items there are after a call, and that an insert with room is refused for a duplicate only.
-use Rattle.std.proofs.Common.{◌≡◌, ◌∙◌, ◌+◌, ◌≤◌, ℕ, length, Some, Result, Ok, Err, IfOk, IfErr, OnOk, OnErr, sym, ap, arith}
-use Rattle.iddqd.specs.Store.{Store, IsValid, get, live_count, rebound}
-use Rattle.iddqd.proofs.LiveCountLemmas.{live_count-inserted, live_count-removed, live_count-rebound}
+use Rattle.std.proofs.Common.{◌≡◌, ◌∙◌, ◌+◌, ◌≤◌, ℕ, length, Some, Result, Ok, Err, IfOk, IfErr, OnOk, sym, ap, arith}
+use Rattle.iddqd.specs.Store.{get, live_count}
+use Rattle.iddqd.proofs.LiveCountLemmas.{live_count-inserted, live_count-removed}
 use Rattle.iddqd_driver.specs.Keys.{Keys}
 use Rattle.iddqd_driver.specs.State.{State, IsPaired, unbound}
 use Rattle.iddqd_driver.specs.Machine.{Refuses, StoresAt}
@@ -27,18 +27,6 @@ module _ {T S : Type 0} (old new : State T S) (paired : IsPaired old) where
   count-removed ix item live is =
       live_count-removed old.store ix item paired.valid live
       ∙ ap (λ (s : State T S). live_count s.store + 1) (sym is)
-
--- a replacement, which may be refused
-pub count-replaced :
-    {T E : Type 0} (old new : Store T)
-    → IsValid old
-    → (ix : ℕ) (item : T) (r : Result T E)
-    → IfOk r (λ was. get old ix ≡ Some was)
-    → OnOk r (new ≡ rebound old ix item)
-    → OnErr r (new ≡ old)
-    → live_count new ≡ live_count old
-count-replaced old new valid ix item (Ok was) live is same = ap live_count is ∙ live_count-rebound old ix item was valid live
-count-replaced old new valid ix item (Err refusal) live is same = ap live_count same
 
 -- with room, an insert that is refused is one of a duplicate
 pub IsDuplicate-with_room :

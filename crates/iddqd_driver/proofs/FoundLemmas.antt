@@ -1,7 +1,6 @@
 -- Whether a hit is lesser, and whether an index is found alone by its first key.
-use Rattle.std.proofs.Common.{◌≡◌, ◌∙◌, ◌↔◌, ◌<◌, ℕ, Bool, true, false, nat_eq, not, Option, Some, None, IsSome, is_some, IsTrue, refl, sym, ap, arith}
-use Rattle.std.specs.Borrow.{Bor}
-use Rattle.std.specs.Option.{option_eq, option_copied}
+use Rattle.std.proofs.Common.{◌≡◌, ◌∙◌, ◌↔◌, ◌<◌, ℕ, Bool, true, false, nat_eq, not, Option, Some, None, IsTrue, sym, ap, arith}
+use Rattle.std.specs.Option.{option_eq}
 use Rattle.std.specs.Ordering.{nat_cmp, is_lt}
 use Rattle.std.proofs.lemmas.Bool.{false≢true}
 use Rattle.std.proofs.lemmas.Grind.{common_steps}
@@ -71,13 +70,3 @@ module _ {T K1 K2 S : Type 0} (keys : Keys T K1 K2 S) (s : State T S) (ix : ℕ)
       not_both : (b : Bool) → not b ≡ true → b ≡ true → ⊥
       not_both true turned told = false≢true turned
       not_both false turned told = false≢true told
-
--- an item that was read is there
-pub live_there :
-    {T : Type 0} (read : Option (Bor T)) (item : Option T) (none : Bool)
-    → option_copied read ≡ item
-    → is_some read ≡ not none
-    → none ≡ false
-    → IsSome item
-live_there None item none is told there = absurd (false≢true (told ∙ ap not there))
-live_there (Some it) item none is told there = rw (← is) refl

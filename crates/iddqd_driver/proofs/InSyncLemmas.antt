@@ -25,7 +25,7 @@ use Rattle.iddqd_hash.proofs.FiledLemmas.{filed_from_under, under_from_filed}
 use Rattle.iddqd_hash.proofs.MemberLemmas.{filed_at}
 use Rattle.iddqd_keys.specs.KeyWalk.{key_at, IsInPlace}
 use Rattle.iddqd_keys.specs.AnyTable.{HasDistinctKeys}
-use Rattle.iddqd_keys.specs.Scan.{IsHit, passes_by}
+use Rattle.iddqd_keys.specs.Scan.{IsHit}
 use Rattle.iddqd_keys.proofs.KeyWalkLemmas.{totals}
 use Rattle.iddqd_by_order.specs.Ordered as ordered
 use Rattle.iddqd_driver.specs.Keys.{Keys}
@@ -102,17 +102,6 @@ module _ {T K1 K2 S : Type 0} (keys : Keys T K1 K2 S) (s : State T S) (lawful : 
     ];
   }
 
-  -- where they are in sync, no lesser index has an equal key
-  pub alone-in_sync :
-      (ix : ℕ) (item : T) (hash : ℕ)
-      → FirstKeysInSync keys s
-      → get s.store ix ≡ Some item
-      → HasLesserHit s.store s.filed hash (passes_by keys.first (keys.equal_first (keys.first item))) ix
-      → ⊥
-  alone-in_sync ix item hash o live (j, less, found) =
-      let one = o.apart ix j item found.hit.0 live found.hit.1 found.hit.2 in
-      omega (arith, one, less)
-
 -- ---- second keys
 
 -- A walk along a list, by an order of its indexes: the list is sorted if and only if what is left of it is, with the
@@ -151,12 +140,6 @@ module _ (c : ℕ → ℕ → Ordering) where
   pub record SortedAs (order : List ℕ) (before : ℕ) (left : List ℕ) : Type 0 where
     pub forth : IsStrictlySortedBy c order → IsStrictlySortedBy c (before ∷ left)
     pub back : IsStrictlySortedBy c (before ∷ left) → IsStrictlySortedBy c order
-
-  pub SortedAs-first : (order : List ℕ) (first : ℕ) (left : List ℕ) → order ≡ first ∷ left → SortedAs order first left
-  SortedAs-first order first left is = record {
-    forth = subst (IsStrictlySortedBy c) is;
-    back = subst (IsStrictlySortedBy c) (sym is);
-  }
 
   pub SortedAs-next :
       IsTotalOrder c

@@ -7,14 +7,7 @@ pub mod ObeyLemmas
 pub mod ValidationLemmas
 pub mod InSyncLemmas
 pub mod FoundLemmas
-pub mod QueryLemmas
-pub mod WalkLemmas
-pub mod ReplacementLemmas
-pub mod ModifyLemmas
-pub mod RetainLemmas
 pub mod MemoryLemmas
 pub mod CountLemmas
 pub mod RemovalLemmas
-pub mod CloneLemmas
-pub mod EqualityLemmas
 pub mod PartLemmas

@@ -182,9 +182,6 @@ none_fits wanted free none = omega arith
 pub not_more : (n more : ℕ) → n ≤ max n more
 not_more n more = omega arith
 
-pub not_more_by : (new old more : ℕ) → new ≡ old → new ≤ max old more
-not_more_by new old more same = omega arith
-
 -- an insert into a store and two tables, which grew first
 pub InsertsInParts-stored :
     {T U E : Type 0} (items grown : SizedStore T) (slots : ℕ) (table mid_table new_table : Table ℕ) (order : Order)

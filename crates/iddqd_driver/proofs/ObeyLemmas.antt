@@ -87,8 +87,3 @@ module _
 
     pub room_for_rest : (new_held new_cap : ℕ) → new_held ≡ held + 1 → new_cap ≡ cap → new_held + length rest ≤ new_cap
     room_for_rest new_held new_cap more same = omega (arith, ap length next, room)
-
-pub room_for_all :
-    {X : Type 0} (items : List X) (wanted held cap : ℕ) → length items ≡ wanted → held ≡ 0 → wanted ≤ cap
-    → held + length items ≤ cap
-room_for_all items wanted held cap count none enough = omega (arith, count)

@@ -49,9 +49,6 @@ module _
 
     -- nothing was removed
     module _ (new_table : Table ℕ) (same : filed new_table ≡ filed table) where
-      pub kept-paired : IsPaired (state_of hasher items.store new_table order)
-      kept-paired = rw same paired
-
       pub LeavesAll-filed :
           {K1 K2 : Type 0} (keys : Keys T K1 K2 S)
           → KeepsMemory table new_table

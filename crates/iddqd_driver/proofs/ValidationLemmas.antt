@@ -1,5 +1,5 @@
 -- What a check of keyed items finds, where store and tables are paired.
-use Rattle.std.proofs.Common.{◌≡◌, ◌⊎◌, inl, inr, ◌∙◌, ◌↔◌, ◌&&◌, ℕ, Bool, true, false, nat_eq, List, [], ◌∷◌, map, length, Option, Some, None, IsSome, is_some, Result, Ok, Err, IsErr, IsOk, IfOk, IfErr, not, eq-eqb, refl, sym, ap, subst, T as Holds}
+use Rattle.std.proofs.Common.{◌≡◌, ◌⊎◌, inl, inr, ◌∙◌, ◌↔◌, ◌&&◌, ℕ, Bool, true, false, nat_eq, List, [], ◌∷◌, map, length, Option, Some, None, IsSome, is_some, Result, Ok, Err, IsErr, IsOk, IfErr, not, eq-eqb, refl, sym, ap, subst, T as Holds}
 use Rattle.std.specs.Borrow.{Bor}
 use Rattle.std.specs.Cmp.{nat_cmp_total, eq_by_cmp_equiv}
 use Rattle.std.specs.List.{AllByRecursion, Contains, IsDistinct, list_any}
@@ -182,10 +182,6 @@ Validates-also sound other (Err (Memory error)) holds also validates = tt
 pub not_ok : {A E : Type 0} (answer : Result A E) → IsErr answer → IsOk answer → ⊥
 not_ok (Ok value) refused passed = false≢true refused
 not_ok (Err error) refused passed = false≢true passed
-
-pub not_made : {A E : Type 0} (answer : Result A E) (P : A → Type 0) → IsErr answer → IfOk answer P
-not_made (Ok value) P refused = absurd (false≢true refused)
-not_made (Err error) P refused = tt
 
 pub one_way : (chaos : ValidateChaos) → chaos ≡ ValidateChaos.Yes → chaos ≡ ValidateChaos.No → ⊥
 one_way chaos scans keys = let same : ValidateChaos.Yes ≡ ValidateChaos.No = sym scans ∙ keys in absurd (cc)

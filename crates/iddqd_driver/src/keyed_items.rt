@@ -28,15 +28,9 @@ ghost use Rattle.iddqd_driver.specs.Run.{Run};
 ghost use Rattle.iddqd_driver.specs.Memory.{no_memory, capacity, room, InsertsInMemory, IsDuplicate, TakesForOne, StepsInMemory, RunsInMemory};
 ghost use Rattle.iddqd_driver.specs.Parts.{InsertsParts};
 
-mod clones;
 mod defaults;
-mod equality;
 mod memory;
-mod modifies;
 mod prints;
-mod queries;
-mod replaces;
-mod retain;
 mod validation;
 mod walks;
 
@@ -49,17 +43,14 @@ use iddqd::item_set::{GrowError, ItemSet};
 use iddqd::map_hash::MapHash;
 use iddqd_by_hash::hashed;
 use iddqd_by_order::ordered;
-pub use iddqd_by_order::ordered_walk::Range;
 use iddqd_hash::hash_table::MapHashTable;
 use iddqd_keys::key_of::KeyQuery;
 use iddqd_order::btree_table::{Entry, MapBTreeTable};
-pub use replaces::ReplaceRefusal;
 use std::alloc::{AllocError, Global};
 use std::error::Error;
 use std::fmt;
 use std::hash::BuildHasher;
 use std::marker::Model;
-pub use walks::ValuesByKey2;
 
 /// Items that contain two keys each.
 ///
@@ -68,7 +59,7 @@ pub use walks::ValuesByKey2;
 #[derive(Drop)]
 pub struct KeyedItems<T: KeyedItem, S: BuildHasher = DefaultHashBuilder> {
     items: ItemSet<T>,
-    // Each live index, under the hash of the first key that `insert` or `replace_at` put there last.
+    // Each live index, under the hash of the first key that it was inserted with.
     filed: MapHashTable,
     // Each live index: by second key, ties by index, if no second key was changed silently.
     order: MapBTreeTable,
@@ -311,7 +302,13 @@ impl<T: KeyedItem, S: BuildHasher> KeyedItems<T, S> {
             (live_count self.old.state.store ≤ capacity self.old → room self.new ≡ room self.old + 1) }
         ensures count { OnSome result (live_count self.old.state.store ≡ live_count self.new.state.store + 1) }
     {
-        self.remove1_by(key)
+        let hash = self.filed.compute_hash(&self.state, key);
+        let (filed, query) = (&mut self.filed, KeyQuery(key));
+        let Some(ix) = hashed::take::<T, First, KeyQuery<T::Key1>>(filed, &self.items, hash, &query)
+        else {
+            return None;
+        };
+        Some((ix, remove_item(&mut self.order, &mut self.items, ix)))
     }
 
     /// Removes the item with this second key.
@@ -326,7 +323,15 @@ impl<T: KeyedItem, S: BuildHasher> KeyedItems<T, S> {
             (live_count self.old.state.store ≤ capacity self.old → room self.new ≡ room self.old + 1) }
         ensures count { OnSome result (live_count self.old.state.store ≡ live_count self.new.state.store + 1) }
     {
-        self.remove2_by(key)
+        let (order, query) = (&mut self.order, KeyQuery(key));
+        let Some(ix) = ordered::take::<T, Second, KeyQuery<T::Key2>>(order, &self.items, &query)
+        else {
+            return None;
+        };
+        let item = take_item(&mut self.items, ix);
+        let hash = hashed::hash_of::<T, First, S>(&self.state, &item);
+        hashed::remove_index(&mut self.filed, hash, ix);
+        Some((ix, item))
     }
 
     /// Replaces the item at a live index, and returns the old one. If the index isn't live, it returns the given item.

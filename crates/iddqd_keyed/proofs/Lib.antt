@@ -1,5 +1,3 @@
 -- lemmas that callers cite, from one place
 pub use Rattle.iddqd.proofs.LiveItemLemmas
-pub use Rattle.iddqd_by_hash.proofs.RetainLemmas
 pub use Rattle.iddqd_driver.proofs.RunLemmas
-pub use Rattle.iddqd_keys.proofs.KeyWalkLemmas

@@ -13,14 +13,7 @@ pub use Rattle.iddqd_driver.specs.KeyIndexes
 pub use Rattle.iddqd_driver.specs.Machine
 pub use Rattle.iddqd_driver.specs.Run
 pub use Rattle.iddqd_driver.specs.Validation
-pub use Rattle.iddqd_driver.specs.Queries
-pub use Rattle.iddqd_driver.specs.Walks
-pub use Rattle.iddqd_driver.specs.Replacement
-pub use Rattle.iddqd_driver.specs.Modify
-pub use Rattle.iddqd_driver.specs.Clones
-pub use Rattle.iddqd_driver.specs.Equality
 pub use Rattle.iddqd_driver.specs.Memory
-pub use Rattle.iddqd_driver.specs.Retain
 pub use Rattle.iddqd_tri.specs.TriKeys
 pub use Rattle.iddqd_tri.specs.TriState
 pub use Rattle.iddqd_tri.specs.TriMemory
@@ -36,21 +29,13 @@ pub use Rattle.iddqd.specs.Store.{get, live_count, next_index, IsFull}
 pub use Rattle.iddqd.specs.Compaction.{rank, IsRemapOf}
 pub use Rattle.iddqd_order.specs.Iter.{indexes_left}
 pub use Rattle.iddqd_keys.specs.Scan.{IsLive, AnswersScan}
-pub use Rattle.iddqd_by_order.specs.OrderedWalk.{WalksWithin, pairs_at}
-pub use Rattle.iddqd_keys.specs.KeyKeeping.{KeepsKey, ModifiesItem, pair_keys}
 pub use Rattle.iddqd_driver.specs.Keys.{keys_of, IsDefaultHasher}
 pub use Rattle.iddqd_driver.specs.State.{empty_state, empty_state_within, cleared_state, unbound, Compacts, IsPaired}
 pub use Rattle.iddqd_driver.specs.KeyIndexes.{hash_in, has, first_key_index, second_key_index, IsInSync, LooksUp, ListsAsScan, AsScan}
 pub use Rattle.iddqd_driver.specs.KeyIndexes.{FirstKeysInSync, SecondKeysInSync, AreInSync, Keeps, KeepsUnlessChanged}
-pub use Rattle.iddqd_driver.specs.Refusal.{refusal_text, replace_refusal_text}
+pub use Rattle.iddqd_driver.specs.Refusal.{refusal_text}
 pub use Rattle.iddqd_driver.specs.Machine.{StoresAt, Inserts, ReportsAsScan, Removes, RemovesBy, Overwrites, Answers, Step}
 pub use Rattle.iddqd_driver.specs.Run.{IsSilentChange}
-pub use Rattle.iddqd_driver.specs.Queries.{LooksUpBy, LooksUpItem, LooksUpItemBy, GivesFound, HitsFound, ContainsKey, RemovesByQuery}
-pub use Rattle.iddqd_driver.specs.Walks.{items_at, RangesWithin}
-pub use Rattle.iddqd_driver.specs.Replacement.{ReportsOtherIndex, Becomes, Replaces}
-pub use Rattle.iddqd_driver.specs.Modify.{KeepsKeysOfFound, KeepsKeysOfQueried, ModifiesAt, ModifiesFound, ModifiesByKey, ModifiesByQuery}
-pub use Rattle.iddqd_by_hash.specs.Retain.{AsksInTurn, MayAskInTurn, RetainsTo, kept_of, removed_of}
-pub use Rattle.iddqd_driver.specs.Retain.{unbound_all, Retains}
 pub use Rattle.iddqd_driver.specs.Memory.{SizedState, no_memory, capacity, room, reservable, IsNoLower, IsMadeFor}
 pub use Rattle.iddqd_driver.specs.Memory.{IsDuplicate, IsOutOfMemory, InsertsInMemory, TakesForOne, ReservesInMemory, ShrinksInMemory}
 pub use Rattle.iddqd_driver.specs.Memory.{RefusesMemory, IsServedBelow, StepsInMemory, RunsInMemory}

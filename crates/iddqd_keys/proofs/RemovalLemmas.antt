@@ -60,20 +60,22 @@ module _ {T : Type 0} where
   limit-removed_all s [] = refl
   limit-removed_all s (x ∷ rest) = limit-removed_all (removed s x) rest
 
-  -- the places where removed items come back have an item each, if they were live
+-- The places where something comes back for each of these indexes have so many. Of the items that were removed, `at` is
+-- `get` of the store, and of their indexes with them `index_with_item`.
+module _ {A : Type 0} (at : ℕ → Option A) where
   pub count-padded :
-      (s : Store T) (places : ℕ) (indexes : List ℕ)
+      (places : ℕ) (indexes : List ℕ)
       → length indexes ≤ places
-      → ((ix : ℕ) → Contains indexes ix → IsLive s ix)
-      → count_by is_some (padded places (map (get s) indexes)) ≡ length indexes
-  count-padded s zero [] fits live = refl
-  count-padded s zero (ix ∷ rest) fits live = absurd (omega (arith, fits))
-  count-padded s (suc n) [] fits live =
-      let none = count-padded s n [] (omega arith) live in
-      sum_by-cons (λ (o : Option T). cond (is_some o) 1 0) None (padded n []) ∙ ap (λ k. 0 + k) none
-  count-padded s (suc n) (ix ∷ rest) fits live =
-      let others = count-padded s n rest (omega (arith, fits)) (λ j here. live j (contains_tail ix j rest here)) in
-      let first : is_some (get s ix) ≡ true = live ix (contains_head ix rest) in
-      sum_by-cons (λ (o : Option T). cond (is_some o) 1 0) (get s ix) (padded n (map (get s) rest))
-      ∙ ap (λ b. cond b 1 0 + count_by is_some (padded n (map (get s) rest))) first
+      → ((ix : ℕ) → Contains indexes ix → is_some (at ix) ≡ true)
+      → count_by is_some (padded places (map at indexes)) ≡ length indexes
+  count-padded zero [] fits there = refl
+  count-padded zero (ix ∷ rest) fits there = absurd (omega (arith, fits))
+  count-padded (suc n) [] fits there =
+      let none = count-padded n [] (omega arith) there in
+      sum_by-cons (λ (o : Option A). cond (is_some o) 1 0) None (padded n []) ∙ ap (λ k. 0 + k) none
+  count-padded (suc n) (ix ∷ rest) fits there =
+      let others = count-padded n rest (omega (arith, fits)) (λ j here. there j (contains_tail ix j rest here)) in
+      let first = there ix (contains_head ix rest) in
+      sum_by-cons (λ (o : Option A). cond (is_some o) 1 0) (at ix) (padded n (map at rest))
+      ∙ ap (λ b. cond b 1 0 + count_by is_some (padded n (map at rest))) first
       ∙ omega (arith, others)

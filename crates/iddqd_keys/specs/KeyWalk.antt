@@ -18,10 +18,6 @@ module _ {T : Type 0} where
   abbrev pub pairs_at : Store T → List ℕ → List (ℕ × T)
   pairs_at s indexes = filter_map (index_with_item s) indexes
 
-  -- the items at these indexes, in the order of the list
-  abbrev pub items_at : Store T → List ℕ → List T
-  items_at s indexes = filter_map (get s) indexes
-
 module _ {T K : Type 0} (key_of : T → K) where
   -- the key of the item at an index, if it is live
   abbrev pub key_at : Store T → ℕ → Option K

@@ -2,7 +2,7 @@
 use Rattle.std.proofs.Common.{◌≡◌, ◌∙◌, ℕ, zero, suc, ◌<◌, ◌≤◌, List, [], ◌∷◌, min, length, get_or, slice_index, refl, sym, ap, subst, arith, inl, inr, Some, None, Contains, All, Result, Ok, Err}
 use Rattle.std.specs.Prelude.{OnOk, OnErr}
 use Rattle.std.proofs.Common.{IsSome, set, get_or-set_other, get_or-set_same, length-set}
-use Rattle.std.proofs.lemmas.Bool.{cases_eq, cases_lt}
+use Rattle.std.proofs.lemmas.Bool.{cases_eq}
 use Rattle.std.specs.FinMap.{FinMap}
 use Rattle.std.specs.Ordering.{nat_cmp}
 use Rattle.iddqd_hash.proofs.MemberLemmas.{get-insert_at, get-insert_other, get-remove_other}
@@ -25,12 +25,51 @@ use Rattle.iddqd_by_order.proofs.OrderedHoldsLemmas as order_lemmas
 use Rattle.iddqd_layer.specs.Layer.{Layer, IsPaired, store_of, hashed_of, ordered_of, Each, EachBy, ForgetsHashed, ForgetsOrdered, RenamesHashed, RenamesOrdered, IsFiled, IsPlaced, IsRefiled, IsTakenOut, IsUnfiled, ShrinksOrdered, LeadsToGap, SameFiled, SameOrder, descent_of, least_of}
 use Rattle.iddqd_layer.specs.declared.way.Way.{Way}
 
+-- `value` is what a table has, and `Holds` says that it has exactly the live indexes of a store
+module _ {A X : Type 0} (value : A → X) (Holds : Store (Unit {0}) → X → Type 0) where
+  abbrev pub AllHold : Store (Unit {0}) → List A → Type 0
+  AllHold s tables = (k : ℕ) (t : A) → k < length tables → Holds s (value (get_or tables k t))
+
+  -- a step of the store and of each table keeps this, if it does for one
+  pub all-stepped :
+      (s s' : Store (Unit {0})) (P : A → A → Type 0) (old new : List A)
+      → ((a b : A) → Holds s (value a) → P a b → Holds s' (value b))
+      → AllHold s old
+      → Each P old new
+      → AllHold s' new
+  all-stepped s s' P old new step holds e k t lt =
+      let long = e.long in
+      step (get_or old k t) (get_or new k t) (holds k t (omega arith)) (e.at k t t (omega arith))
+
+  -- the same where the step has something of its own for each table
+  pub all-stepped_by :
+      {C : Type 0} (s s' : Store (Unit {0})) (P : C → A → A → Type 0) (by : List C) (other : C) (old new : List A)
+      → ((c : C) (a b : A) → Holds s (value a) → P c a b → Holds s' (value b))
+      → AllHold s old
+      → EachBy P by old new
+      → AllHold s' new
+  all-stepped_by s s' P by other old new step holds e k t lt =
+      let long = e.long in
+      step (get_or by k other) (get_or old k t) (get_or new k t) (holds k t (omega arith))
+      (e.at k other t t (omega arith))
+
+  -- a copy of each table
+  pub all-copied :
+      (s : Store (Unit {0})) (P : A → A → Type 0) (old new : List A)
+      → ((a b : A) → Holds s (value a) → P a b → Holds s (value b))
+      → AllHold s old
+      → AllZip P old new
+      → AllHold s new
+  all-copied s P old new step holds zip k t lt =
+      let long = length_all_zip P old new zip in
+      step (get_or old k t) (get_or new k t) (holds k t (omega arith)) (AllZip-get_or P old new k t t zip (omega arith))
+
 -- each table has exactly the live indexes
 abbrev pub AllHashed : Store (Unit {0}) → List (Table ℕ) → Type 0
-AllHashed s tables = (k : ℕ) (t : Table ℕ) → k < length tables → by_hash.Holds s (filed (get_or tables k t))
+AllHashed = AllHold filed by_hash.Holds
 
 abbrev pub AllOrdered : Store (Unit {0}) → List Order → Type 0
-AllOrdered s tables = (k : ℕ) (t : Order) → k < length tables → by_order.Holds s (order_of (get_or tables k t))
+AllOrdered = AllHold order_of by_order.Holds
 
 -- an index that gets another hash stays the only one of its kind
 refiled :
@@ -41,17 +80,19 @@ refiled :
 refiled s m ix hash holds here j =
     elim (cases_eq j ix) [
       | inl e ↦
-          (let now : finite.get (finite.insert (finite.remove m ix) ix hash) j ≡ Some hash = rw e (get-insert_at (finite.remove m ix) ix hash) in
+          (let now : finite.get (finite.insert (finite.remove m ix) ix hash) j ≡ Some hash =
+          rw e (get-insert_at (finite.remove m ix) ix hash) in
           (λ _. (holds j).0 (rw e here), λ _. rw now refl))
       | inr ne ↦
-          (let now : finite.get (finite.insert (finite.remove m ix) ix hash) j ≡ finite.get m j = get-insert_other (finite.remove m ix) ix hash j ne ∙ get-remove_other m ix j ne in
+          (let now : finite.get (finite.insert (finite.remove m ix) ix hash) j ≡ finite.get m j =
+          get-insert_other (finite.remove m ix) ix hash j ne ∙ get-remove_other m ix j ne in
           rw now (holds j))
     ]
 
 module _ (s : Store (Unit {0})) (old new : List (Table ℕ)) where
   pub hashed-same : AllHashed s old → Each SameFiled old new → AllHashed s new
-  hashed-same holds e k t lt =
-      let long = e.long in subst (by_hash.Holds s) (sym (e.at k t t (omega arith))) (holds k t (omega arith))
+  hashed-same =
+      all-stepped filed by_hash.Holds s s SameFiled old new (λ a b held is. subst (by_hash.Holds s) (sym is) held)
 
   pub hashed-inserted :
       (hashes : List ℕ)
@@ -59,10 +100,10 @@ module _ (s : Store (Unit {0})) (old new : List (Table ℕ)) where
       → AllHashed s old
       → EachBy (IsFiled (next_index s)) hashes old new
       → AllHashed (inserted s tt) new
-  hashed-inserted hashes valid holds e k t lt =
-      let long = e.long in
-      subst (by_hash.Holds (inserted s tt)) (sym (e.at k 0 t t (omega arith)))
-      (hash_lemmas.Holds-inserted s (filed (get_or old k t)) (holds k t (omega arith)) tt (get_or hashes k 0) valid)
+  hashed-inserted hashes valid =
+      all-stepped_by filed by_hash.Holds s (inserted s tt) (IsFiled (next_index s)) hashes 0 old new
+      (λ hash a b held is.
+      subst (by_hash.Holds (inserted s tt)) (sym is) (hash_lemmas.Holds-inserted s (filed a) held tt hash valid))
 
   pub hashed-removed :
       (ix : ℕ)
@@ -70,23 +111,23 @@ module _ (s : Store (Unit {0})) (old new : List (Table ℕ)) where
       → AllHashed s old
       → Each (IsUnfiled ix) old new
       → AllHashed (removed s ix) new
-  hashed-removed ix live holds e k t lt =
-      let long = e.long in
-      subst (by_hash.Holds (removed s ix)) (sym (e.at k t t (omega arith)))
-      (hash_lemmas.Holds-removed s (filed (get_or old k t)) (holds k t (omega arith)) ix tt live)
+  hashed-removed ix live =
+      all-stepped filed by_hash.Holds s (removed s ix) (IsUnfiled ix) old new
+      (λ a b held is.
+      subst (by_hash.Holds (removed s ix)) (sym is) (hash_lemmas.Holds-removed s (filed a) held ix tt live))
 
-  pub hashed-cleared : Each ForgetsHashed old new → AllHashed (cleared s) new
-  hashed-cleared e k t lt =
-      let long = e.long in
-      subst (by_hash.Holds (cleared s)) (sym (e.at k t t (omega arith))) (hash_lemmas.Holds-cleared s)
+  pub hashed-cleared : AllHashed s old → Each ForgetsHashed old new → AllHashed (cleared s) new
+  hashed-cleared =
+      all-stepped filed by_hash.Holds s (cleared s) ForgetsHashed old new
+      (λ a b held is. subst (by_hash.Holds (cleared s)) (sym is) (hash_lemmas.Holds-cleared s))
 
   pub hashed-compacted :
       AllHashed s old
       → Each (RenamesHashed (rank s)) old new
       → AllHashed (compacted s) new
-  hashed-compacted holds e k t lt =
-      let long = e.long in
-      hash_lemmas.Holds-compacted s (filed (get_or old k t)) (holds k t (omega arith)) (filed (get_or new k t)) (e.at k t t (omega arith))
+  hashed-compacted =
+      all-stepped filed by_hash.Holds s (compacted s) (RenamesHashed (rank s)) old new
+      (λ a b held is. hash_lemmas.Holds-compacted s (filed a) held (filed b) is)
 
   -- one table of all, in which an index got another hash
   pub hashed-refiled :
@@ -100,9 +141,11 @@ module _ (s : Store (Unit {0})) (old new : List (Table ℕ)) where
       let long = ap length is ∙ length-set old key v in
       elim (cases_eq k key) [
         | inl e ↦
-            (let at : get_or new k t ≡ v = ap (λ z. get_or new z t) e ∙ ap (λ z. get_or z key t) is ∙ get_or-set_same old key v t (omega arith) in
+            (let at : get_or new k t ≡ v =
+            ap (λ z. get_or new z t) e ∙ ap (λ z. get_or z key t) is ∙ get_or-set_same old key v t (omega arith) in
             let was = holds key v (omega arith) in
-            subst (λ z. by_hash.Holds s (filed z)) (sym at) (subst (by_hash.Holds s) (sym re) (refiled s (filed (get_or old key v)) ix hash was here)))
+            subst (λ z. by_hash.Holds s (filed z)) (sym at)
+            (subst (by_hash.Holds s) (sym re) (refiled s (filed (get_or old key v)) ix hash was here)))
         | inr ne ↦
             (let at : get_or new k t ≡ get_or old k t = ap (λ z. get_or z k t) is ∙ get_or-set_other old key k v t ne in
             subst (λ z. by_hash.Holds s (filed z)) (sym at) (holds k t (omega arith)))
@@ -122,9 +165,9 @@ hashed-empty tables all k t lt =
 
 module _ (s : Store (Unit {0})) (old new : List Order) where
   pub ordered-same : AllOrdered s old → Each HasSameTree old new → AllOrdered s new
-  ordered-same holds e k t lt =
-      let long = e.long in
-      subst (by_order.Holds s) (sym (order-same (get_or old k t) (get_or new k t) (e.at k t t (omega arith)))) (holds k t (omega arith))
+  ordered-same =
+      all-stepped order_of by_order.Holds s s HasSameTree old new
+      (λ a b held is. subst (by_order.Holds s) (sym (order-same a b is)) held)
 
   pub ordered-inserted :
       (ways : List Way)
@@ -132,11 +175,12 @@ module _ (s : Store (Unit {0})) (old new : List Order) where
       → AllOrdered s old
       → EachBy (IsPlaced (next_index s)) ways old new
       → AllOrdered (inserted s tt) new
-  ordered-inserted ways valid holds e k t lt =
-      let long = e.long in
-      let is = e.at k (record { places = []; level = 0 }) t t (omega arith) in
-      order_lemmas.Holds-inserted s (order_of (get_or old k t)) (holds k t (omega arith)) tt valid (order_of (get_or new k t))
-      (record { place = _; within = is.within; added = is.placed })
+  ordered-inserted ways valid =
+      all-stepped_by order_of by_order.Holds s (inserted s tt) (IsPlaced (next_index s)) ways
+      (record { places = []; level = 0 }) old new
+      (λ way a b held is.
+      order_lemmas.Holds-inserted s (order_of a) held tt valid (order_of b)
+      (record { place = _; within = is.within; added = is.placed }))
 
   pub ordered-removed :
       (ix : ℕ)
@@ -144,24 +188,24 @@ module _ (s : Store (Unit {0})) (old new : List Order) where
       → AllOrdered s old
       → Each (IsTakenOut ix) old new
       → AllOrdered (removed s ix) new
-  ordered-removed ix live holds e k t lt =
-      let long = e.long in
-      subst (by_order.Holds (removed s ix)) (sym (e.at k t t (omega arith)))
-      (order_lemmas.Holds-removed s (order_of (get_or old k t)) (holds k t (omega arith)) ix tt live)
+  ordered-removed ix live =
+      all-stepped order_of by_order.Holds s (removed s ix) (IsTakenOut ix) old new
+      (λ a b held is.
+      subst (by_order.Holds (removed s ix)) (sym is) (order_lemmas.Holds-removed s (order_of a) held ix tt live))
 
-  pub ordered-cleared : Each ForgetsOrdered old new → AllOrdered (cleared s) new
-  ordered-cleared e k t lt =
-      let long = e.long in
-      subst (by_order.Holds (cleared s)) (sym (e.at k t t (omega arith))) (order_lemmas.Holds-cleared s)
+  pub ordered-cleared : AllOrdered s old → Each ForgetsOrdered old new → AllOrdered (cleared s) new
+  ordered-cleared =
+      all-stepped order_of by_order.Holds s (cleared s) ForgetsOrdered old new
+      (λ a b held is. subst (by_order.Holds (cleared s)) (sym is) (order_lemmas.Holds-cleared s))
 
   pub ordered-compacted :
       AllOrdered s old
       → Each (RenamesOrdered (rank s)) old new
       → AllOrdered (compacted s) new
-  ordered-compacted holds e k t lt =
-      let long = e.long in
-      subst (by_order.Holds (compacted s)) (sym (e.at k t t (omega arith)))
-      (order_lemmas.Holds-compacted s (order_of (get_or old k t)) (holds k t (omega arith)))
+  ordered-compacted =
+      all-stepped order_of by_order.Holds s (compacted s) (RenamesOrdered (rank s)) old new
+      (λ a b held is.
+      subst (by_order.Holds (compacted s)) (sym is) (order_lemmas.Holds-compacted s (order_of a) held))
 
   pub absent-next : IsValid s → AllOrdered s old → (k : ℕ) (t : Order) → k < length old
       → Contains (order_of (get_or old k t)) (next_index s) → ⊥
@@ -224,7 +268,8 @@ ways-still ways old mid same e = record {
   at = λ k a b lt.
       let long = same.long in
       let w = get_or ways k b in
-      HasGap-same (get_or old k a) (get_or mid k a) (descent_of w) (slice_index w.places 0) (same.at k a a (omega arith)) (e.at k a b (omega arith));
+      HasGap-same (get_or old k a) (get_or mid k a) (descent_of w) (slice_index w.places 0)
+      (same.at k a a (omega arith)) (e.at k a b (omega arith));
 }
 
 -- the least of what f gives
@@ -247,15 +292,6 @@ module _ {A : Type 0} (f : A → ℕ) where
   least-above m n (x ∷ xs) le all =
       let here = all 0 x (omega arith) in
       least-above m (min n (f x)) xs (omega arith) (λ k a lt. all (suc k) a (omega arith))
-
-  -- where the least of all and m is below m, so is the least of all and anything
-  pub least-below : (m n s : ℕ) (xs : List A) → m ≤ n → least_of f n xs < m → least_of f s xs < m
-  least-below m n s [] le lt = absurd (omega arith)
-  least-below m n s (x ∷ xs) le lt =
-      elim (cases_lt (f x) m) [
-        | inl low ↦ (let rest = least-start (min s (f x)) xs in omega arith)
-        | inr high ↦ least-below m (min n (f x)) (min s (f x)) xs (omega arith) lt
-      ]
 
 pub on_ok : {A E X Y : Type 0} (r : Result A E) → (X → Y) → OnOk r X → OnOk r Y
 on_ok (Ok v) f x = f x
@@ -288,15 +324,13 @@ pub hashed-copied :
     → AllHashed s old
     → AllZip SameFiled old new
     → AllHashed s new
-hashed-copied s old new holds zip k t lt =
-    let long = length_all_zip SameFiled old new zip in
-    subst (by_hash.Holds s) (sym (AllZip-get_or SameFiled old new k t t zip (omega arith))) (holds k t (omega arith))
+hashed-copied s old new =
+    all-copied filed by_hash.Holds s SameFiled old new (λ a b held is. subst (by_hash.Holds s) (sym is) held)
 
 pub ordered-copied :
     (s : Store (Unit {0})) (old new : List Order)
     → AllOrdered s old
     → AllZip SameOrder old new
     → AllOrdered s new
-ordered-copied s old new holds zip k t lt =
-    let long = length_all_zip SameOrder old new zip in
-    subst (by_order.Holds s) (sym (AllZip-get_or SameOrder old new k t t zip (omega arith))) (holds k t (omega arith))
+ordered-copied s old new =
+    all-copied order_of by_order.Holds s SameOrder old new (λ a b held is. subst (by_order.Holds s) (sym is) held)

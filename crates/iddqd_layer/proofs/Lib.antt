@@ -1,3 +1,5 @@
 pub mod LawfulLemmas
 pub mod LayerLemmas
 mod LoopLemmas
+mod RoomLemmas
+pub mod RunLemmas

@@ -26,13 +26,15 @@ halfway-next P i old now new v h lt is here =
       long = ap length is ∙ length-set now i v ∙ h.long;
       done = λ k a low within. elim (cases_eq k i) [
         | inl e ↦
-            (let at : get_or new k a ≡ v = ap (λ z. get_or new z a) e ∙ ap (λ z. get_or z i a) is ∙ get_or-set_same now i v a (omega arith) in
+            (let at : get_or new k a ≡ v =
+            ap (λ z. get_or new z a) e ∙ ap (λ z. get_or z i a) is ∙ get_or-set_same now i v a (omega arith) in
             rw (at, e) (here a))
         | inr ne ↦
             (let at : get_or new k a ≡ get_or now k a = ap (λ z. get_or z k a) is ∙ get_or-set_other now i k v a ne in
             rw at (h.done k a (omega arith) within))
       ];
-      left = λ k a le. ap (λ z. get_or z k a) is ∙ get_or-set_other now i k v a (λ e. absurd (omega arith)) ∙ h.left k a (omega arith);
+      left = λ k a le. ap (λ z. get_or z k a) is ∙ get_or-set_other now i k v a (λ e. absurd (omega arith))
+          ∙ h.left k a (omega arith);
     }
 
 -- the member that the loop has come to is still the old one
@@ -79,5 +81,6 @@ each_by-done P by i old now h end = record {
   long = h.long;
   at = λ k c a b lt.
       let long = h.long in
-      subst (P (get_or by k c) (get_or old k a)) (get_or_default now k a b (omega arith)) (h.done k a (omega arith) lt c);
+      subst (P (get_or by k c) (get_or old k a)) (get_or_default now k a b (omega arith))
+      (h.done k a (omega arith) lt c);
 }

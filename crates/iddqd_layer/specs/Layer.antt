@@ -1,5 +1,5 @@
 -- What a contract sees of a layer: a store of indexes without items, and for each key a table of them.
-use Rattle.std.specs.Prelude.{◌≡◌, ◌<◌, ◌≤◌, ℕ, List, [], length, insert, map, max, min, slice_index, slice_index_or}
+use Rattle.std.specs.Prelude.{◌≡◌, ◌<◌, ◌≤◌, ◌+◌, ◌-◌, ℕ, List, [], length, insert, map, max, min, slice_index, slice_index_or}
 use Rattle.std.specs.List.{AllZip, fold}
 use Rattle.std.specs.FinMap as finite
 use Rattle.iddqd.specs.ItemSet.{SizedStore}
@@ -113,6 +113,10 @@ RenamesOrdered name old new = order_of new ≡ map name (order_of old)
 abbrev pub SameCapacity : Order → Order → Type 0
 SameCapacity old new = order_table.capacity new ≡ order_table.capacity old
 
+-- it can hold no fewer than before
+abbrev pub KeepsCapacity : Order → Order → Type 0
+KeepsCapacity old new = order_table.capacity old ≤ order_table.capacity new
+
 -- the table, which was the old one, has room for this many more indexes
 abbrev pub HasHashRoom : ℕ → Table ℕ → Table ℕ → Type 0
 HasHashRoom additional old new = additional ≤ hash_table.room new
@@ -120,9 +124,23 @@ HasHashRoom additional old new = additional ≤ hash_table.room new
 abbrev pub HasOrderRoom : ℕ → Order → Order → Type 0
 HasOrderRoom additional old new = additional ≤ order_table.room new
 
+-- it has room for no fewer indexes, for one fewer, or for one more
+abbrev pub KeepsHashRoom : Table ℕ → Table ℕ → Type 0
+KeepsHashRoom old new = hash_table.room old ≤ hash_table.room new
+
+abbrev pub UsesHashRoom : Table ℕ → Table ℕ → Type 0
+UsesHashRoom old new = hash_table.room old ≡ hash_table.room new + 1
+
+abbrev pub FreesHashRoom : Table ℕ → Table ℕ → Type 0
+FreesHashRoom old new = hash_table.room new ≡ hash_table.room old + 1
+
 -- the table has no more cells than its indexes or `least` of them need
 abbrev pub HasFewCells : ℕ → Table ℕ → Table ℕ → Type 0
 HasFewCells least old new = hash_table.memory new ≤ most_cells (max least (finite.len (filed old)))
+
+-- its room for so many indexes as make `least` with those that there are stayed, if it was there
+abbrev pub KeepsHashRoomTo : ℕ → Table ℕ → Table ℕ → Type 0
+KeepsHashRoomTo least old new = min (hash_table.room old) (least - finite.len (filed old)) ≤ hash_table.room new
 
 -- the table keeps its tree, and no more capacity than its indexes or `least` of them need
 abbrev pub ShrinksOrdered : ℕ → Order → Order → Type 0

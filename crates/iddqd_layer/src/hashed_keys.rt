@@ -1,11 +1,11 @@
 //! What is done to each hash table of a layer, one after the other.
-ghost use Rattle.std.specs.Prelude.{◌≡◌, ◌≤◌, ◌<◌, ℕ, All, length, slice_index_or, IfOk, IsSome, None, OnOk, OnErr};
+ghost use Rattle.std.specs.Prelude.{◌≡◌, ◌≤◌, ◌<◌, ℕ, All, length, slice_index_or, IfOk, IsSome, None, OnOk};
 ghost use Rattle.std.specs.FinMap as finite;
 ghost use Rattle.std.specs.List.{AllZip};
 ghost use Rattle.iddqd.specs.Compaction.{CanRemap, remapped};
 ghost use Rattle.iddqd_hash.specs.HashTable.{Table, room};
 ghost use Rattle.iddqd_hash.specs.MapHashTable.{filed, HaveOwnNames};
-ghost use Rattle.iddqd_layer.specs.Layer.{Each, EachBy, ForgetsHashed, HasFewCells, HasHashRoom, IsFiled, IsRefiled, IsUnfiled, RenamesHashed, SameFiled, least_of};
+ghost use Rattle.iddqd_layer.specs.Layer.{Each, EachBy, ForgetsHashed, FreesHashRoom, HasFewCells, HasHashRoom, IsFiled, IsRefiled, IsUnfiled, KeepsHashRoom, KeepsHashRoomTo, RenamesHashed, SameFiled, UsesHashRoom, least_of};
 
 use iddqd::index_remap::IndexRemap;
 use iddqd::item_index::ItemIndex;
@@ -45,7 +45,7 @@ pub(crate) fn reserve_hashed(
 ) -> Result<(), AllocError>
     ensures same { Each SameFiled tables.old.items tables.new.items }
     ensures room { OnOk result (Each (HasHashRoom additional) tables.old.items tables.new.items) }
-    ensures roomy { OnErr result (least_of room additional tables.old.items < additional) }
+    ensures room_kept { Each KeepsHashRoom tables.old.items tables.new.items }
 {
     for i in 0..tables.len() {
         tables[i].try_reserve(additional)?;
@@ -60,7 +60,8 @@ pub(crate) fn insert_hashed(tables: &mut Vec<MapHashTable>, hashes: &[u64], ix: 
         → 1 ≤ room (slice_index_or tables.old.items k t) }
     requires absent { (k : ℕ) (t : Table ℕ) → k < length tables.old.items →
         finite.get (filed (slice_index_or tables.old.items k t)) ix ≡ None }
-    ensures { EachBy (IsFiled ix) hashes.now tables.old.items tables.new.items }
+    ensures filed { EachBy (IsFiled ix) hashes.now tables.old.items tables.new.items }
+    ensures room { Each UsesHashRoom tables.old.items tables.new.items }
 {
     for i in 0..tables.len() {
         tables[i].insert_prehashed_unchecked(MapHash::new(hashes[i]), ix);
@@ -72,7 +73,7 @@ pub(crate) fn remove_hashed(tables: &mut Vec<MapHashTable>, hashes: &[u64], ix: 
     requires { (k : ℕ) (t : Table ℕ) → k < length tables.old.items →
         IsSome (finite.get (filed (slice_index_or tables.old.items k t)) ix) }
     ensures removed { Each (IsUnfiled ix) tables.old.items tables.new.items }
-    ensures room { Each (HasHashRoom 1) tables.old.items tables.new.items }
+    ensures room { Each FreesHashRoom tables.old.items tables.new.items }
 {
     for i in 0..tables.len() {
         remove_one(&mut tables[i], hashes.get(i), ix);
@@ -83,7 +84,7 @@ pub(crate) fn remove_hashed(tables: &mut Vec<MapHashTable>, hashes: &[u64], ix: 
 fn remove_one(table: &mut MapHashTable, hash: Option<&u64>, ix: ItemIndex)
     requires { IsSome (finite.get (filed table.old) ix) }
     ensures removed { IsUnfiled ix table.old table.new }
-    ensures room { 1 ≤ room table.new }
+    ensures room { FreesHashRoom table.old table.new }
 {
     match hash {
         Some(hash) => remove_index(table, MapHash::new(*hash), ix),
@@ -93,7 +94,8 @@ fn remove_one(table: &mut MapHashTable, hash: Option<&u64>, ix: ItemIndex)
 
 // Removes all indexes from each table, and keeps its memory.
 pub(crate) fn clear_hashed(tables: &mut Vec<MapHashTable>)
-    ensures { Each ForgetsHashed tables.old.items tables.new.items }
+    ensures empty { Each ForgetsHashed tables.old.items tables.new.items }
+    ensures room { Each KeepsHashRoom tables.old.items tables.new.items }
 {
     for i in 0..tables.len() {
         tables[i].clear();
@@ -106,7 +108,8 @@ pub(crate) fn rename_hashed(tables: &mut Vec<MapHashTable>, remap: &IndexRemap)
         (ix : ℕ) → IsSome (finite.get (filed (slice_index_or tables.old.items k t)) ix) → CanRemap remap.now ix }
     requires distinct { (k : ℕ) (t : Table ℕ) → k < length tables.old.items →
         HaveOwnNames (remapped remap.now) (filed (slice_index_or tables.old.items k t)) }
-    ensures { Each (RenamesHashed (remapped remap.now)) tables.old.items tables.new.items }
+    ensures renamed { Each (RenamesHashed (remapped remap.now)) tables.old.items tables.new.items }
+    ensures room { Each KeepsHashRoom tables.old.items tables.new.items }
 {
     for i in 0..tables.len() {
         tables[i].remap_indexes(remap);
@@ -116,7 +119,8 @@ pub(crate) fn rename_hashed(tables: &mut Vec<MapHashTable>, remap: &IndexRemap)
 // Files an index of a table under another hash.
 pub(crate) fn rehash_one(table: &mut MapHashTable, ix: ItemIndex, from: u64, to: u64)
     requires { IsSome (finite.get (filed table.old) ix) }
-    ensures { IsRefiled ix to table.old table.new }
+    ensures filed { IsRefiled ix to table.old table.new }
+    ensures room { room table.new ≡ room table.old }
 {
     remove_index(table, MapHash::new(from), ix);
     table.insert_prehashed_unchecked(MapHash::new(to), ix);
@@ -125,6 +129,7 @@ pub(crate) fn rehash_one(table: &mut MapHashTable, ix: ItemIndex, from: u64, to:
 // Gives back memory of each table that is needed neither for its indexes nor for `least` of them.
 pub(crate) fn shrink_hashed(tables: &mut Vec<MapHashTable>, least: usize) -> Result<(), AllocError>
     ensures same { Each SameFiled tables.old.items tables.new.items }
+    ensures room { Each (KeepsHashRoomTo least) tables.old.items tables.new.items }
     ensures shrunk { OnOk result (Each (HasFewCells least) tables.old.items tables.new.items) }
 {
     for i in 0..tables.len() {

@@ -4,10 +4,13 @@
 //! way and takes all memory before it writes anything, so nothing is left in one table alone. A removal finds the index
 //! in each table, by a walk if a hash or a way is wrong.
 //!
-//! A key that changed in order has no call that moves its index: the way to the new place is found while the index
-//! stands at the old one, and is stale once it has left. So `remove`, search, and `insert`, which gives the same index,
-//! and takes no memory within the capacity.
-ghost use Rattle.std.specs.Prelude.{◌≡◌, ◌≢◌, ◌↔◌, ◌+◌, ◌<◌, ◌≤◌, ℕ, length, max, min, slice_get, slice_index_or, IfOk, IfSome, IsNone, IsOk, OnOk, OnErr, Err, IsTrue, true, false, option_copied};
+//! A key that changed in order has no call that moves its index. A way to the new place that was found while the index
+//! stood at the old one is stale once it has left, since nodes merge then. An insert before the removal would need a
+//! node where the table is full, so it could run out of memory. To find the gap again by its place in the list would
+//! take a step for each index. So a record is moved by `remove`, a search, and `insert`. The index is the same (`next`
+//! of `remove`). Where the ordered tables fit their memory there is room for it (`freed`), so no memory is taken. The
+//! place is one in the list without the index: `moved-in_order` of `LawfulLemmas`.
+ghost use Rattle.std.specs.Prelude.{◌≡◌, ◌≢◌, ◌↔◌, ◌+◌, ◌-◌, ◌<◌, ◌≤◌, ℕ, length, max, min, slice_get, slice_index_or, IfOk, IfSome, IsNone, IsOk, OnOk, OnErr, Err, IsTrue, true, false, option_copied};
 ghost use Rattle.iddqd.specs.Compaction.{IsRemapOf, compacted, rank};
 ghost use Rattle.iddqd.specs.ItemSet as slots;
 ghost use Rattle.iddqd.specs.LiveItems.{live_pairs, IsWalkOf};
@@ -78,6 +81,7 @@ impl Layer {
         ensures ordered { IfOk result (λ layer. length (ordered_of layer) ≡ ordered) }
         ensures count { result ≡ Err Refusal.Count → (hashed ≤ most_keys) × (ordered ≤ most_keys) → ⊥ }
         ensures few { IsOk result → (hashed ≤ most_keys) × (ordered ≤ most_keys) }
+        ensures fits { IfOk result FitsItsMemory }
         ensures errors { (result ≡ Err Refusal.Way → ⊥) × (result ≡ Err Refusal.Full → ⊥) }
     {
         if hashed > MOST_KEYS || ordered > MOST_KEYS {
@@ -168,14 +172,20 @@ impl Layer {
 
     /// Makes room for `additional` more indexes, or for as many as there can be.
     ///
-    /// If memory runs out, the contents stay. Within `room` it takes none, and can't fail.
+    /// If memory runs out, the contents stay. Within `room` it takes none, changes nothing and can't fail.
     ///
     /// Cost: a step for each key; where memory is taken, a step for each index of a table that grows.
     pub fn reserve(&mut self, additional: usize) -> Result<(), AllocError>
         ensures same { HasSameContents self.old self.new }
         ensures room { OnOk result (min additional (insertable (store_of self.old)) ≤ room self.new) }
         ensures roomy { OnErr result (room self.old < additional) }
+        ensures room_kept { room self.old ≤ room self.new }
+        ensures unchanged { additional ≤ room self.old → self.new ≡ self.old }
+        ensures fits { FitsItsMemory self.old → FitsItsMemory self.new }
     {
+        if additional <= self.room() {
+            return Ok(());
+        }
         reserve_slots(&mut self.items, additional)?;
         reserve_hashed(&mut self.hashed, additional)?;
         reserve_ordered(&mut self.ordered, additional)
@@ -184,7 +194,9 @@ impl Layer {
     /// Draws the next index, and inserts it into each hashed key's table under its hash, and into each ordered key's
     /// table at the gap to which its way leads.
     ///
-    /// If it is refused, nothing changes but what memory is reserved. Within `room` it isn't refused for memory.
+    /// If it is refused, nothing changes but what memory is reserved. Within `room` it isn't refused for memory, and
+    /// uses up one of it. So within a room of k the next k inserts take no memory, and each removal among them gives
+    /// one back.
     ///
     /// Cost: a step for each hashed key, and some steps for each level of each ordered key.
     pub fn insert(&mut self, hashes: &[u64], ways: &[Way]) -> Result<ItemIndex, Refusal>
@@ -200,6 +212,9 @@ impl Layer {
         ensures way { result ≡ Err Refusal.Way → Each LeadsToGap (ordered_of self.old) ways.now → ⊥ }
         ensures full { result ≡ Err Refusal.Full → IsFull (store_of self.old) }
         ensures memory { result ≡ Err Refusal.Memory → room self.old ≡ 0 }
+        ensures room { OnOk result (1 ≤ room self.old → room self.old ≡ room self.new + 1) }
+        ensures room_kept { OnErr result (room self.old ≤ room self.new) }
+        ensures fits { FitsItsMemory self.old → FitsItsMemory self.new }
     {
         if hashes.len() != self.hashed.len() || ways.len() != self.ordered.len() {
             return Err(Refusal::Count);
@@ -219,7 +234,7 @@ impl Layer {
     /// Removes an index, if it is live, from the store and from each table. It is the next to be drawn.
     ///
     /// The hashes and ways say where it stands in each table; where one is wrong or missing, the table is walked. It
-    /// takes no memory. Where each ordered table fits its memory, an insert after it takes none.
+    /// takes no memory. Where each ordered table fits its memory, it gives room for one more insert.
     ///
     /// Cost: a step for each hashed key, and some steps for each level of each ordered key; where a hash or a way is
     /// wrong, a step for each index.
@@ -228,7 +243,10 @@ impl Layer {
         ensures stored { result ≡ true → store_of self.new ≡ removed (store_of self.old) ix }
         ensures hashed { result ≡ true → Each (IsUnfiled ix) (hashed_of self.old) (hashed_of self.new) }
         ensures ordered { result ≡ true → Each (IsTakenOut ix) (ordered_of self.old) (ordered_of self.new) }
-        ensures room { result ≡ true → FitsItsMemory self.old → 1 ≤ room self.new }
+        ensures next { result ≡ true → next_index (store_of self.new) ≡ ix }
+        ensures freed { result ≡ true → FitsItsMemory self.old → room self.new ≡ room self.old + 1 }
+        ensures room_kept { room self.old ≤ room self.new }
+        ensures fits { FitsItsMemory self.old → FitsItsMemory self.new }
         ensures kept { result ≡ false → self.new ≡ self.old }
     {
         let Some(()) = self.items.remove(ix) else {
@@ -253,6 +271,7 @@ impl Layer {
         ensures others { (k : ℕ) (t : Table ℕ) → k ≢ key →
             slice_index_or (hashed_of self.new) k t ≡ slice_index_or (hashed_of self.old) k t }
         ensures ordered { ordered_of self.new ≡ ordered_of self.old }
+        ensures room { room self.new ≡ room self.old }
         ensures kept { result ≡ false → self.new ≡ self.old }
     {
         if self.items.get(ix).is_none() || key >= self.hashed.len() {
@@ -274,7 +293,8 @@ impl Layer {
 
     /// Gives back memory that is needed neither for the slots and indexes that there are nor for `least` of them.
     ///
-    /// If a smaller memory can't be allocated, the contents stay.
+    /// Room for as many inserts as make `least` indexes stays, if it was there. If a smaller memory can't be allocated,
+    /// the contents stay.
     ///
     /// Cost: a step for each key; where memory is given back, a step for each slot and each index.
     pub fn shrink_to(&mut self, least: usize) -> Result<(), AllocError>
@@ -283,6 +303,8 @@ impl Layer {
             (max least (slot_count (store_of self.old)))) }
         ensures hashed { OnOk result (Each (HasFewCells least) (hashed_of self.old) (hashed_of self.new)) }
         ensures ordered { Each (ShrinksOrdered least) (ordered_of self.old) (ordered_of self.new) }
+        ensures room { min (room self.old) (least - live_count (store_of self.old)) ≤ room self.new }
+        ensures fits { FitsItsMemory self.old → FitsItsMemory self.new }
     {
         shrink_ordered(&mut self.ordered, least);
         self.items.shrink_capacity_to(least)?;
@@ -296,6 +318,8 @@ impl Layer {
         ensures store { store_of self.new ≡ cleared (store_of self.old) }
         ensures hashed { Each ForgetsHashed (hashed_of self.old) (hashed_of self.new) }
         ensures ordered { Each ForgetsOrdered (ordered_of self.old) (ordered_of self.new) }
+        ensures room { room self.old ≤ room self.new }
+        ensures fits { FitsItsMemory self.new }
     {
         self.items.clear();
         clear_hashed(&mut self.hashed);
@@ -316,6 +340,8 @@ impl Layer {
         ensures ordered { OnOk result (Each (RenamesOrdered (rank (store_of self.old)))
             (ordered_of self.old) (ordered_of self.new)) }
         ensures refused { OnErr result (self.new ≡ self.old) }
+        ensures room { room self.old ≤ room self.new }
+        ensures fits { FitsItsMemory self.old → FitsItsMemory self.new }
     {
         let remap = match self.items.compact() {
             Ok(remap) => remap,
@@ -345,6 +371,8 @@ impl Layer {
         ensures stored { store_of self.new ≡ inserted (store_of self.old) tt }
         ensures hashed { EachBy (IsFiled result) hashes.now (hashed_of self.old) (hashed_of self.new) }
         ensures ordered { EachBy (IsPlaced result) ways.now (ordered_of self.old) (ordered_of self.new) }
+        ensures room { room self.old ≡ room self.new + 1 }
+        ensures fits { FitsItsMemory self.new }
     {
         let ix = draw(&mut self.items);
         insert_hashed(&mut self.hashed, hashes, ix);
@@ -376,6 +404,7 @@ fn draw(items: &mut ItemSet<()>) -> ItemIndex
     ensures index { result ≡ next_index items.old.store }
     ensures assigned { result ≢ sentinel }
     ensures stored { items.new.store ≡ inserted items.old.store tt }
+    ensures room { slots.room items.old ≡ slots.room items.new + 1 }
 {
     match items.assert_can_grow() {
         Ok(handle) => handle.insert(()),
@@ -387,7 +416,7 @@ fn draw(items: &mut ItemSet<()>) -> ItemIndex
 fn reserve_slots(items: &mut ItemSet<()>, additional: usize) -> Result<(), AllocError>
     ensures store { items.new.store ≡ items.old.store }
     ensures room { OnOk result (min additional (insertable items.old.store) ≤ slots.room items.new) }
-    ensures roomy { OnErr result (slots.room items.old < additional) }
+    ensures room_kept { slots.room items.old ≤ slots.room items.new }
 {
     if additional <= items.room() {
         return Ok(());

@@ -1,10 +1,10 @@
 //! What is done to each ordered table of a layer, one after the other.
-ghost use Rattle.std.specs.Prelude.{◌≡◌, ◌≢◌, ◌↔◌, ◌≤◌, ◌<◌, ℕ, [], All, length, slice_index_or, IfOk, IsTrue, OnOk, OnErr};
+ghost use Rattle.std.specs.Prelude.{◌≡◌, ◌≢◌, ◌↔◌, ◌≤◌, ◌<◌, ℕ, [], All, length, slice_index_or, IfOk, IsTrue, OnOk};
 ghost use Rattle.std.specs.List.{AllZip, Contains};
 ghost use Rattle.iddqd.specs.Compaction.{CanRemap, remapped};
 ghost use Rattle.iddqd.specs.Store.{sentinel};
 ghost use Rattle.iddqd_order.specs.MapBTreeTable.{Order, HasSameTree, order_of, room};
-ghost use Rattle.iddqd_layer.specs.Layer.{Each, EachBy, ForgetsOrdered, HasOrderRoom, IsPlaced, IsTakenOut, LeadsToGap, RenamesOrdered, SameCapacity, SameOrder, ShrinksOrdered, least_of};
+ghost use Rattle.iddqd_layer.specs.Layer.{Each, EachBy, ForgetsOrdered, HasOrderRoom, IsPlaced, IsTakenOut, KeepsCapacity, LeadsToGap, RenamesOrdered, SameCapacity, SameOrder, ShrinksOrdered, least_of};
 
 use crate::way::Way;
 use iddqd::index_remap::IndexRemap;
@@ -57,7 +57,7 @@ pub(crate) fn reserve_ordered(
 ) -> Result<(), AllocError>
     ensures same { Each HasSameTree tables.old.items tables.new.items }
     ensures room { OnOk result (Each (HasOrderRoom additional) tables.old.items tables.new.items) }
-    ensures roomy { OnErr result (least_of room additional tables.old.items < additional) }
+    ensures memory { Each KeepsCapacity tables.old.items tables.new.items }
 {
     for i in 0..tables.len() {
         tables[i].try_reserve(additional)?;
@@ -73,7 +73,8 @@ pub(crate) fn insert_ordered(tables: &mut Vec<MapBTreeTable>, ways: &[Way], ix: 
     requires absent { (k : ℕ) (t : Order) → k < length tables.old.items →
         Contains (order_of (slice_index_or tables.old.items k t)) ix → ⊥ }
     requires assigned { ix ≢ sentinel }
-    ensures { EachBy (IsPlaced ix) ways.now tables.old.items tables.new.items }
+    ensures placed { EachBy (IsPlaced ix) ways.now tables.old.items tables.new.items }
+    ensures memory { Each SameCapacity tables.old.items tables.new.items }
 {
     for i in 0..tables.len() {
         insert_one(&mut tables[i], &ways[i], ix);
@@ -86,7 +87,8 @@ fn insert_one(table: &mut MapBTreeTable, way: &Way, ix: ItemIndex)
     requires room { 1 ≤ room table.old }
     requires absent { Contains (order_of table.old) ix → ⊥ }
     requires assigned { ix ≢ sentinel }
-    ensures { IsPlaced ix way.now table.old table.new }
+    ensures placed { IsPlaced ix way.now table.old table.new }
+    ensures memory { SameCapacity table.old table.new }
 {
     match table.gap_in(&way.descent(), way.place()) {
         Some(gap) => {
@@ -120,7 +122,8 @@ fn remove_one(table: &mut MapBTreeTable, way: Option<&Way>, ix: ItemIndex)
 
 // Removes all indexes from each table, and keeps its memory.
 pub(crate) fn clear_ordered(tables: &mut Vec<MapBTreeTable>)
-    ensures { Each ForgetsOrdered tables.old.items tables.new.items }
+    ensures empty { Each ForgetsOrdered tables.old.items tables.new.items }
+    ensures memory { Each SameCapacity tables.old.items tables.new.items }
 {
     for i in 0..tables.len() {
         tables[i].clear();
@@ -135,7 +138,8 @@ pub(crate) fn rename_ordered(tables: &mut Vec<MapBTreeTable>, remap: &IndexRemap
         (i j : ℕ) → Contains (order_of (slice_index_or tables.old.items k t)) i →
         Contains (order_of (slice_index_or tables.old.items k t)) j →
         remapped remap.now i ≡ remapped remap.now j → i ≡ j }
-    ensures { Each (RenamesOrdered (remapped remap.now)) tables.old.items tables.new.items }
+    ensures renamed { Each (RenamesOrdered (remapped remap.now)) tables.old.items tables.new.items }
+    ensures memory { Each SameCapacity tables.old.items tables.new.items }
 {
     for i in 0..tables.len() {
         tables[i].remap_indexes(remap);

@@ -13,28 +13,31 @@ use Rattle.iddqd.specs.Store.{Store, IsValid, get, inserted, live_count, next_in
 use Rattle.iddqd.proofs.StoreLemmas.{contains_head, contains_tail, contains_cases, contains_none}
 use Rattle.iddqd_hash.specs.Asks.{CanAsk}
 use Rattle.iddqd_hash.proofs.AskLemmas.{CanAsk-asked, CanAsk-everywhere}
+use Rattle.iddqd_keys.specs.KeyWalk.{index_with_item, pairs_at}
 use Rattle.iddqd_keys.specs.Removals.{IsIncreasing, padded, removed_all}
 use Rattle.iddqd_keys.specs.Scan.{IsLive, IsHit, HasNoHit}
+use Rattle.iddqd_keys.proofs.KeyWalkLemmas.{pairs_at-first, pairs_at-last}
 use Rattle.iddqd_keys.proofs.RemovalLemmas.{AreLiveInTurn, AreLiveInTurn-rising, IsValid-removed_all}
 use Rattle.iddqd_keys.proofs.ScanLemmas.{live_before, live_cases}
-use Rattle.iddqd_map.specs.BulkOverwrite.{CanDisplace, DisplacesAt, DisplacesNext, HandsOver, MayDisplace, OverwritesUntil, RefusesItem}
+use Rattle.iddqd_map.specs.BulkOverwrite.{CanDisplace, DisplacesAt, DisplacesNext, GivesSomewhere, HandsOver, MayDisplace, OverwritesUntil, RefusesItem, TakesAnywhere}
 use Rattle.iddqd_map.specs.Calls.{InsertsAt, OverwritesAt}
 use Rattle.iddqd_map.specs.KeyIndex.{IsNextReported}
 use Rattle.iddqd_map.specs.Map.{MapState, room}
 use Rattle.iddqd_map.specs.Overwrite.{GivesReported}
-use Rattle.iddqd_map.specs.Ranges.{GivesItem, TakesItem}
+use Rattle.iddqd_map.specs.Sweep.{GivesPair}
 use Rattle.iddqd_map.specs.declared.refusal.OverwriteRefusal.{OverwriteRefusal}
 use Rattle.iddqd_map.specs.declared.refusal.OverwriteRefusal.TheVariants.{Full, Memory}
 use Rattle.iddqd_map.proofs.GroupRetainLemmas.{CanAsk-among}
 use Rattle.iddqd_map.proofs.OverwriteLemmas.{HasNoHit-removed_all, IsAhead, IsIncreasing-push, MakesRoom-same, ahead_first, ahead_next, contains_push, get-removed_all, past_next, push_adds, push_keeps, removed_all-push, reported_first}
 use Rattle.iddqd_map.proofs.RetainLemmas.{Contains-live}
+use Rattle.iddqd_map.proofs.RetainedLemmas.{live_pair, pair_live}
 use Rattle.iddqd_map.proofs.RoomLemmas.{overwritten-count, overwritten-room, overwritten-stays, overwritten-valid}
 
 -- ---- the items that share a key are removed one after the other, and handed over
 
 -- Of the indexes that were reported, these are done, and this is the next one. Once one is done, there is room.
 pub record Displacing
-    {G T : Type 0} (reported : ℕ → Type 0) (old : Store T) (give : G → T → G → Type 0) (gone : G) (HasRoom : Type 0)
+    {G T : Type 0} (reported : ℕ → Type 0) (old : Store T) (give : G → ℕ × T → G → Type 0) (gone : G) (HasRoom : Type 0)
     (left : Store T) (next : Option ℕ) (state : G)
     : Type 0 where
   pub done : List ℕ
@@ -42,14 +45,14 @@ pub record Displacing
   pub were_reported : (ix : ℕ) → Contains done ix → reported ix
   pub ahead : (ix : ℕ) → reported ix → Contains done ix ⊎ IsAhead next ix
   pub next_reported : (j : ℕ) → next ≡ Some j → reported j × ((ix : ℕ) → Contains done ix → ix < j)
-  pub handed : List T
-  pub items : map Some handed ≡ map (get old) done
+  pub handed : List (ℕ × T)
+  pub items : handed ≡ pairs_at old done
   pub given : FoldsTo give gone handed state
   pub left_is : left ≡ removed_all old done
   pub roomy : (ix : ℕ) → Contains done ix → HasRoom
 
 module _
-    {G T : Type 0} (reported : ℕ → Type 0) (old : Store T) (give : G → T → G → Type 0) (gone : G)
+    {G T : Type 0} (reported : ℕ → Type 0) (old : Store T) (give : G → ℕ × T → G → Type 0) (gone : G)
   where
     pub Displacing-none :
         (HasRoom : Type 0) (next : Option ℕ)
@@ -86,7 +89,7 @@ module _
             → next ≡ Some j
             → IsNextReported reported (Some j) follows
             → get left j ≡ Some item
-            → give state item after
+            → give state (j, item) after
             → left_now ≡ removed left j
             → HasRoomNow
             → Displacing reported old give gone HasRoomNow left_now follows after
@@ -115,13 +118,11 @@ module _
                       | inr same ↦ omega (arith, same, past)
                     ],
                   );
-              handed = w.handed ++ item ∷ [];
+              handed = w.handed ++ (j, item) ∷ [];
               items =
-                  map-append Some w.handed (item ∷ [])
-                  ∙ ap (λ l. l ++ Some item ∷ []) w.items
-                  ∙ ap (λ o. map (get old) w.done ++ o ∷ []) (sym was)
-                  ∙ sym (map-append (get old) w.done (j ∷ []));
-              given = FoldsTo-push give gone w.handed state item after w.given gives;
+                  ap (λ l. l ++ (j, item) ∷ []) w.items
+                  ∙ sym (pairs_at-last old (w.done ++ j ∷ []) w.done j item refl was);
+              given = FoldsTo-push give gone w.handed state (j, item) after w.given gives;
               left_is = less ∙ ap (λ s. removed s j) w.left_is ∙ sym (removed_all-push old w.done j);
               roomy = λ ix here. roomy;
             }
@@ -164,37 +165,33 @@ count-somes {T} (x ∷ xs) =
     let more = count-somes xs in
     sum_by-cons (λ (o : Option T). cond (is_some o) 1 0) (Some x) (map Some xs) ∙ omega (arith, more)
 
--- the item at one of these indexes is one of these items
-at_index :
-    {T : Type 0} (s : Store T) (items : List T) (indexes : List ℕ)
-    → map Some items ≡ map (get s) indexes
-    → (j : ℕ) (x : T)
-    → Contains indexes j
-    → get s j ≡ Some x
-    → Contains items x
-at_index s items [] same j x here live = absurd (contains_none j here)
-at_index s [] (ix ∷ indexes) same j x here live = absurd (cc)
-at_index s (y ∷ items) (ix ∷ indexes) same j x here live =
-    let first : Some y ≡ get s ix = cc in
-    let rest : map Some items ≡ map (get s) indexes = cc in
-    elim (contains_cases ix j indexes here) [
-      | inl at ↦
-          let one : Some y ≡ Some x = first ∙ ap (get s) at ∙ live in
-          let equal : y ≡ x = cc in
-          subst (λ z. Contains (y ∷ items) z) equal (contains_head y items)
-      | inr there ↦ contains_tail y x items (at_index s items indexes rest j x there live)
-    ]
+-- at live indexes each pair is there
+somes_at :
+    {T : Type 0} (s : Store T) (indexes : List ℕ)
+    → ((ix : ℕ) → Contains indexes ix → (item : T) × (get s ix ≡ Some item))
+    → map Some (pairs_at s indexes) ≡ map (index_with_item s) indexes
+somes_at s [] live = refl
+somes_at s (ix ∷ rest) live =
+    let (item, here) = live ix (contains_head ix rest) in
+    let first : index_with_item s ix ≡ Some (ix, item) = rw here refl in
+    ap (map Some) (pairs_at-first s (ix ∷ rest) rest ix item refl here)
+    ∙ ap (λ l. Some (ix, item) ∷ l) (somes_at s rest (λ j there. live j (contains_tail ix j rest there)))
+    ∙ ap (λ o. o ∷ map (index_with_item s) rest) (sym first)
 
 module _ {T : Type 0} (alike : T → T → Bool) (grown : ℕ → ℕ) where
   -- an insert that displaces is an overwrite with as many places
   pub as_overwrite :
-      (old new : MapState T) (item : T) (ix : ℕ) (displaced : List T)
+      (old new : MapState T) (item : T) (ix : ℕ) (displaced : List (ℕ × T))
       → DisplacesAt alike grown old item ix displaced new
       → OverwritesAt alike grown (length displaced) old item ix (map Some displaced) new
   as_overwrite old new item ix displaced did =
       let long : length (map Some displaced) ≡ length displaced = length-map displaced Some in
-      let indexes : length (map (get old.store) did.conflicts) ≡ length did.conflicts = length-map did.conflicts (get old.store) in
-      let same = ap length did.items in
+      let indexes = length-map did.conflicts (index_with_item old.store) in
+      let are : map Some displaced ≡ map (index_with_item old.store) did.conflicts =
+      ap (map Some) did.items
+      ∙ somes_at old.store did.conflicts (λ j here.
+      (let (x, live, shares) = (did.are_conflicts.each j).0 here in (x, live))) in
+      let same = ap length are in
       record {
         conflicts = did.conflicts;
         are_conflicts = did.are_conflicts;
@@ -202,7 +199,7 @@ module _ {T : Type 0} (alike : T → T → Bool) (grown : ℕ → ℕ) where
         not_full = did.not_full;
         items =
             padded-whole (map Some displaced) ∙ ap (λ n. padded n (map Some displaced)) long
-            ∙ ap (padded (length displaced)) did.items;
+            ∙ ap (padded (length displaced)) are;
         index = did.index;
         stored = did.stored;
         memory = did.memory;
@@ -227,7 +224,7 @@ module _ {T : Type 0} (alike : T → T → Bool) (grown : ℕ → ℕ) where
 
   -- and where some do, they were reported
   module _
-      {G : Type 0} (give : G → T → G → Type 0) (reported : ℕ → Type 0) (s : Store T) (item : T)
+      {G : Type 0} (give : G → ℕ × T → G → Type 0) (reported : ℕ → Type 0) (s : Store T) (item : T)
       (hits : (ix : ℕ) → reported ix ↔ IsHit s (alike item) ix) (gone last : G) (left : Store T)
       (took : GivesReported reported give s gone left last)
     where
@@ -256,7 +253,8 @@ module _ {T : Type 0} (alike : T → T → Bool) (grown : ℕ → ℕ) where
         same_memory = λ _. same;
       }
 
-  module _ (old new : MapState T) (item : T) (valid : IsValid old.store) (ix : ℕ) (displaced : List T)
+  module _ (old new : MapState T) (item : T) (valid : IsValid old.store) (ix : ℕ)
+      (displaced : List (ℕ × T))
       (did : DisplacesAt alike grown old item ix displaced new) where
     places : OverwritesAt alike grown (length displaced) old item ix (map Some displaced) new
     places = as_overwrite old new item ix displaced did
@@ -278,11 +276,12 @@ module _ {T : Type 0} (alike : T → T → Bool) (grown : ℕ → ℕ) where
     pub displaced-kept :
         (j : ℕ) (x : T)
         → get old.store j ≡ Some x
-        → (get new.store j ≡ Some x) ⊎ Contains displaced x
+        → (get new.store j ≡ Some x) ⊎ Contains displaced (j, x)
     unfolding places as_overwrite
-    displaced-kept j x live = elim (alike item x) as (λ b. alike item x ≡ b → (get new.store j ≡ Some x) ⊎ Contains displaced x) [
+    displaced-kept j x live = elim (alike item x) as (λ b. alike item x ≡ b → (get new.store j ≡ Some x) ⊎ Contains displaced (j, x)) [
       | true ↦ λ shares.
-          inr (at_index old.store displaced did.conflicts did.items j x ((did.are_conflicts.each j).1 (x, live, shares)) live)
+          inr (subst (λ l. Contains l (j, x)) (sym did.items)
+          (live_pair old.store did.conflicts j x ((did.are_conflicts.each j).1 (x, live, shares)) live))
       | false ↦ λ differs.
           inl (overwritten-stays alike grown old new item valid (length displaced) ix (map Some displaced) places j x live
           (λ here.
@@ -296,17 +295,18 @@ module _ {T : Type 0} (alike : T → T → Bool) (grown : ℕ → ℕ) where
 -- ---- many of them, one after the other
 
 -- calls may go on after calls with some of the items
-module _ {F T : Type 0} (takes : F → T → Type 0) (ask : F → T → Bool → F → Type 0) where
+module _ {G T : Type 0} (g : Mut G (ℕ × (T × Unit {0})) (Unit {0})) where
   CanAsk-after :
-      (f : F) (xs given : List T) (last : F)
-      → ((x : T) → Contains given x → Contains xs x)
-      → CanAsk takes ask f xs
-      → FoldsTo (λ p x q. ask p x true q) f given last
-      → CanAsk takes ask last xs
-  CanAsk-after f xs [] last among can same = subst (λ p. CanAsk takes ask p xs) same can
+      (f : G) (xs : List T) (given : List (ℕ × T)) (last : G)
+      → ((x : ℕ × T) → Contains given x → Contains xs x.1)
+      → CanAsk (TakesAnywhere g) (GivesSomewhere g) f xs
+      → FoldsTo (GivesPair g) f given last
+      → CanAsk (TakesAnywhere g) (GivesSomewhere g) last xs
+  CanAsk-after f xs [] last among can same = subst (λ p. CanAsk (TakesAnywhere g) (GivesSomewhere g) p xs) same can
   CanAsk-after f xs (x ∷ given) last among can (next, called, more) =
       CanAsk-after next xs given last (λ y here. among y (contains_tail x y given here))
-      (CanAsk-asked takes ask f xs x true next can (among x (contains_head x given)) called) more
+      (CanAsk-asked (TakesAnywhere g) (GivesSomewhere g) f xs x.1 true next can (among x (contains_head x given))
+      (x.0, called)) more
 
 module _ {T : Type 0} where
   stored_of :
@@ -320,22 +320,15 @@ module _ {T : Type 0} where
     | inr there ↦ let (j, at) = stored_of rest y there in (suc j, at)
   ]
 
-  -- items at such indexes are stored
+  -- what stands at such indexes is stored
   stored_at :
-      (s : Store T) (items : List T) (indexes : List ℕ)
-      → map Some items ≡ map (get s) indexes
-      → (y : T)
-      → Contains items y
-      → Contains (live_items s) y
-  stored_at s [] indexes same y here = absurd (contains_none y here)
-  stored_at s (x ∷ items) [] same y here = absurd (cc)
-  stored_at s (x ∷ items) (ix ∷ indexes) same y here =
-      let first : Some x ≡ get s ix = cc in
-      let rest : map Some items ≡ map (get s) indexes = cc in
-      elim (contains_cases x y items here) [
-        | inl at ↦ Contains-live s ix y (sym first ∙ ap Some at)
-        | inr there ↦ stored_at s items indexes rest y there
-      ]
+      (s : Store T) (displaced : List (ℕ × T)) (indexes : List ℕ)
+      → displaced ≡ pairs_at s indexes
+      → (y : ℕ × T)
+      → Contains displaced y
+      → Contains (live_items s) y.1
+  stored_at s displaced indexes same (ix, y) here =
+      Contains-live s ix y (pair_live s indexes ix y (subst (λ l. Contains l (ix, y)) same here))
 
   -- what is left after removals was there
   was_live :
@@ -352,7 +345,7 @@ module _ {T : Type 0} where
   stored_before :
       (alike : T → T → Bool) (grown : ℕ → ℕ) (old new : MapState T) (item : T)
       → IsValid old.store
-      → (ix : ℕ) (displaced : List T)
+      → (ix : ℕ) (displaced : List (ℕ × T))
       → DisplacesAt alike grown old item ix displaced new
       → (y : T)
       → Contains (live_items new.store) y
@@ -390,32 +383,33 @@ FoldsTo-both R p (x ∷ xs) ys q r (next, one, rest) more = (next, one, FoldsTo-
 
 module _
     {I G T : Type 0} (can : I → Type 0) (gives : I → Option T → I → Type 0) (remaining : I → Count)
-    (g : Mut G (T × Unit {0}) (Unit {0})) (alike : T → T → Bool) (grown : ℕ → ℕ)
+    (g : Mut G (ℕ × (T × Unit {0})) (Unit {0})) (alike : T → T → Bool) (grown : ℕ → ℕ)
   where
     abbrev pub asks : G → List T → Type 0
-    asks f xs = CanAsk (TakesItem g) (λ p x (b : Bool) q. GivesItem g p x q) f xs
+    asks f xs = CanAsk (TakesAnywhere g) (GivesSomewhere g) f xs
 
     -- the stored items may be given to the closure
     pub can-stored : (it : I) (f : G) (s : Store T) → CanDisplace gives g it f s → asks f (live_items s)
     can-stored it f s may =
-        CanAsk-among (TakesItem g) (λ p x (b : Bool) q. GivesItem g p x q) f (live_items s ++ []) (live_items s)
+        CanAsk-among (TakesAnywhere g) (GivesSomewhere g) f (live_items s ++ []) (live_items s)
         (λ y here. Contains-append_left (live_items s) [] y here) (may [] it refl)
 
     pub MayDisplace-can : (it : I) (f : G) (s : Store T) → MayDisplace gives g it f s → CanDisplace gives g it f s
     MayDisplace-can it f s may =
         may (λ takes came then run.
-        CanAsk-everywhere (TakesItem g) (λ p x (b : Bool) q. GivesItem g p x q) f (live_items s ++ came) takes)
+        CanAsk-everywhere (TakesAnywhere g) (GivesSomewhere g) f (live_items s ++ came)
+        (λ p x ix. takes p (ix, x)))
 
     -- So far each item was inserted: so many.
     pub record Overwriting
         (start : I) (old : MapState T) (gone : G) (it : I) (now : MapState T) (state : G) (count : ℕ)
         : Type 0 where
       pub items : List T
-      pub displaced : List T
+      pub displaced : List (ℕ × T)
       pub counted : count ≡ length items
       pub came : Yields gives start items it
       pub in_turn : FoldsTo (DisplacesNext alike grown) (old, []) items (now, displaced)
-      pub handed : FoldsTo (GivesItem g) gone displaced state
+      pub handed : FoldsTo (GivesPair g) gone displaced state
       pub may_go_on : can it
       pub valid : IsValid now.store
       pub may_give : CanDisplace gives g it state now.store
@@ -455,9 +449,9 @@ module _
             omega (arith, less, w.roomy fits)
 
         pub Overwriting-one :
-            (ix : ℕ) (new : MapState T) (last : G) (more : List T)
+            (ix : ℕ) (new : MapState T) (last : G) (more : List (ℕ × T))
             → DisplacesAt alike grown now item ix more new
-            → FoldsTo (GivesItem g) state more last
+            → FoldsTo (GivesPair g) state more last
             → Overwriting start old gone then new last (count + 1)
         Overwriting-one ix new last more did given =
             let (is_finite, most) = w.nearer in
@@ -470,17 +464,17 @@ module _
               came = came_more gives start w.items it item then w.came step;
               in_turn = FoldsTo-push (DisplacesNext alike grown) (old, []) w.items (now, w.displaced) item (new, w.displaced ++ more)
                   w.in_turn (ix, more, did, refl);
-              handed = FoldsTo-both (GivesItem g) gone w.displaced more state last w.handed given;
+              handed = FoldsTo-both (GivesPair g) gone w.displaced more state last w.handed given;
               may_go_on = goes.keeps;
               valid = displaced-valid alike grown now new item w.valid ix more did;
               may_give = λ came rest run.
                   let whole = w.may_give (item ∷ came) rest (then, step, run) in
                   let all = live_items now.store ++ item ∷ came in
                   let after : asks last all =
-                  CanAsk-after (TakesItem g) (λ p x (b : Bool) q. GivesItem g p x q) state all more last
-                  (λ y here. Contains-append_left (live_items now.store) (item ∷ came) y
+                  CanAsk-after g state all more last
+                  (λ y here. Contains-append_left (live_items now.store) (item ∷ came) y.1
                   (stored_at now.store more did.conflicts did.items y here)) whole given in
-                  CanAsk-among (TakesItem g) (λ p x (b : Bool) q. GivesItem g p x q) last all (live_items new.store ++ came)
+                  CanAsk-among (TakesAnywhere g) (GivesSomewhere g) last all (live_items new.store ++ came)
                   (λ y here. elim (Contains-append_cases (live_items new.store) came y here) [
                     | inl stored ↦ elim (stored_before alike grown now new item w.valid ix more did y stored) [
                       | inl same ↦
@@ -503,12 +497,12 @@ module _
 module _ {T : Type 0} (alike : T → T → Bool) (grown : ℕ → ℕ) where
   -- as many items more are there, less those that were displaced, and what was there still is, or was displaced
   pub displaced-along :
-      (items : List T) (old new : MapState T) (before after : List T)
+      (items : List T) (old new : MapState T) (before after : List (ℕ × T))
       → IsValid old.store
       → FoldsTo (DisplacesNext alike grown) (old, before) items (new, after)
       → (live_count new.store + length after ≡ live_count old.store + length items + length before)
-      × ((y : T) → Contains before y → Contains after y)
-      × ((j : ℕ) (x : T) → get old.store j ≡ Some x → (get new.store j ≡ Some x) ⊎ Contains after x)
+      × ((y : ℕ × T) → Contains before y → Contains after y)
+      × ((j : ℕ) (x : T) → get old.store j ≡ Some x → (get new.store j ≡ Some x) ⊎ Contains after (j, x))
   displaced-along [] old new before after valid same =
       let stores : old ≡ new = ap (λ p. p.0) same in
       let lists : before ≡ after = ap (λ p. p.1) same in (
@@ -527,12 +521,13 @@ module _ {T : Type 0} (alike : T → T → Bool) (grown : ℕ → ℕ) where
         λ y here. keeps y (subst (λ l. Contains l y) (sym listed) (Contains-append_left before more y here)),
         λ j x live. elim (displaced-kept alike grown old mid.0 item valid ix more did j x live) [
           | inl still ↦ stays j x still
-          | inr gone ↦ inr (keeps x (subst (λ l. Contains l x) (sym listed) (Contains-append_right before more x gone)))
+          | inr gone ↦
+              inr (keeps (j, x) (subst (λ l. Contains l (j, x)) (sym listed) (Contains-append_right before more (j, x) gone)))
         ],
       )
 
   module _
-      {I G : Type 0} (gives : I → Option T → I → Type 0) (give : G → T → G → Type 0) (may_need_memory : Bool)
+      {I G : Type 0} (gives : I → Option T → I → Type 0) (give : G → ℕ × T → G → Type 0) (may_need_memory : Bool)
     where
       store_of_refused :
           (before new : MapState T) (item : T) (refusal : OverwriteRefusal T)
@@ -546,7 +541,7 @@ module _ {T : Type 0} (alike : T → T → Bool) (grown : ℕ → ℕ) where
 
       -- beside a map with the same store as the one before
       pub HandsOver-until :
-          (first : MapState T) (it rest : I) (old new : MapState T) (items displaced : List T)
+          (first : MapState T) (it rest : I) (old new : MapState T) (items : List T) (displaced : List (ℕ × T))
           (refusal : Option (OverwriteRefusal T)) (gone last : G)
           → old.store ≡ first.store
           → IsValid first.store

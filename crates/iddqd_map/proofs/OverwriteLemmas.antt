@@ -14,6 +14,7 @@ use Rattle.iddqd_map.specs.Map.{MapState, MapMemory}
 use Rattle.iddqd_map.specs.Memory.{MakesRoom}
 use Rattle.iddqd_map.specs.Calls.{InsertsAt, OverwritesAt}
 use Rattle.iddqd_map.specs.KeyIndex.{IsNextReported}
+use Rattle.iddqd_keys.specs.KeyWalk.{index_with_item}
 use Rattle.iddqd_keys.specs.Removals.{IsIncreasing, padded, removed_all}
 use Rattle.iddqd_map.specs.Overwrite.{TakesAll}
 
@@ -168,7 +169,7 @@ IsAhead None ix = ⊥
 IsAhead (Some next) ix = next ≤ ix
 
 -- of the indexes that were reported, so many were removed; this is the next one
-pub record Taking {T : Type 0} (reported : ℕ → Type 0) (places : ℕ) (old : Store T) (back : List (Option T)) (left : Store T)
+pub record Taking {T : Type 0} (reported : ℕ → Type 0) (places : ℕ) (old : Store T) (back : List (Option (ℕ × T))) (left : Store T)
     (next : Option ℕ) (count : ℕ)
     : Type 0 where
   pub done : List ℕ
@@ -177,7 +178,7 @@ pub record Taking {T : Type 0} (reported : ℕ → Type 0) (places : ℕ) (old :
   pub were_reported : (ix : ℕ) → Contains done ix → reported ix
   pub ahead : (ix : ℕ) → reported ix → Contains done ix ⊎ IsAhead next ix
   pub next_reported : (j : ℕ) → next ≡ Some j → reported j × ((ix : ℕ) → Contains done ix → ix < j)
-  pub items : back ≡ padded places (map (get old) done)
+  pub items : back ≡ padded places (map (index_with_item old) done)
   pub left_is : left ≡ removed_all old done
 
 module _ {T : Type 0} (reported : ℕ → Type 0) (places : ℕ) (old : Store T) where
@@ -193,7 +194,7 @@ module _ {T : Type 0} (reported : ℕ → Type 0) (places : ℕ) (old : Store T)
   reported_first (Some k) first j is = let same : k ≡ j = cc in subst reported same first.0
 
   pub Taking-none :
-      (back : List (Option T)) (next : Option ℕ)
+      (back : List (Option (ℕ × T))) (next : Option ℕ)
       → IsNextReported reported None next
       → back ≡ padded places []
       → Taking reported places old back old next 0
@@ -210,7 +211,7 @@ module _ {T : Type 0} (reported : ℕ → Type 0) (places : ℕ) (old : Store T)
 
   -- the next one is none of those that were removed
   pub next_apart :
-      (back : List (Option T)) (left : Store T) (j count : ℕ)
+      (back : List (Option (ℕ × T))) (left : Store T) (j count : ℕ)
       → Taking reported places old back left (Some j) count
       → get left j ≡ get old j
   next_apart back left j count t =
@@ -218,7 +219,7 @@ module _ {T : Type 0} (reported : ℕ → Type 0) (places : ℕ) (old : Store T)
       ∙ get-removed_all old t.done j (λ here. let less = (t.next_reported j refl).1 j here in omega (arith, less))
 
   pub next_live :
-      (back : List (Option T)) (left : Store T) (j count : ℕ)
+      (back : List (Option (ℕ × T))) (left : Store T) (j count : ℕ)
       → Taking reported places old back left (Some j) count
       → ((ix : ℕ) → reported ix → IsLive old ix)
       → IsLive left j
@@ -226,7 +227,7 @@ module _ {T : Type 0} (reported : ℕ → Type 0) (places : ℕ) (old : Store T)
 
   -- there is a place for it
   pub next_fits :
-      (back : List (Option T)) (left : Store T) (j count : ℕ) (k : ℕ)
+      (back : List (Option (ℕ × T))) (left : Store T) (j count : ℕ) (k : ℕ)
       → Taking reported places old back left (Some j) count
       → (l : List ℕ) × (length l ≤ k) × ((ix : ℕ) → reported ix → Contains l ix)
       → count < k
@@ -239,19 +240,19 @@ module _ {T : Type 0} (reported : ℕ → Type 0) (places : ℕ) (old : Store T)
       omega (arith, fits, few, length_push t.done j, t.counted)
 
   pub place_vacant :
-      (back : List (Option T)) (left : Store T) (next : Option ℕ) (count : ℕ)
+      (back : List (Option (ℕ × T))) (left : Store T) (next : Option ℕ) (count : ℕ)
       → Taking reported places old back left next count
       → count < places
       → slice_get back count ≡ Some None
   place_vacant back left next count t within =
-      let same = length-map t.done (get old) ∙ t.counted in
-      rw (t.items, ← same) (padded-vacant places (map (get old) t.done) (omega (arith, same, within)))
+      let same = length-map t.done (index_with_item old) ∙ t.counted in
+      rw (t.items, ← same) (padded-vacant places (map (index_with_item old) t.done) (omega (arith, same, within)))
 
   pub places_left :
-      (back : List (Option T)) (left : Store T) (next : Option ℕ) (count : ℕ)
+      (back : List (Option (ℕ × T))) (left : Store T) (next : Option ℕ) (count : ℕ)
       → Taking reported places old back left next count
       → length back ≡ places
-  places_left back left next count t = ap length t.items ∙ length-padded places (map (get old) t.done)
+  places_left back left next count t = ap length t.items ∙ length-padded places (map (index_with_item old) t.done)
 
   pub ahead_next :
       (j : ℕ) (next : Option ℕ)
@@ -276,18 +277,19 @@ module _ {T : Type 0} (reported : ℕ → Type 0) (places : ℕ) (old : Store T)
   past_next j (Some m) first k is = let same : m ≡ k = cc in subst (λ w. reported w × (j < w)) same (first.0, first.1)
 
   pub Taking-next :
-      (back back_now : List (Option T)) (left left_now : Store T) (j count : ℕ) (next : Option ℕ) (taken : Option T)
+      (back back_now : List (Option (ℕ × T))) (left left_now : Store T) (j count : ℕ) (next : Option ℕ) (item : T)
       → Taking reported places old back left (Some j) count
       → count < places
       → IsNextReported reported (Some j) next
-      → taken ≡ get left j
-      → back_now ≡ slice_set back count taken
+      → get left j ≡ Some item
+      → back_now ≡ slice_set back count (Some (j, item))
       → left_now ≡ removed left j
       → Taking reported places old back_now left_now next (count + 1)
-  Taking-next back back_now left left_now j count next taken t within following value put gone =
+  Taking-next back back_now left left_now j count next item t within following value put gone =
       let below = (t.next_reported j refl).1 in
-      let same = length-map t.done (get old) ∙ t.counted in
-      let was : taken ≡ get old j = value ∙ next_apart back left j count t in
+      let same = length-map t.done (index_with_item old) ∙ t.counted in
+      let was : get old j ≡ Some item = sym (next_apart back left j count t) ∙ value in
+      let entry : Some (j, item) ≡ index_with_item old j = rw was refl in
       record {
         done = t.done ++ j ∷ [];
         counted = let e = length_push t.done j in omega (arith, e, t.counted);
@@ -312,17 +314,17 @@ module _ {T : Type 0} (reported : ℕ → Type 0) (places : ℕ) (old : Store T)
               ],
             );
         items =
-            put ∙ ap (λ l. slice_set l count taken) t.items
-            ∙ ap (λ n. slice_set (padded places (map (get old) t.done)) n taken) (sym same)
-            ∙ padded-push places (map (get old) t.done) taken (omega (arith, same, within))
-            ∙ ap (λ x. padded places (map (get old) t.done ++ x ∷ [])) was
-            ∙ ap (padded places) (sym (map-append (get old) t.done (j ∷ [])));
+            put ∙ ap (λ l. slice_set l count (Some (j, item))) t.items
+            ∙ ap (λ n. slice_set (padded places (map (index_with_item old) t.done)) n (Some (j, item))) (sym same)
+            ∙ padded-push places (map (index_with_item old) t.done) (Some (j, item)) (omega (arith, same, within))
+            ∙ ap (λ x. padded places (map (index_with_item old) t.done ++ x ∷ [])) entry
+            ∙ ap (padded places) (sym (map-append (index_with_item old) t.done (j ∷ [])));
         left_is = gone ∙ ap (λ s. removed s j) t.left_is ∙ sym (removed_all-push old t.done j);
       }
 
   -- where there is no next one, all were removed
   pub TakesAll-done :
-      (back : List (Option T)) (left : Store T) (count : ℕ)
+      (back : List (Option (ℕ × T))) (left : Store T) (count : ℕ)
       → Taking reported places old back left None count
       → count ≤ places
       → TakesAll reported places old back left
@@ -337,7 +339,7 @@ module _ {T : Type 0} (reported : ℕ → Type 0) (places : ℕ) (old : Store T)
 
   -- and where one was reported, one was removed
   pub some_done :
-      (back : List (Option T)) (left : Store T) (count : ℕ)
+      (back : List (Option (ℕ × T))) (left : Store T) (count : ℕ)
       → Taking reported places old back left None count
       → (ix : ℕ) × reported ix
       → 1 ≤ count
@@ -352,7 +354,7 @@ module _ {T : Type 0} (reported : ℕ → Type 0) (places : ℕ) (old : Store T)
 
 -- the next one, where it is known
 pub taking_at :
-    {T : Type 0} {reported : ℕ → Type 0} {places : ℕ} {old : Store T} {back : List (Option T)} {left : Store T}
+    {T : Type 0} {reported : ℕ → Type 0} {places : ℕ} {old : Store T} {back : List (Option (ℕ × T))} {left : Store T}
     {next is : Option ℕ} {count : ℕ}
     → next ≡ is
     → Taking reported places old back left next count
@@ -382,7 +384,7 @@ module _ {T : Type 0} (alike : T → T → Bool) (most : ℕ → ℕ) where
 
   -- an insert that overwrites, where no item shares a key
   pub OverwritesAt-apart :
-      (places : ℕ) (old new : MapState T) (item : T) (ix : ℕ) (back : List (Option T))
+      (places : ℕ) (old new : MapState T) (item : T) (ix : ℕ) (back : List (Option (ℕ × T)))
       → InsertsAt alike most old item ix new
       → back ≡ padded places []
       → OverwritesAt alike most places old item ix back new
@@ -401,7 +403,7 @@ module _ {T : Type 0} (alike : T → T → Bool) (most : ℕ → ℕ) where
   -- and where some do, which were removed
   module _
       (reported : ℕ → Type 0) (s : Store T) (item : T) (hits : (ix : ℕ) → reported ix ↔ IsHit s (alike item) ix)
-      (places : ℕ) (back : List (Option T)) (left : Store T) (took : TakesAll reported places s back left)
+      (places : ℕ) (back : List (Option (ℕ × T))) (left : Store T) (took : TakesAll reported places s back left)
     where
       removed_hit : (ix : ℕ) → Contains took.indexes ix ↔ IsHit s (alike item) ix
       removed_hit ix = (λ here. (hits ix).0 ((took.each ix).0 here), λ hit. (took.each ix).1 ((hits ix).1 hit))

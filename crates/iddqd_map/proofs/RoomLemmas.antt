@@ -1,11 +1,12 @@
 -- How many items and how much room the calls of a map leave.
-use Rattle.std.proofs.Common.{◌≡◌, ◌≢◌, ◌∙◌, inl, inr, ◌+◌, ◌≤◌, ℕ, Bool, List, [], ◌∷◌, length, Option, Some, None, is_some, refl, sym, ap, subst, arith}
+use Rattle.std.proofs.Common.{◌≡◌, ◌≢◌, ◌∙◌, inl, inr, ◌+◌, ◌≤◌, ℕ, Bool, true, List, [], ◌∷◌, length, Option, Some, None, is_some, refl, sym, ap, subst, arith}
 use Rattle.std.specs.Prelude.{Result, Ok, Err, OnOk, OnErr, IfErr, OnSome, IfNone, IsOk}
 use Rattle.std.specs.List.{Contains, count_by}
 use Rattle.iddqd.specs.Store.{Store, IsFull, IsValid, get, live_count, next_index, removed}
 use Rattle.iddqd.proofs.LiveCountLemmas.{live_count-inserted, live_count-removed}
 use Rattle.iddqd.proofs.LiveLemmas.{get-inserted_other, next_vacant}
 use Rattle.iddqd.proofs.StoreLemmas.{IsValid-inserted}
+use Rattle.iddqd_keys.specs.KeyWalk.{index_with_item}
 use Rattle.iddqd_keys.specs.Removals.{removed_all}
 use Rattle.iddqd_keys.specs.Scan.{IsLive}
 use Rattle.iddqd_keys.proofs.RemovalLemmas.{AreLiveInTurn, AreLiveInTurn-rising, IsValid-removed_all, live_count-removed_all, free-removed_all, limit-removed_all, count-padded}
@@ -117,9 +118,12 @@ module _
     -- ---- inserts that overwrite, of items with several keys
 
     module _ (places : ℕ) where
-      module _ (ix : ℕ) (back : List (Option T)) (did : OverwritesAt alike most places old item ix back new) where
+      module _ (ix : ℕ) (back : List (Option (ℕ × T))) (did : OverwritesAt alike most places old item ix back new) where
         conflict_live : (j : ℕ) → Contains did.conflicts j → IsLive old.store j
         conflict_live j here = let (one, live, shares) = (did.are_conflicts.each j).0 here in ap is_some live
+
+        conflict_there : (j : ℕ) → Contains did.conflicts j → is_some (index_with_item old.store j) ≡ true
+        conflict_there j here = let (one, live, shares) = (did.are_conflicts.each j).0 here in rw live refl
 
         in_turn : AreLiveInTurn old.store did.conflicts
         in_turn = AreLiveInTurn-rising old.store did.conflicts did.are_conflicts.rising conflict_live
@@ -165,7 +169,7 @@ module _
             let fewer = live_count-removed_all old.store did.conflicts in_turn valid in
             let one = live_count-inserted left item valid_left (full_without did.conflicts refl) in
             let stored = ap live_count did.stored in
-            let taken = ap (count_by is_some) did.items ∙ count-padded old.store places did.conflicts did.at_most conflict_live in
+            let taken = ap (count_by is_some) did.items ∙ count-padded (index_with_item old.store) places did.conflicts did.at_most conflict_there in
             omega (arith, fewer, one, stored, taken)
 
         pub overwritten-room : 1 ≤ room old → room new + 1 ≡ room old + count_by is_some back
@@ -177,7 +181,7 @@ module _
       module _ (may_need_memory : Bool) where
         -- as many more are there as weren't displaced
         pub OverwritesInto-count :
-            (r : Result ℕ (OverwriteRefusal T)) (back : List (Option T))
+            (r : Result ℕ (OverwriteRefusal T)) (back : List (Option (ℕ × T)))
             → OverwritesInto alike most may_need_memory places old item r back new
             → OnOk r (live_count new.store + count_by is_some back ≡ live_count old.store + 1)
         OverwritesInto-count (Ok ix) back did = overwritten-count ix back did
@@ -185,14 +189,14 @@ module _
 
         -- and with room, so much less is left
         pub OverwritesInto-room :
-            (r : Result ℕ (OverwriteRefusal T)) (back : List (Option T))
+            (r : Result ℕ (OverwriteRefusal T)) (back : List (Option (ℕ × T)))
             → OverwritesInto alike most may_need_memory places old item r back new
             → OnOk r (1 ≤ room old → room new + 1 ≡ room old + count_by is_some back)
         OverwritesInto-room (Ok ix) back did = overwritten-room ix back did
         OverwritesInto-room (Err refusal) back did = tt
 
         pub OverwritesInto-unchanged :
-            (r : Result ℕ (OverwriteRefusal T)) (back : List (Option T))
+            (r : Result ℕ (OverwriteRefusal T)) (back : List (Option (ℕ × T)))
             → OverwritesInto alike most may_need_memory places old item r back new
             → OnErr r (new.store ≡ old.store)
         OverwritesInto-unchanged (Ok ix) back did = tt
@@ -204,7 +208,7 @@ module _
 
         -- with room nothing is refused
         pub OverwritesInto-not_refused :
-            (r : Result ℕ (OverwriteRefusal T)) (back : List (Option T))
+            (r : Result ℕ (OverwriteRefusal T)) (back : List (Option (ℕ × T)))
             → OverwritesInto alike most may_need_memory places old item r back new
             → 1 ≤ room old
             → IsOk r

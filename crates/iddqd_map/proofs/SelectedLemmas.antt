@@ -23,20 +23,29 @@ use Rattle.iddqd_map.specs.declared.verdict.Verdict.TheVariants.{Keep, Remove, S
 use Rattle.iddqd_map.proofs.OverwriteLemmas.{get-removed_all}
 
 -- a closure that may always be called may be on these
-module _ {F T : Type 0} (lists : Store T → List ℕ → Type 0) (takes : F → ℕ × T → Type 0) (ask : F → ℕ × T → Bool → F → Type 0) where
-  in_turn : ((p : F) (x : ℕ × T) → takes p x) → (f : F) (xs : List (ℕ × T)) → AsksInTurn takes ask f xs
-  in_turn all f [] = tt
-  in_turn all f (x ∷ xs) = (all f x, λ b f' asked. in_turn all f' xs)
+module _
+    {F T : Type 0} (lists : Store T → List ℕ → Type 0) (takes : F → ℕ × T → Type 0)
+    (ask : F → ℕ × T → Bool → F → Type 0)
+  where
+    in_turn : ((p : F) (x : ℕ × T) → takes p x) → (f : F) (xs : List (ℕ × T)) → AsksInTurn takes ask f xs
+    in_turn all f [] = tt
+    in_turn all f (x ∷ xs) = (all f x, λ b f' asked. in_turn all f' xs)
 
-  pub AsksAlong-may : (f : F) (s : Store T) → MayAskAlong lists takes ask f s → AsksAlong lists takes ask f s
-  AsksAlong-may f s may = may (λ all. record { at = λ indexes listed. in_turn all f (pairs_at s indexes) })
+    pub AsksAlong-may : (f : F) (s : Store T) → MayAskAlong lists takes ask f s → AsksAlong lists takes ask f s
+    AsksAlong-may f s may = may (λ all. record { at = λ indexes listed. in_turn all f (pairs_at s indexes) })
 
 module _ {G T : Type 0} (lists : Store T → List ℕ → Type 0) (g : Mut G (ℕ × (T × Unit {0})) (Unit {0})) where
-  some_in_turn : ((p : G) (x : ℕ × T) → TakesPair g p x) → (gone : G) (xs : List (ℕ × T)) → TakesSome (TakesPair g) (GivesPair g) gone xs
+  some_in_turn :
+      ((p : G) (x : ℕ × T) → TakesPair g p x)
+      → (gone : G) (xs : List (ℕ × T))
+      → TakesSome (TakesPair g) (GivesPair g) gone xs
   some_in_turn all gone [] = tt
   some_in_turn all gone (x ∷ xs) = (all gone x, (λ gone' gave. some_in_turn all gone' xs), some_in_turn all gone xs)
 
-  pub TakesSomeAlong-all : ((p : G) (x : ℕ × T) → TakesPair g p x) → (gone : G) (s : Store T) → TakesSomeAlong lists g gone s
+  pub TakesSomeAlong-all :
+      ((p : G) (x : ℕ × T) → TakesPair g p x)
+      → (gone : G) (s : Store T)
+      → TakesSomeAlong lists g gone s
   TakesSomeAlong-all all gone s = record { at = λ indexes listed. some_in_turn all gone (pairs_at s indexes) }
 
   pub TakesSomeAlong-may : (gone : G) (s : Store T) → MayGiveSomeAlong lists g gone s → TakesSomeAlong lists g gone s
@@ -86,13 +95,19 @@ removes_if : (b : Bool) → removes (kept_if b) ≡ not b
 removes_if true = refl
 removes_if false = refl
 
-module _ {F T : Type 0} (lists : Store T → List ℕ → Type 0) (takes : F → ℕ × T → Type 0) (ask : F → ℕ × T → Bool → F → Type 0) where
-  asks_go_on : (f : F) (xs : List (ℕ × T)) → AsksInTurn takes ask f xs → AsksInTurn takes (goes_on kept_if ask) f xs
-  asks_go_on f [] asks = tt
-  asks_go_on f (x ∷ xs) asks = (asks.0, λ b f' on. asks_go_on f' xs (asks.1 on.0 f' on.1))
+module _
+    {F T : Type 0} (lists : Store T → List ℕ → Type 0) (takes : F → ℕ × T → Type 0)
+    (ask : F → ℕ × T → Bool → F → Type 0)
+  where
+    asks_go_on : (f : F) (xs : List (ℕ × T)) → AsksInTurn takes ask f xs → AsksInTurn takes (goes_on kept_if ask) f xs
+    asks_go_on f [] asks = tt
+    asks_go_on f (x ∷ xs) asks = (asks.0, λ b f' on. asks_go_on f' xs (asks.1 on.0 f' on.1))
 
-  pub AsksAlong-go_on : (f : F) (s : Store T) → AsksAlong lists takes ask f s → AsksAlong lists takes (goes_on kept_if ask) f s
-  AsksAlong-go_on f s asks = record { at = λ indexes listed. asks_go_on f (pairs_at s indexes) (asks.at indexes listed) }
+    pub AsksAlong-go_on :
+        (f : F) (s : Store T)
+        → AsksAlong lists takes ask f s
+        → AsksAlong lists takes (goes_on kept_if ask) f s
+    AsksAlong-go_on f s asks = record { at = λ indexes listed. asks_go_on f (pairs_at s indexes) (asks.at indexes listed) }
 
 -- a closure that rejects all, and one that gets them
 module _
@@ -145,7 +160,9 @@ module _ {T : Type 0} where
   rejected ((pair, true) ∷ asks) = rejected asks
   rejected ((pair, false) ∷ asks) = ap (λ l. pair ∷ l) (rejected asks)
 
-  removed_are : (asks : List ((ℕ × T) × Bool)) → map (λ p. p.0) (map (λ a. a.0) (filter (λ a. not a.1) asks)) ≡ removed_of asks
+  removed_are :
+      (asks : List ((ℕ × T) × Bool))
+      → map (λ p. p.0) (map (λ a. a.0) (filter (λ a. not a.1) asks)) ≡ removed_of asks
   removed_are [] = refl
   removed_are ((pair, true) ∷ asks) = removed_are asks
   removed_are ((pair, false) ∷ asks) = ap (λ l. pair.0 ∷ l) (removed_are asks)
@@ -216,7 +233,10 @@ module _
         all_pairs : pairs_removed kept_if did.swept.asks ≡ pairs_at old did.indexes
         all_pairs = all_rejected f did.swept.asks did.last did.swept.were_asked ∙ whole
 
-        indexes_of : (xs : List ℕ) → ((ix : ℕ) → Contains xs ix → IsHit old test ix) → map (λ p. p.0) (pairs_at old xs) ≡ xs
+        indexes_of :
+            (xs : List ℕ)
+            → ((ix : ℕ) → Contains xs ix → IsHit old test ix)
+            → map (λ p. p.0) (pairs_at old xs) ≡ xs
         indexes_of [] live = refl
         indexes_of (x ∷ xs) live =
             let (item, here, passes) = live x (contains_head x xs) in
@@ -270,7 +290,8 @@ module _ {F T E : Type 0} (ask : F → ℕ × T → Result Bool E → F → Type
   one_more pair asked pairs before (Some (ix, Err e)) last (at, unasked, is, asks) = (at, unasked, ap (λ l. pair ∷ l) is, asks)
 
   succeeds :
-      (f : F) (asks : List ((ℕ × T) × Result Bool E)) (unasked : List (ℕ × T)) (stopped : Option (ℕ × Result Bool E)) (last : F)
+      (f : F) (asks : List ((ℕ × T) × Result Bool E)) (unasked : List (ℕ × T)) (stopped : Option (ℕ × Result Bool E))
+      (last : F)
       → FoldsTo (λ p a q. ask p a.0 a.1 q) f asks last
       → EndsAt kept_if_ok asks unasked stopped
       → Succeeds f asks (map (λ a. a.0) asks ++ unasked) stopped last
@@ -316,7 +337,8 @@ module _ {F T E : Type 0} (ask : F → ℕ × T → Result Bool E → F → Type
     where
       until :
           {C : Type 0} (stopped : Option (ℕ × Result Bool E)) (result : Result C E)
-          → ((asked pairs : List (ℕ × T)) (before last : F) → Ends asked pairs before stopped last → EndsRetain lists ask asked pairs before result last)
+          → ((asked pairs : List (ℕ × T)) (before last : F) → Ends asked pairs before stopped last
+          → EndsRetain lists ask asked pairs before result last)
           → SweepsAlong ask kept_if_ok give lists f gone old new stopped
           → (last : F) × RetainsUntil lists ask f old new result last
       until stopped result reads did =

@@ -1,5 +1,5 @@
--- For callers of the calls on a selection: that exactly the items that pass a test stay, where the closure's answers are
--- that test, and that only others are passed to a second closure.
+-- For callers of the calls on a selection: that exactly the items that pass a test stay, where the closure's answers
+-- are that test, and that only others are passed to a second closure.
 use Rattle.std.proofs.Common.{◌≡◌, ◌∙◌, inl, inr, ℕ, Bool, true, false, not, List, [], ◌∷◌, filter, map, Some, None, refl, sym, ap, subst}
 use Rattle.std.specs.List.{Contains, FoldsTo}
 use Rattle.iddqd.specs.Store.{Store, get}

@@ -115,10 +115,17 @@ module _ {T : Type 0} (compare : T → T → Ordering) (total : IsTotalOrder com
   same_place : (i j : ℕ) → order i j ≡ Equal → i ≡ j
   same_place i j equal = same_index i j (ap is_eq (then_equal _ (nat_cmp i j) equal))
 
-  before_both : (i j k : ℕ) → ComesBefore itself compare s i j → ComesBefore itself compare s j k → ComesBefore itself compare s i k
+  before_both :
+      (i j k : ℕ)
+      → ComesBefore itself compare s i j
+      → ComesBefore itself compare s j k
+      → ComesBefore itself compare s i k
   before_both i j k one other = (totals itself compare total s).trans i j k one other
 
-  put_placed : (ix : ℕ) (rest : List ℕ) → IsInPlace itself compare s rest → IsInPlace itself compare s (put_in order ix rest)
+  put_placed :
+      (ix : ℕ) (rest : List ℕ)
+      → IsInPlace itself compare s rest
+      → IsInPlace itself compare s (put_in order ix rest)
   unfolding IsStrictlySortedBy
   put_placed ix [] placed = put_in_front itself compare s ix [] (λ j there. absurd (contains_none j there)) (none_placed itself compare s)
   put_placed ix (k ∷ rest) placed =
@@ -242,34 +249,43 @@ module _ {T : Type 0} (compare : T → T → Ordering) (total : IsTotalOrder com
     next-listed ix next is = from_unique ix next _ is (SortsFrom-listed next (next_hits itself compare s within ix next is))
 
 -- the same where the index is removed
-module _ {T : Type 0} (compare : T → T → Ordering) (total : IsTotalOrder compare) (s : Store T) (within : T → Bool) where
-  pub taken-listed :
-      (ix : ℕ) (item : T) (next : Option ℕ)
-      → get s ix ≡ Some item
-      → IsNextHit itself compare s within ix next
-      → hits_behind compare within s ix ≡ listed_from (hits_behind compare within (removed s ix)) next
-  taken-listed ix item next live is =
-      from_unique compare total s within ix next (listed_from (hits_behind compare within (removed s ix)) next) is
-      (SortsFrom-removed itself compare total s within ix next is (listed_from (hits_behind compare within (removed s ix)) next) item live
-      (SortsFrom-listed compare total (removed s ix) within next
-      (next_still itself compare total s within ix next is (listed_from (hits_behind compare within (removed s ix)) next) item live)))
+module _
+    {T : Type 0} (compare : T → T → Ordering) (total : IsTotalOrder compare) (s : Store T) (within : T → Bool)
+  where
+    pub taken-listed :
+        (ix : ℕ) (item : T) (next : Option ℕ)
+        → get s ix ≡ Some item
+        → IsNextHit itself compare s within ix next
+        → hits_behind compare within s ix ≡ listed_from (hits_behind compare within (removed s ix)) next
+    taken-listed ix item next live is =
+        from_unique compare total s within ix next (listed_from (hits_behind compare within (removed s ix)) next) is
+        (SortsFrom-removed itself compare total s within ix next is (listed_from (hits_behind compare within (removed s ix)) next) item live
+        (SortsFrom-listed compare total (removed s ix) within next
+        (next_still itself compare total s within ix next is (listed_from (hits_behind compare within (removed s ix)) next) item live)))
 
 -- the steps over all items, by index alone
 module _ {T : Type 0} (s : Store T) where
-  first_lesser : (i j : ℕ) (x y : T) → get s i ≡ Some x → get s j ≡ Some y → ComesBefore itself (λ _ _. Equal) s i j → i < j
+  first_lesser :
+      (i j : ℕ) (x y : T)
+      → get s i ≡ Some x
+      → get s j ≡ Some y
+      → ComesBefore itself (λ _ _. Equal) s i j
+      → i < j
   first_lesser i j x y one other before =
       ranked i j Less (sym before ∙ compares_live itself (λ _ _. Equal) s i j x y one other)
 
   first_hit : (first : Option ℕ) → IsNextLive s 0 first → IsFirstHit itself (λ _ _. Equal) s (λ _. true) first
   first_hit None none = λ j (x, live, passes). (let vacant = none j (omega arith) in cc)
   first_hit (Some ix) (_, live, none) =
-      let (item, is) = item_at s ix live in
-      ((item, is, refl), λ j (x, there, passes) apart. (
-      let order : ix < j = elim (cases_lt j ix) [
-        | inl before ↦ let vacant = none j (omega arith) before in absurd (cc)
-        | inr past ↦ omega (arith, past, apart)
-      ] in
-      lesser_first s ix j item x is there order))
+      let (item, is) = item_at s ix live in (
+        (item, is, refl),
+        λ j (x, there, passes) apart. (
+            let order : ix < j = elim (cases_lt j ix) [
+              | inl before ↦ let vacant = none j (omega arith) before in absurd (cc)
+              | inr past ↦ omega (arith, past, apart)
+            ] in
+            lesser_first s ix j item x is there order),
+      )
 
   next_hit :
       (ix : ℕ) (item : T) (next : Option ℕ)
@@ -281,14 +297,17 @@ module _ {T : Type 0} (s : Store T) where
       let vacant = none j (omega (arith, order)) in
       cc
   next_hit ix item (Some n) live (from, is_live, none) =
-      let (y, is) = item_at s n is_live in
-      ((y, is, refl), lesser_first s ix n item y live is (omega (arith, from)), λ j (x, there, passes) behind apart. (
-      let order = first_lesser ix j item x live there behind in
-      let later : n < j = elim (cases_lt j n) [
-        | inl before ↦ let vacant = none j (omega (arith, order)) before in absurd (cc)
-        | inr past ↦ omega (arith, past, apart)
-      ] in
-      lesser_first s n j y x is there later))
+      let (y, is) = item_at s n is_live in (
+        (y, is, refl),
+        lesser_first s ix n item y live is (omega (arith, from)),
+        λ j (x, there, passes) behind apart. (
+            let order = first_lesser ix j item x live there behind in
+            let later : n < j = elim (cases_lt j n) [
+              | inl before ↦ let vacant = none j (omega (arith, order)) before in absurd (cc)
+              | inr past ↦ omega (arith, past, apart)
+            ] in
+            lesser_first s n j y x is there later),
+      )
 
   -- the steps over all items
   pub live-first : (first : Option ℕ) → IsNextLive s 0 first → listed_from (live_behind s) first ≡ live_indexes s

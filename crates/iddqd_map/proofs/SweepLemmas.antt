@@ -51,7 +51,10 @@ module _
     abbrev Can : F → G → List (ℕ × T) → Type 0
     Can = CanSweep takes ask reads accepts give
 
-    CanVisit-first : (f : F) (gone : G) (p : ℕ × T) (rest : List (ℕ × T)) → Can f gone (p ∷ rest) → CanVisit takes ask reads accepts give f gone p
+    CanVisit-first :
+        (f : F) (gone : G) (p : ℕ × T) (rest : List (ℕ × T))
+        → Can f gone (p ∷ rest)
+        → CanVisit takes ask reads accepts give f gone p
     CanVisit-first f gone p rest can = (can.0, λ a f' asked is. (if_removed (reads a) _ _ (can.1 a f' asked) is).0)
 
     -- once the first closure was asked at a pair, and the second given it if the answer was so
@@ -115,42 +118,49 @@ module _
               left = ap (λ l. removed_all s (map (λ p. p.0) l)) (sym none);
             }
 
-        module _ (goes_on : stops (reads a) ≡ false) (new : Store T) (last : F) (last_gone : G) (stopped : Option (ℕ × A)) where
-          -- one that is kept, and then those behind it
-          Did-kept : (gone : G) → removes (reads a) ≡ false → Did rest f' gone s new last last_gone stopped → Did (ix ∷ rest) f gone s new last last_gone stopped
-          Did-kept gone is did =
-              let same = pairs_kept ((ix, item), a) did.asks is in
-              record {
-                asks = ((ix, item), a) ∷ did.asks;
-                unasked = did.unasked;
-                in_order = ap (λ l. (ix, item) ∷ l) did.in_order ∙ sym first_pair;
-                ends = rw goes_on did.ends;
-                were_asked = (f', asked, did.were_asked);
-                given = subst (λ l. FoldsTo give gone l last_gone) (sym same) did.given;
-                left = did.left ∙ ap (λ l. removed_all s (map (λ p. p.0) l)) (sym same);
-              }
+        module _
+            (goes_on : stops (reads a) ≡ false) (new : Store T) (last : F) (last_gone : G)
+            (stopped : Option (ℕ × A))
+          where
+            -- one that is kept, and then those behind it
+            Did-kept :
+                (gone : G)
+                → removes (reads a) ≡ false
+                → Did rest f' gone s new last last_gone stopped
+                → Did (ix ∷ rest) f gone s new last last_gone stopped
+            Did-kept gone is did =
+                let same = pairs_kept ((ix, item), a) did.asks is in
+                record {
+                  asks = ((ix, item), a) ∷ did.asks;
+                  unasked = did.unasked;
+                  in_order = ap (λ l. (ix, item) ∷ l) did.in_order ∙ sym first_pair;
+                  ends = rw goes_on did.ends;
+                  were_asked = (f', asked, did.were_asked);
+                  given = subst (λ l. FoldsTo give gone l last_gone) (sym same) did.given;
+                  left = did.left ∙ ap (λ l. removed_all s (map (λ p. p.0) l)) (sym same);
+                }
 
-          -- one that is removed, and then those behind it
-          Did-removed :
-              (gone gone' : G)
-              → removes (reads a) ≡ true
-              → give gone (ix, item) gone'
-              → ((j : ℕ) → Contains rest j → j ≢ ix)
-              → Did rest f' gone' (removed s ix) new last last_gone stopped
-              → Did (ix ∷ rest) f gone s new last last_gone stopped
-          Did-removed gone gone' is gave apart did =
-              let more = pairs_taken ((ix, item), a) did.asks is in
-              let still : pairs_at (removed s ix) rest ≡ pairs_at s rest =
-              pairs_at-alike s (removed s ix) rest (λ j there. get-removed_other s ix j (apart j there)) in
-              record {
-                asks = ((ix, item), a) ∷ did.asks;
-                unasked = did.unasked;
-                in_order = ap (λ l. (ix, item) ∷ l) (did.in_order ∙ still) ∙ sym first_pair;
-                ends = rw goes_on did.ends;
-                were_asked = (f', asked, did.were_asked);
-                given = subst (λ l. FoldsTo give gone l last_gone) (sym more) (gone', gave, did.given);
-                left = did.left ∙ ap (λ l. removed_all s (map (λ p. p.0) l)) (sym more);
-              }
+            -- one that is removed, and then those behind it
+            Did-removed :
+                (gone gone' : G)
+                → removes (reads a) ≡ true
+                → give gone (ix, item) gone'
+                → ((j : ℕ) → Contains rest j → j ≢ ix)
+                → Did rest f' gone' (removed s ix) new last last_gone stopped
+                → Did (ix ∷ rest) f gone s new last last_gone stopped
+            Did-removed gone gone' is gave apart did =
+                let more = pairs_taken ((ix, item), a) did.asks is in
+                let still : pairs_at (removed s ix) rest ≡ pairs_at s rest =
+                pairs_at-alike s (removed s ix) rest (λ j there. get-removed_other s ix j (apart j there)) in
+                record {
+                  asks = ((ix, item), a) ∷ did.asks;
+                  unasked = did.unasked;
+                  in_order = ap (λ l. (ix, item) ∷ l) (did.in_order ∙ still) ∙ sym first_pair;
+                  ends = rw goes_on did.ends;
+                  were_asked = (f', asked, did.were_asked);
+                  given = subst (λ l. FoldsTo give gone l last_gone) (sym more) (gone', gave, did.given);
+                  left = did.left ∙ ap (λ l. removed_all s (map (λ p. p.0) l)) (sym more);
+                }
 
     -- what the calls that are still to come leave is what all of them leave
     pub record Sweeping

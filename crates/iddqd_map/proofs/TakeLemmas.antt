@@ -8,7 +8,7 @@ use Rattle.iddqd_keys.specs.Scan.{HasNoHit, IsLive, AnswersScan}
 use Rattle.iddqd.proofs.LiveLemmas.{item_at}
 use Rattle.iddqd_keys.proofs.ScanLemmas.{HasNoHit-hit_removed}
 use Rattle.iddqd_map.specs.KeyIndex.{IsIndexed}
-use Rattle.iddqd_map.specs.Map.{MapState, MapMemory, Removes, RemovesAt, map_with, room}
+use Rattle.iddqd_map.specs.Map.{MapState, MapMemory, Removes, RemovesAt, RemovesFull, map_with, room}
 use Rattle.iddqd_map.proofs.MapLemmas.{IsIndexed-removed, set_left}
 use Rattle.iddqd_map.proofs.FoundLemmas.{hit_live}
 
@@ -30,29 +30,35 @@ module _
       let is = ap (λ (s : SizedStore _). s.store) taken_is in
       IsIndexed-removed new state old.store left.store ix is valid (hit_live old.store test ix scan) indexed
 
-  pub Removes-hit :
-      (capacity cells after held : ℕ)
+  pub RemovesFull-hit :
+      (item : T)
+      → r ≡ Some item
+      → (capacity cells after held : ℕ)
       → after ≡ capacity
       → held ≡ cells
-      → Removes (map_with old capacity cells) test r (map_with left after held)
-  Removes-hit capacity cells after held same few =
-      let (item, live, passed) = (scan ix).1 refl in
-      rw (value, live)
-      (record {
-        ix = ix;
-        hit = record { live = live; only = scan };
-        left = ap (λ (s : SizedStore _). s.store) taken_is;
-        memory = rw (ap (λ (s : SizedStore _). s.capacity) taken_is, same, few) refl;
-      })
+      → RemovesFull (map_with old capacity cells) test (Some (ix, item)) (map_with left after held)
+  RemovesFull-hit item is capacity cells after held same few = (
+    record { live = sym value ∙ is; only = scan },
+    ap (λ (s : SizedStore _). s.store) taken_is,
+    rw (ap (λ (s : SizedStore _). s.capacity) taken_is, same, few) refl,
+  )
 
-pub Removes-none :
-    {T : Type 0} (old : SizedStore T) (test : T → Bool) (r : Option T) (capacity cells after held : ℕ)
+pub RemovesFull-none :
+    {T : Type 0} (old : SizedStore T) (test : T → Bool) (r : Option (ℕ × T)) (capacity cells after held : ℕ)
     → r ≡ None
     → HasNoHit old.store test
     → after ≡ capacity
     → held ≡ cells
-    → Removes (map_with old capacity cells) test r (map_with old after held)
-Removes-none old test r capacity cells after held none missed same few = rw none (missed, rw (same, few) refl)
+    → RemovesFull (map_with old capacity cells) test r (map_with old after held)
+RemovesFull-none old test r capacity cells after held none missed same few = rw none (missed, rw (same, few) refl)
+
+-- without the index
+pub Removes-full :
+    {T : Type 0} (old new : MapState T) (test : T → Bool) (ix : ℕ) (item : T)
+    → RemovesFull old test (Some (ix, item)) new
+    → Removes old test (Some item) new
+Removes-full old new test ix item (only, left, memory) =
+    record { ix = ix; hit = only; left = left; memory = memory }
 
 -- then no item passes
 pub Removes-gone :

@@ -5,6 +5,7 @@ use Rattle.std.specs.Fn.{Once, FnOnceReturnsAt}
 use Rattle.std.specs.List.{Contains}
 use Rattle.iddqd.specs.Store.{Store, IsFull, get, live_count, next_index, inserted, rebound}
 use Rattle.iddqd.specs.Compaction.{compacted}
+use Rattle.iddqd_keys.specs.KeyWalk.{index_with_item}
 use Rattle.iddqd_keys.specs.Scan.{IsLive, IsHit, HasNoHit, AnswersScan}
 use Rattle.iddqd_map.specs.Map.{MapState, FindsItem, room}
 use Rattle.iddqd_map.specs.Memory.{MakesRoom}
@@ -73,16 +74,17 @@ module _ {T : Type 0} (alike : T → T → Bool) (grown : ℕ → ℕ) where
     pub each : (ix : ℕ) → Contains indexes ix ↔ IsHit s (alike item) ix
     pub rising : IsIncreasing indexes
 
-  -- The items that share a key were removed by rising index, and come back in this order from the first place on. Then
-  -- the new item was stored at the next index. If one was removed, the counts of the memory stay.
+  -- The items that share a key were removed by rising index, and come back in this order from the first place on, each
+  -- with the index that it had. Then the new item was stored at the next index. If one was removed, the counts of the
+  -- memory stay.
   pub record OverwritesAt
-      (places : ℕ) (old : MapState T) (item : T) (ix : ℕ) (given_back : List (Option T)) (new : MapState T)
+      (places : ℕ) (old : MapState T) (item : T) (ix : ℕ) (given_back : List (Option (ℕ × T))) (new : MapState T)
       : Type 0 where
     pub conflicts : List ℕ
     pub are_conflicts : AreConflicts old.store item conflicts
     pub at_most : length conflicts ≤ places
     pub not_full : HasNoHit old.store (alike item) → IsFull old.store → ⊥
-    pub items : given_back ≡ padded places (map (get old.store) conflicts)
+    pub items : given_back ≡ padded places (map (index_with_item old.store) conflicts)
     pub index : ix ≡ next_index (removed_all old.store conflicts)
     pub stored : new.store ≡ inserted (removed_all old.store conflicts) item
     pub memory : MakesRoom grown old new.memory
@@ -100,7 +102,7 @@ module _ {T : Type 0} (alike : T → T → Bool) (grown : ℕ → ℕ) where
 
     -- what an insert that overwrites may return and leave, with this number of places for the items that come back
     abbrev pub Overwrites :
-        ℕ → MapState T → T → Result (ℕ × List (Option T)) (OverwriteRefusal T) → MapState T → Type 0
+        ℕ → MapState T → T → Result (ℕ × List (Option (ℕ × T))) (OverwriteRefusal T) → MapState T → Type 0
     Overwrites places old item (Ok (ix, given_back)) new = OverwritesAt places old item ix given_back new
     Overwrites places old item (Err (NoSlot back)) new = RefusesFull old item back new
     Overwrites places old item (Err (NoMemory back)) new =
@@ -109,7 +111,7 @@ module _ {T : Type 0} (alike : T → T → Bool) (grown : ℕ → ℕ) where
     -- the same for an insert that puts the removed items into an array of empty places; after a refusal these are still
     -- empty
     abbrev pub OverwritesInto :
-        ℕ → MapState T → T → Result ℕ (OverwriteRefusal T) → List (Option T) → MapState T → Type 0
+        ℕ → MapState T → T → Result ℕ (OverwriteRefusal T) → List (Option (ℕ × T)) → MapState T → Type 0
     OverwritesInto places old item (Ok ix) given_back new = Overwrites places old item (Ok (ix, given_back)) new
     OverwritesInto places old item (Err refusal) given_back new =
         Overwrites places old item (Err refusal) new × (given_back ≡ padded places [])

@@ -77,6 +77,12 @@ module _ {T : Type 0} where
   Removes old test (Some item) new = RemovesHit old test item new
   Removes old test None new = HasNoHit old.store test × (new ≡ old)
 
+  -- the same of a removal that also returns the index of the item
+  abbrev pub RemovesFull : MapState T → (T → Bool) → Option (ℕ × T) → MapState T → Type 0
+  RemovesFull old test (Some (ix, item)) new =
+      IsOnly old.store test ix item × (new.store ≡ removed old.store ix) × (new.memory ≡ old.memory)
+  RemovesFull old test None new = HasNoHit old.store test × (new ≡ old)
+
   -- What a removal at an index may return and leave. It returns `None` if and only if no item is there, and then
   -- nothing changes.
   abbrev pub RemovesAt : MapState T → ℕ → Option T → MapState T → Type 0

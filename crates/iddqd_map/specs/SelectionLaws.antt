@@ -48,7 +48,12 @@ module _ {T : Type 0} where
     ]
 
     -- of two live indexes the lesser comes first
-    pub lesser_first : (i j : ℕ) (x y : T) → get s i ≡ Some x → get s j ≡ Some y → i < j → ComesBefore itself (λ _ _. Equal) s i j
+    pub lesser_first :
+        (i j : ℕ) (x y : T)
+        → get s i ≡ Some x
+        → get s j ≡ Some y
+        → i < j
+        → ComesBefore itself (λ _ _. Equal) s i j
     lesser_first i j x y one other less =
         compares_live itself (λ _ _. Equal) s i j x y one other ∙ sym (nat_cmp_is i j Less less)
 
@@ -69,7 +74,8 @@ module _ {T : Type 0} where
     pub SortsWithin-live : SortsWithin itself (λ _ _. Equal) (λ _. true) s (live_indexes s)
     SortsWithin-live = record {
       each = λ j. (
-        λ here. let (x, listed) = paired (live_pairs s) j here in (x, ((IsWalkOf-live_pairs s).live j x).0 listed, refl),
+        λ here.
+            let (x, listed) = paired (live_pairs s) j here in (x, ((IsWalkOf-live_pairs s).live j x).0 listed, refl),
         λ (x, live, passes). first_of (live_pairs s) (j, x) (((IsWalkOf-live_pairs s).live j x).1 live),
       );
       placed = placed_from 0 s.items (λ p here. ((IsWalkOf-live_pairs s).live p.0 p.1).0 here);

@@ -37,22 +37,22 @@ module _
     {F T : Type 0} (lists : Store T → List ℕ → Type 0) (takes : F → ℕ × T → Type 0)
     (ask : F → ℕ × T → Bool → F → Type 0)
   where
-  -- the closure may be called on the pairs of the selection in turn, once on each, whatever it answers
-  pub record AsksAlong (f : F) (s : Store T) : Type 0 where
-    pub at : (indexes : List ℕ) → lists s indexes → AsksInTurn takes ask f (pairs_at s indexes)
+    -- the closure may be called on the pairs of the selection in turn, once on each, whatever it answers
+    pub record AsksAlong (f : F) (s : Store T) : Type 0 where
+      pub at : (indexes : List ℕ) → lists s indexes → AsksInTurn takes ask f (pairs_at s indexes)
 
-  -- equivalent to `AsksAlong`, and in the form of `MayAsk` for the same reason
-  abbrev pub MayAskAlong : F → Store T → Type 0
-  MayAskAlong f s = (((p : F) (x : ℕ × T) → takes p x) → AsksAlong f s) → AsksAlong f s
+    -- equivalent to `AsksAlong`, and in the form of `MayAsk` for the same reason
+    abbrev pub MayAskAlong : F → Store T → Type 0
+    MayAskAlong f s = (((p : F) (x : ℕ × T) → takes p x) → AsksAlong f s) → AsksAlong f s
 
 module _
     {G T : Type 0} (takes : G → ℕ × T → Type 0) (give : G → ℕ × T → G → Type 0)
   where
-  -- the closure may be called with some of these pairs in turn, whichever they are
-  abbrev pub TakesSome : G → List (ℕ × T) → Type 0
-  TakesSome g [] = Unit {0}
-  TakesSome g (pair ∷ rest) =
-      takes g pair × ((g' : G) → give g pair g' → TakesSome g' rest) × TakesSome g rest
+    -- the closure may be called with some of these pairs in turn, whichever they are
+    abbrev pub TakesSome : G → List (ℕ × T) → Type 0
+    TakesSome g [] = Unit {0}
+    TakesSome g (pair ∷ rest) =
+        takes g pair × ((g' : G) → give g pair g' → TakesSome g' rest) × TakesSome g rest
 
 -- `g` has the calls of a closure that takes an index and its item
 module _ {G T : Type 0} (lists : Store T → List ℕ → Type 0) (g : Mut G (ℕ × (T × Unit {0})) (Unit {0})) where
@@ -109,21 +109,21 @@ module _
     {F G T A : Type 0} (takes : F → ℕ × T → Type 0) (ask : F → ℕ × T → A → F → Type 0) (reads : A → Verdict)
     (accepts : G → ℕ × T → Type 0) (give : G → ℕ × T → G → Type 0)
   where
-  -- the first may be called at this pair, and the second with it if the first answers `Remove`
-  abbrev pub CanVisit : F → G → ℕ × T → Type 0
-  CanVisit f gone pair =
-      takes f pair × ((a : A) (f' : F) → ask f pair a f' → removes (reads a) ≡ true → accepts gone pair)
+    -- the first may be called at this pair, and the second with it if the first answers `Remove`
+    abbrev pub CanVisit : F → G → ℕ × T → Type 0
+    CanVisit f gone pair =
+        takes f pair × ((a : A) (f' : F) → ask f pair a f' → removes (reads a) ≡ true → accepts gone pair)
 
-  -- so on all these pairs in turn, until the first answers `Stop`
-  abbrev pub CanSweep : F → G → List (ℕ × T) → Type 0
-  CanSweep f gone [] = Unit {0}
-  CanSweep f gone (pair ∷ rest) =
-      takes f pair
-      × ((a : A) (f' : F) → ask f pair a f' → AfterVerdict (reads a) (CanSweep f' gone rest)
-      (accepts gone pair × ((gone' : G) → give gone pair gone' → CanSweep f' gone' rest)))
+    -- so on all these pairs in turn, until the first answers `Stop`
+    abbrev pub CanSweep : F → G → List (ℕ × T) → Type 0
+    CanSweep f gone [] = Unit {0}
+    CanSweep f gone (pair ∷ rest) =
+        takes f pair
+        × ((a : A) (f' : F) → ask f pair a f' → AfterVerdict (reads a) (CanSweep f' gone rest)
+        (accepts gone pair × ((gone' : G) → give gone pair gone' → CanSweep f' gone' rest)))
 
-  pub record CanSweepAlong (lists : Store T → List ℕ → Type 0) (f : F) (gone : G) (s : Store T) : Type 0 where
-    pub at : (indexes : List ℕ) → lists s indexes → CanSweep f gone (pairs_at s indexes)
+    pub record CanSweepAlong (lists : Store T → List ℕ → Type 0) (f : F) (gone : G) (s : Store T) : Type 0 where
+      pub at : (indexes : List ℕ) → lists s indexes → CanSweep f gone (pairs_at s indexes)
 
 -- `asks` are calls of a closure: an index with its item, and the answer; `reads` is how an answer reads
 module _ {A T : Type 0} (reads : A → Verdict) where
@@ -143,29 +143,35 @@ module _ {A T : Type 0} (reads : A → Verdict) where
 module _
     {F G T A : Type 0} (ask : F → ℕ × T → A → F → Type 0) (reads : A → Verdict) (give : G → ℕ × T → G → Type 0)
   where
-  -- The first closure was called on these indexes with their items in turn, until it answered `Stop` or had seen all.
-  -- Those at which it answered `Remove` were removed, in the order of the calls, and the second was called with each of
-  -- them in that order. All others stay under their indexes.
-  pub record Sweeps
-      (indexes : List ℕ) (f : F) (gone : G) (old new : Store T) (last : F) (last_gone : G) (stopped : Option (ℕ × A))
-      : Type 0 where
-    pub asks : List ((ℕ × T) × A)
-    pub unasked : List (ℕ × T)
-    pub in_order : map (λ a. a.0) asks ++ unasked ≡ pairs_at old indexes
-    pub ends : EndsAt reads asks unasked stopped
-    pub were_asked : FoldsTo (λ p a q. ask p a.0 a.1 q) f asks last
-    pub given : FoldsTo give gone (pairs_removed reads asks) last_gone
-    pub left : new ≡ removed_all old (map (λ p. p.0) (pairs_removed reads asks))
+    -- The first closure was called on these indexes with their items in turn, until it answered `Stop` or had seen all.
+    -- Those at which it answered `Remove` were removed, in the order of the calls, and the second was called with each
+    -- of them in that order. All others stay under their indexes.
+    pub record Sweeps
+        (indexes : List ℕ) (f : F) (gone : G) (old new : Store T) (last : F) (last_gone : G) (stopped : Option (ℕ × A))
+        : Type 0 where
+      pub asks : List ((ℕ × T) × A)
+      pub unasked : List (ℕ × T)
+      pub in_order : map (λ a. a.0) asks ++ unasked ≡ pairs_at old indexes
+      pub ends : EndsAt reads asks unasked stopped
+      pub were_asked : FoldsTo (λ p a q. ask p a.0 a.1 q) f asks last
+      pub given : FoldsTo give gone (pairs_removed reads asks) last_gone
+      pub left : new ≡ removed_all old (map (λ p. p.0) (pairs_removed reads asks))
 
-  -- the same of a selection, for a call that returns neither closure
-  pub record SweepsAlong
-      (lists : Store T → List ℕ → Type 0) (f : F) (gone : G) (old new : Store T) (stopped : Option (ℕ × A))
-      : Type 0 where
-    pub indexes : List ℕ
-    pub listed : lists old indexes
-    pub last : F
-    pub last_gone : G
-    pub swept : Sweeps indexes f gone old new last last_gone stopped
+    -- the same of a selection, for a call that returns neither closure
+    pub record SweepsAlong
+        (lists : Store T → List ℕ → Type 0) (f : F) (gone : G) (old new : Store T) (stopped : Option (ℕ × A))
+        : Type 0 where
+      pub indexes : List ℕ
+      pub listed : lists old indexes
+      pub last : F
+      pub last_gone : G
+      pub swept : Sweeps indexes f gone old new last last_gone stopped
+
+-- the same of a first closure that answers a verdict, and a second one that takes an index and its item
+abbrev pub SweepsBy :
+    {F G T : Type 0} → Mut F (ℕ × (Bor T × Unit {0})) Verdict → Mut G (ℕ × (T × Unit {0})) (Unit {0})
+    → (Store T → List ℕ → Type 0) → F → G → Store T → Store T → Option (ℕ × Verdict) → Type 0
+SweepsBy f g = SweepsAlong (CalledPairAt f) reads_itself (GivesPair g)
 
 -- `ask p x b q`: called at the pair x in the state p, the closure may answer b and be in the state q
 module _ {F T : Type 0} (lists : Store T → List ℕ → Type 0) (ask : F → ℕ × T → Bool → F → Type 0) where
@@ -213,22 +219,22 @@ module _ {F T : Type 0} (lists : Store T → List ℕ → Type 0) (give : F → 
 module _
     {F T E : Type 0} (lists : Store T → List ℕ → Type 0) (ask : F → ℕ × T → Result Bool E → F → Type 0)
   where
-  -- how the calls end that left the state `before`: with all pairs, or with an error of the call at the next pair
-  abbrev pub EndsRetain :
-      {C : Type 0} → List (ℕ × T) → List (ℕ × T) → F → Result C E → F → Type 0
-  EndsRetain asked pairs before (Ok count) last = (asked ≡ pairs) × (last ≡ before)
-  EndsRetain asked pairs before (Err e) last =
-      (pair : ℕ × T) × (unasked : List (ℕ × T)) × (asked ++ pair ∷ unasked ≡ pairs) × ask before pair (Err e) last
+    -- how the calls end that left the state `before`: with all pairs, or with an error of the call at the next pair
+    abbrev pub EndsRetain :
+        {C : Type 0} → List (ℕ × T) → List (ℕ × T) → F → Result C E → F → Type 0
+    EndsRetain asked pairs before (Ok count) last = (asked ≡ pairs) × (last ≡ before)
+    EndsRetain asked pairs before (Err e) last =
+        (pair : ℕ × T) × (unasked : List (ℕ × T)) × (asked ++ pair ∷ unasked ≡ pairs) × ask before pair (Err e) last
 
-  -- f was called once at each pair of the selection, in its order, up to its first error. Those at which it returned
-  -- `Ok(false)` were removed, in the order of the calls. All others stay under their indexes.
-  pub record RetainsUntil {C : Type 0} (f : F) (old new : Store T) (result : Result C E) (last : F) : Type 0 where
-    pub indexes : List ℕ
-    pub listed : lists old indexes
-    pub asks : List ((ℕ × T) × Bool)
-    pub before : F
-    pub were_asked : FoldsTo (λ p a q. ask p a.0 (Ok a.1) q) f asks before
-    pub ends : EndsRetain (map (λ a. a.0) asks) (pairs_at old indexes) before result last
-    pub gone : (ix : ℕ) → Contains (removed_of asks) ix → get new ix ≡ None
-    pub others : (ix : ℕ) → (Contains (removed_of asks) ix → ⊥) → get new ix ≡ get old ix
-    pub left : new ≡ removed_all old (removed_of asks)
+    -- f was called once at each pair of the selection, in its order, up to its first error. Those at which it returned
+    -- `Ok(false)` were removed, in the order of the calls. All others stay under their indexes.
+    pub record RetainsUntil {C : Type 0} (f : F) (old new : Store T) (result : Result C E) (last : F) : Type 0 where
+      pub indexes : List ℕ
+      pub listed : lists old indexes
+      pub asks : List ((ℕ × T) × Bool)
+      pub before : F
+      pub were_asked : FoldsTo (λ p a q. ask p a.0 (Ok a.1) q) f asks before
+      pub ends : EndsRetain (map (λ a. a.0) asks) (pairs_at old indexes) before result last
+      pub gone : (ix : ℕ) → Contains (removed_of asks) ix → get new ix ≡ None
+      pub others : (ix : ℕ) → (Contains (removed_of asks) ix → ⊥) → get new ix ≡ get old ix
+      pub left : new ≡ removed_all old (removed_of asks)

@@ -63,5 +63,5 @@ module _ {T : Type 0} (first second third : T → T → Bool) where
   -- what an insert that overwrites may return and leave where all three keys go by their hashes: after a removal it
   -- needs no memory
   abbrev pub OverwritesThree :
-      MapState T → T → Result (ℕ × List (Option T)) (OverwriteRefusal T) → MapState T → Type 0
+      MapState T → T → Result (ℕ × List (Option (ℕ × T))) (OverwriteRefusal T) → MapState T → Type 0
   OverwritesThree = Overwrites any_key (λ n. most_cells n + (most_cells n + most_cells n)) false 3

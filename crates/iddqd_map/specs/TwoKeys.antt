@@ -37,5 +37,5 @@ module _ {T : Type 0} (first second : T → T → Bool) where
   -- what an insert that overwrites may return and leave where both keys go by their hashes: after a removal it needs no
   -- memory
   abbrev pub OverwritesTwo :
-      MapState T → T → Result (ℕ × List (Option T)) (OverwriteRefusal T) → MapState T → Type 0
+      MapState T → T → Result (ℕ × List (Option (ℕ × T))) (OverwriteRefusal T) → MapState T → Type 0
   OverwritesTwo = Overwrites (either_key first second) (λ n. most_cells n + most_cells n) false 2

@@ -37,7 +37,7 @@ where
     B: HashKey<T>,
 {
     /// Inserts an item, and removes the items that share a key with it, at most two. It returns these by rising index,
-    /// in the first places of the array.
+    /// in the first places of the array, each with the index that it had.
     ///
     /// If it removes an item, it takes no memory and isn't refused. If it removes none, it inserts as `insert_unique`
     /// does, and may be refused for the same reasons. Each key of the item is hashed once, and each key of an item that
@@ -48,7 +48,7 @@ where
     pub fn insert_overwrite(
         &mut self,
         item: T,
-    ) -> Result<(ItemIndex, [Option<T>; 2]), OverwriteRefusal<T>>
+    ) -> Result<(ItemIndex, [Option<(ItemIndex, T)>; 2]), OverwriteRefusal<T>>
         ensures inserts { OverwritesTwo (shares A.key_of A.eq) (shares B.key_of B.eq) self.old
             item result self.new }
         ensures count { IfOk result (λ put. live_count self.new.store + count_by is_some put.1

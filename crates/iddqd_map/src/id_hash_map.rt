@@ -8,7 +8,7 @@ ghost use Rattle.iddqd.specs.{live_count};
 ghost use Rattle.iddqd_hash.specs.Sizes.{most_cells};
 ghost use Rattle.iddqd_keys.specs.Scan.{HasNoHit, AnswersScan};
 ghost use Rattle.iddqd_keys.specs.KeyKeeping.{KeepsKey};
-ghost use Rattle.iddqd_map.specs.Map.{capacity, room, shares, FindsItem, Removes};
+ghost use Rattle.iddqd_map.specs.Map.{capacity, room, shares, FindsItem, Removes, RemovesFull};
 ghost use Rattle.iddqd_map.specs.Calls.{MayChange};
 ghost use Rattle.iddqd_map.specs.Modify.{Modifies};
 ghost use Rattle.iddqd_map.specs.OneKey.{ChangesOne, OverwritesOne, ReplacesOne};
@@ -85,6 +85,21 @@ impl<T, E: HashKey<T>, S: BuildHasher> Map<T, ByHashOf<E>, S> {
             → room self.new ≡ room self.old + 1) }
     {
         self.remove_by::<Here, Q>(query)
+    }
+
+    /// Removes the item that has the key, and returns the index that it had, with the item.
+    ///
+    /// Cost: one look-up, and a removal from each table; takes no memory.
+    pub fn remove_full<Q: ItemHashQuery<T, E>>(&mut self, query: Q) -> Option<(ItemIndex, T)>
+        ensures removes { RemovesFull self.old (Q.stands_for_item query) result self.new }
+        ensures gone { HasNoHit self.new.store (Q.stands_for_item query) }
+        ensures room { room self.old ≤ room self.new }
+        ensures count { OnSome result (live_count self.old.store ≡ live_count self.new.store + 1) }
+        ensures unchanged { IfNone result (self.new ≡ self.old) }
+        ensures freed { OnSome result (live_count self.old.store ≤ capacity self.old
+            → room self.new ≡ room self.old + 1) }
+    {
+        self.remove_full_by::<Here, Q>(query)
     }
 
     /// Replaces the item that has the key, and returns the old one.

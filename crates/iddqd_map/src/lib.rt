@@ -6,7 +6,6 @@
 //! [`tri_hash_map::TriHashMap`], with one, two and three keys.
 #![tactic(auto)]
 
-pub mod appended;
 pub mod bi_hash_map;
 pub mod by_hash;
 pub mod grouped_at;

@@ -1,9 +1,10 @@
 //! Why a map refuses an item. Each refusal returns the item, and the items of the map stay, with three exceptions. The
-//! old item of `remake_at` and `remake_by` is gone, since their closure has got it. `insert_all` and `overwrite_all`
-//! keep what they did with the items before. `from_array` drops all other items.
+//! old item of `remake_at` and `remake_by` is gone, since their closure has got it. `insert_all`, `overwrite_all`
+//! and `append` keep what they did with the items before. `from_array` drops all other items.
 ghost use Rattle.std.specs.Prelude.{◌≡◌};
 ghost use Rattle.iddqd_map.specs.Refusal.{insert_refusal_item, overwrite_refusal_item, replace_refusal_item};
 
+use iddqd::item_set::GrowError;
 use std::error::Error;
 use std::fmt;
 
@@ -58,6 +59,15 @@ pub struct StoppedOverwrite<T, I> {
     pub refusal: OverwriteRefusal<T>,
     /// The items after that one.
     pub rest: I,
+}
+
+/// Why `append` stopped at an item, which stays in the other map.
+#[derive(Clone, Copy, Debug, PartialEq, Eq)]
+pub struct StoppedAppend {
+    /// How many items were moved.
+    pub moved: usize,
+    /// Why the next one wasn't: the map is full, or memory ran out.
+    pub error: GrowError,
 }
 
 impl<T, C: Drop> InsertRefusal<T, C> {

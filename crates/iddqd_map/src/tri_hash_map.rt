@@ -48,7 +48,7 @@ where
     pub fn insert_overwrite(
         &mut self,
         item: T,
-    ) -> Result<(ItemIndex, [Option<T>; 3]), OverwriteRefusal<T>>
+    ) -> Result<(ItemIndex, [Option<(ItemIndex, T)>; 3]), OverwriteRefusal<T>>
         ensures inserts { OverwritesThree (shares A.key_of A.eq) (shares B.key_of B.eq)
             (shares C.key_of C.eq) self.old item result self.new }
         ensures count { IfOk result (λ put. live_count self.new.store + count_by is_some put.1

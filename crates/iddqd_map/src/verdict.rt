@@ -36,7 +36,11 @@ impl Answer for bool {
     ghost reads = { kept_if };
 
     fn verdict(&self) -> Verdict {
-        if *self { Verdict::Keep } else { Verdict::Remove }
+        if *self {
+            Verdict::Keep
+        } else {
+            Verdict::Remove
+        }
     }
 }
 

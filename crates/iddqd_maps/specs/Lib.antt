@@ -7,6 +7,7 @@ pub use Rattle.iddqd.specs.Compaction
 pub use Rattle.iddqd.specs.Validation
 pub use Rattle.iddqd_keys.specs.Scan
 pub use Rattle.iddqd_keys.specs.KeyKeeping
+pub use Rattle.iddqd_keys.specs.KeyWalk
 pub use Rattle.iddqd_keys.specs.OrderedQuery
 pub use Rattle.iddqd_keys.specs.Bounds
 pub use Rattle.iddqd_keys.specs.Removals

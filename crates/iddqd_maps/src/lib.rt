@@ -43,15 +43,14 @@ pub use iddqd::internal::{
 };
 pub use iddqd::item_index::ItemIndex;
 pub use iddqd_groups::in_groups::GroupItems;
-pub use iddqd_map::appended::Appended;
 pub use iddqd_map::bi_hash_map::BiClash;
 pub use iddqd_map::map::Parts;
+pub use iddqd_map::map::sweep::Swept;
 pub use iddqd_map::no_conflict::NoConflict;
 pub use iddqd_map::pair_conflict::PairConflict;
 pub use iddqd_map::refusal::{
-    InsertRefusal, OverwriteRefusal, ReplaceRefusal, Stopped, StoppedOverwrite,
+    InsertRefusal, OverwriteRefusal, ReplaceRefusal, Stopped, StoppedAppend, StoppedOverwrite,
 };
-pub use iddqd_map::map::sweep::Swept;
 pub use iddqd_map::tri_hash_map::TriClash;
 pub use iddqd_map::verdict::Verdict;
 
@@ -95,7 +94,7 @@ pub use iddqd_keys::{
     starts_with as starts_with,
 };
 pub use iddqd_map::{
-    appended as appended, bi_hash_map as bi_hash_map, by_hash as by_hash, grouped_at as grouped_at,
+    bi_hash_map as bi_hash_map, by_hash as by_hash, grouped_at as grouped_at,
     id_hash_map as id_hash_map, key_index as key_index, map as map, mix as mix,
     no_conflict as no_conflict, pair as pair, pair_conflict as pair_conflict, refusal as refusal,
     selection as selection, tri_hash_map as tri_hash_map, verdict as verdict,

@@ -11,10 +11,10 @@ use Rattle.iddqd_map.specs.Map.{MapState}
 use Rattle.iddqd_map.specs.OneKey.{IsReported, IsTaken}
 use Rattle.iddqd_map.specs.Remake.{Remakes, RemakesIfLive}
 use Rattle.iddqd_map.specs.Upsert.{InsertsMade}
-use Rattle.iddqd_map.specs.declared.appended.Appended.{Appended}
 use Rattle.iddqd_map.specs.declared.refusal.InsertRefusal.{InsertRefusal}
 use Rattle.iddqd_map.specs.declared.refusal.ReplaceRefusal.{ReplaceRefusal}
 use Rattle.iddqd_map.specs.declared.refusal.Stopped.{Stopped}
+use Rattle.iddqd_map.specs.declared.refusal.StoppedAppend.{StoppedAppend}
 use Rattle.iddqd_map.specs.declared.refusal.StoppedOverwrite.{StoppedOverwrite}
 use Rattle.iddqd_ord_map.specs.OrderedSteps.{most_cells}
 use Rattle.iddqd_ord_map.specs.OrderedIndexing.{alike_in_order}
@@ -58,16 +58,17 @@ module _ {T K : Type 0} (key_of : T → K) (compare : K → K → Ordering) wher
       InsertsFrom gives alike (λ count. 0) (IsReported alike) remaining most_cells it old result new
 
   -- The same for an insert of all items that displaces those in the way: `give p x q` says that a call of its closure
-  -- with x in the state p may leave the state q.
+  -- with this index and item in the state p may leave the state q.
   abbrev pub OverwritesFromInOrder :
-      {I G : Type 0} → (G → T → G → Type 0) → (I → Option T → I → Type 0) → (I → Count) → I → MapState T → G
+      {I G : Type 0} → (G → ℕ × T → G → Type 0) → (I → Option T → I → Type 0) → (I → Count) → I → MapState T → G
       → Result ℕ (StoppedOverwrite T I) → MapState T → Type 0
   OverwritesFromInOrder give gives remaining it old gone result new =
       let alike = alike_in_order key_of compare in
       OverwritesFrom alike (λ count. 0) true give gives remaining most_cells it old gone result new
 
   -- what moving the items of one map into another may answer, and what it leaves in both
-  abbrev pub AppendsInOrder : (into from : MapState T) → Appended → (new_into new_from : MapState T) → Type 0
+  abbrev pub AppendsInOrder :
+      (into from : MapState T) → Result ℕ StoppedAppend → (new_into new_from : MapState T) → Type 0
   AppendsInOrder into from answer new_into new_from =
       Appends (alike_in_order key_of compare) (λ count. 0) into from answer new_into new_from
 

@@ -8,7 +8,7 @@ ghost use Rattle.std.specs.Prelude.{◌≡◌, ◌≤◌, ◌↔◌, ◌+◌, fa
 ghost use Rattle.std.specs.Ordering.{eq_by_cmp};
 ghost use Rattle.iddqd.specs.{get, live_count, next_index, slot_limit, empty, empty_within, inserted, cleared, IsRemapOf};
 ghost use Rattle.iddqd_map.specs.Calls.{Compacts, Inserts, IsDuplicate};
-ghost use Rattle.iddqd_map.specs.Map.{empty_map, shares, capacity, room, IsMap, FindsItem, Removes, RemovesAt};
+ghost use Rattle.iddqd_map.specs.Map.{empty_map, shares, capacity, room, IsMap, FindsItem, Removes, RemovesAt, RemovesFull};
 ghost use Rattle.iddqd_map.specs.Memory.{ReservesItems, ShrinksItems, HasMoreThanNeeded};
 ghost use Rattle.iddqd_map.specs.OneKey.{IsReported, OverwritesOne};
 ghost use Rattle.iddqd_order.specs.MapBTreeTable.{order_of};
@@ -276,6 +276,21 @@ impl<T: Drop, E: OrdKey<T>> OrdMapBy<T, E> {
             → room self.new ≡ room self.old + 1) }
     {
         self.map.remove_by::<Here, Q>(query)
+    }
+
+    /// Removes the item that has the key, and returns the index that it had, with the item.
+    ///
+    /// Cost: one search; takes no memory.
+    pub fn remove_full<Q: ItemOrdQuery<T, E>>(&mut self, query: Q) -> Option<(ItemIndex, T)>
+        ensures removes { RemovesFull self.old (is_equal (Q.compare_item query)) result self.new }
+        ensures gone { HasNoHit self.new.store (is_equal (Q.compare_item query)) }
+        ensures room { room self.old ≤ room self.new }
+        ensures count { OnSome result (live_count self.old.store ≡ live_count self.new.store + 1) }
+        ensures unchanged { IfNone result (self.new ≡ self.old) }
+        ensures freed { OnSome result (live_count self.old.store ≤ capacity self.old
+            → room self.new ≡ room self.old + 1) }
+    {
+        self.map.remove_full_by::<Here, Q>(query)
     }
 
     /// Removes the item at an index, if there is one, and returns it.

@@ -23,6 +23,7 @@ pub mod NodeLemmas
 mod NodeRenameLemmas
 mod PartLemmas
 mod RangeLemmas
+mod ReadLemmas
 mod ReckoningLemmas
 mod RecountLemmas
 mod RemovalLemmas

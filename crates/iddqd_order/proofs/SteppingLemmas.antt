@@ -89,7 +89,8 @@ node_at-formed l (suc h) n p f g =
           (let lt = split_level l (suc h) n p g ne in
           let u = under l (suc h) n p lt g in
           let below = child-formed (suc h) n (slice_index p (suc h)) (λ e. absurd (omega arith)) f u.here in
-          rw (node_at-under l (suc h) n p lt, sub-one) (node_at-formed l h _ p (rw sub-one at below) (rw sub-one at u.on)))
+          rw (node_at-under l (suc h) n p lt, sub-one)
+          (node_at-formed l h _ p (rw sub-one at below) (rw sub-one at u.on)))
     ]
 
 -- all below a node stands together in the whole list
@@ -128,13 +129,18 @@ spans l (suc h) n p f g =
           let list : get_or ks i [] ≡ flat h (child n i) = lists-at h n i u.here in
           let fits = s.within in
           let longer : b + length (flat h (child n i)) ≤ length (flat (suc h) n) =
-          rw (flat-inner (suc h) n inner, sub-one, ← list) (within i xs ks [] (length (get_or ks i [])) (omega (arith, u.here, length-map (children n) (λ k. flat h k))) one (omega arith)) in
+          rw (flat-inner (suc h) n inner, sub-one, ← list)
+          (within i xs ks [] (length (get_or ks i [])) (omega (arith, u.here, length-map (children n) (λ k. flat h k)))
+          one (omega arith)) in
           record {
             within = rw (from, is) (omega arith);
             at = λ j low. rw (from, is)
-                (let inside : start l h (child n i) p + j < length (flat h (child n i)) = (let lo : j < length (flat l (node_at l h (child n i) p)) = rw is at low in omega arith) in
+                (let inside : start l h (child n i) p + j < length (flat h (child n i)) =
+                (let lo : j < length (flat l (node_at l h (child n i) p)) = rw is at low in omega arith) in
                 let sum : (b + start l h (child n i) p) + j ≡ b + (start l h (child n i) p + j) = omega arith in
-                rw sum ((rw sub-one at (child-read (suc h) n i (start l h (child n i) p + j) inner f u.here (rw sub-one inside))) ∙ s.at j (rw is at low)));
+                rw sum ((rw sub-one at
+                (child-read (suc h) n i (start l h (child n i) p + j) inner f u.here (rw sub-one inside)))
+                ∙ s.at j (rw is at low)));
           })
     ]
 
@@ -159,11 +165,13 @@ steps-here l h i n p q e ne lt at =
     let down : l - 1 ≡ h - 1 = omega arith in
     let less : l - 1 < h = omega arith in
     record {
-      goes = goes-under (l - 1) h n q inner (record { here = rw (to, ← is) lt; on = goes-here (l - 1) (h - 1) _ q down });
+      goes = goes-under (l - 1) h n q inner
+          (record { here = rw (to, ← is) lt; on = goes-here (l - 1) (h - 1) _ q down });
       node = node_at-under (l - 1) h n q less ∙ node_at-here (l - 1) (h - 1) _ q down ∙ ap (child n) to
           ∙ sym (ap (λ z. child z i) is);
       begins = start-under (l - 1) h n q less
-          ∙ (rw (start-here (l - 1) (h - 1) (child n (slice_index q h)) q down, to, start-here l h n p e, is, ← e) (omega arith));
+          ∙ (rw (start-here (l - 1) (h - 1) (child n (slice_index q h)) q down, to, start-here l h n p e, is, ← e)
+          (omega arith));
     }
 
 pub steps-down :
@@ -183,7 +191,8 @@ steps-down l (suc h) i n p q ne g lt at above =
           let c : ℕ = slice_index p (suc h) in
           let u = under l (suc h) n p less g in
           let same : slice_index q (suc h) ≡ c = above (suc h) less in
-          let is : node_at l (suc h) n p ≡ node_at l h (child n c) p = rw sub-one at (node_at-under l (suc h) n p less) in
+          let is : node_at l (suc h) n p ≡ node_at l h (child n c) p =
+          rw sub-one at (node_at-under l (suc h) n p less) in
           let from : start l (suc h) n p ≡ length (before c (row n) (lists h (children n))) + start l h (child n c) p =
           rw sub-one at (start-under l (suc h) n p less) in
           let s = steps-down l h i (child n c) p q ne (rw sub-one at u.on) (rw is at lt) at (λ m up. above m up) in
@@ -192,10 +201,12 @@ steps-down l (suc h) i n p q ne g lt at above =
           let one : suc h - 1 ≡ h = omega arith in
           let is2 : node_at (l - 1) (suc h) n q ≡ node_at (l - 1) h (child n c) q =
           rw (one, same) at (node_at-under (l - 1) (suc h) n q low) in
-          let from2 : start (l - 1) (suc h) n q ≡ length (before c (row n) (lists h (children n))) + start (l - 1) h (child n c) q =
+          let from2 : start (l - 1) (suc h) n q ≡ length (before c (row n) (lists h (children n))) + start (l - 1) h
+          (child n c) q =
           rw (one, same) at (start-under (l - 1) (suc h) n q low) in
           record {
-            goes = goes-under (l - 1) (suc h) n q (λ z. absurd (omega arith)) (record { here = rw same u.here; on = rw (same, one) s.goes });
+            goes = goes-under (l - 1) (suc h) n q (λ z. absurd (omega arith))
+                (record { here = rw same u.here; on = rw (same, one) s.goes });
             node = is2 ∙ s.node ∙ sym (ap (λ z. child z i) is);
             begins = rw is (omega arith);
           })
@@ -228,13 +239,20 @@ beside l i k ne f le =
       first = λ e. rw e refl;
       behind = λ some.
           let back : i - 1 + 1 ≡ i = omega arith in
-          let next : length (before (i - 1 + 1) xs ks) ≡ index_place (i - 1) xs ks + 1 = before-next (i - 1) xs ks (omega arith) one in
+          let next : length (before (i - 1 + 1) xs ks) ≡ index_place (i - 1) xs ks + 1 =
+          before-next (i - 1) xs ks (omega arith) one in
           (rw whole (m.within (i - 1) (omega arith)), rw back at next, rw whole (m.at (i - 1) (omega arith)));
       ahead = λ low. (rw whole (m.within i low), rw whole (m.at i low));
       last = λ over.
           let parts = ap length (apart i xs ks [] (omega arith) one) in
           let none = ap length (after-last i xs ks over one) in
-          rw whole (omega (arith, parts, none, length-append (before i xs ks) (get_or ks i [] ++ after i xs ks), length-append (get_or ks i []) (after i xs ks)));
+          rw whole (omega (
+            arith,
+            parts,
+            none,
+            length-append (before i xs ks) (get_or ks i [] ++ after i xs ks),
+            length-append (get_or ks i []) (after i xs ks),
+          ));
     }
 
 pub narrows :
@@ -252,7 +270,8 @@ narrows l h i n p q ne f g le s =
     let w = spans l h n p f g in
     let fits = w.within in
     let begins = s.begins in
-    let long : length (flat (l - 1) (node_at (l - 1) h n q)) ≡ length (flat (l - 1) (child k i)) = ap (λ z. length (flat (l - 1) z)) s.node in
+    let long : length (flat (l - 1) (node_at (l - 1) h n q)) ≡ length (flat (l - 1) (child k i)) = ap (λ z.
+    length (flat (l - 1) z)) s.node in
     let list = b.list in
     record {
       within = le;
@@ -260,13 +279,15 @@ narrows l h i n p q ne f g le s =
       behind = λ some.
           let t = b.behind some in
           let here = t.0 in let next = t.1 in
-          let at : start (l - 1) h n q - 1 ≡ start l h n p + index_place (i - 1) (row k) (lists (l - 1) (children k)) = omega arith in
+          let at : start (l - 1) h n q - 1 ≡ start l h n p + index_place (i - 1) (row k) (lists (l - 1) (children k)) =
+          omega arith in
           (omega arith, ap (slice_index (flat h n)) at ∙ w.at _ here ∙ t.2);
       right = λ over. let all = b.last over in omega arith;
       ahead = λ low.
           let t = b.ahead low in
           let here = t.0 in
-          let at : start (l - 1) h n q + length (flat (l - 1) (node_at (l - 1) h n q)) ≡ start l h n p + index_place i (row k) (lists (l - 1) (children k)) = omega arith in
+          let at : start (l - 1) h n q + length (flat (l - 1) (node_at (l - 1) h n q)) ≡ start l h n p + index_place i
+          (row k) (lists (l - 1) (children k)) = omega arith in
           (omega arith, ap (slice_index (flat h n)) at ∙ w.at _ here ∙ t.1);
       ordered = omega arith;
       last = fits;
@@ -326,7 +347,8 @@ high-in : (r : Option Node) (h l : ℕ) (p : List ℕ) → l ≡ h → high_in l
 high-in None h l p e = refl
 high-in (Some n) h l p e =
     let from = start-here l h n p e in
-    let is : length (flat l (node_at l h n p)) ≡ length (flat h n) = ap (λ z. length (flat l z)) (node_at-here l h n p e) ∙ ap (λ z. length (flat z n)) e in
+    let is : length (flat l (node_at l h n p)) ≡ length (flat h n) = ap (λ z. length (flat l z))
+    (node_at-here l h n p e) ∙ ap (λ z. length (flat z n)) e in
     omega arith
 
 pub enter-node :
@@ -409,8 +431,10 @@ leads-node l (suc h) i ix n p q f g lt is at above =
           let u = under l (suc h) n p less g in
           let same : node_at l (suc h) n p ≡ node_at l h (child n c) p = rw one at (node_at-under l (suc h) n p less) in
           let below : IsFormed h (child n c) = rw one at (child-formed (suc h) n c ne f u.here) in
-          let ih = leads-node l h i ix (child n c) p q below (rw one at u.on) (rw same at lt) (rw same at is) at (λ m up. above m up) in
-          holds_index-below l (suc h) c n (child n c) q ix ne f (above (suc h) less) u.here (child-itself n c u.here) (rw one ih))
+          let ih = leads-node l h i ix (child n c) p q below (rw one at u.on) (rw same at lt) (rw same at is) at
+          (λ m up. above m up) in
+          holds_index-below l (suc h) c n (child n c) q ix ne f (above (suc h) less) u.here (child-itself n c u.here)
+          (rw one ih))
     ]
 
 pub leads-at :
@@ -520,7 +544,8 @@ leaf-span t p l tree e g = leaf-in t.root t.height l p tree e g
         → l ≡ 0
         → GoesToIn l r h p
         → IsAllBetween (in_order r h) (row_in l r h p) (low_in l r h p) (high_in l r h p)
-    leaf-in None h l p tree e g = record { long = omega arith; index = λ j lt. absurd (omega arith); within = omega arith }
+    leaf-in None h l p tree e g =
+        record { long = omega arith; index = λ j lt. absurd (omega arith); within = omega arith }
     leaf-in (Some n) h l p tree e g =
         let s = spans l h n p tree.0 g in
         let is : flat l (node_at l h n p) ≡ row (node_at l h n p) = flat-leaf l (node_at l h n p) e in
@@ -617,9 +642,17 @@ unfolding node_at leaf
 leaf-node zero n p q above = refl
 leaf-node (suc h) n p q above =
     let lt : 0 < suc h = omega arith in
-    let is : node_at 0 (suc h) n p ≡ node_at 0 h (child n (slice_index p (suc h))) p = rw sub-one at (node_at-under 0 (suc h) n p lt) in
+    let is : node_at 0 (suc h) n p ≡ node_at 0 h (child n (slice_index p (suc h))) p =
+    rw sub-one at (node_at-under 0 (suc h) n p lt) in
     ap row is ∙ leaf-node h (child n (slice_index p (suc h))) p q above
     ∙ ap (λ c. leaf h (child n c) q) (sym (above (suc h) lt))
+
+pub leaf-in :
+    (r : Option Node) (h : ℕ) (p q : List ℕ)
+    → ((m : ℕ) → 0 < m → slice_index q m ≡ slice_index p m)
+    → row_in 0 r h p ≡ leaf_in r h q
+leaf-in None h p q above = refl
+leaf-in (Some n) h p q above = leaf-node h n p q above
 
 -- a cursor at a gap of a leaf
 pub is-at :
@@ -641,13 +674,6 @@ is-at t p l i g e le long =
       },
       gap.place_is ∙ ap (λ z. low_in z t.root t.height p + i) (sym e),
     )
-  where
-    leaf-in :
-        (r : Option Node) (h : ℕ) (p q : List ℕ)
-        → ((m : ℕ) → 0 < m → slice_index q m ≡ slice_index p m)
-        → row_in 0 r h p ≡ leaf_in r h q
-    leaf-in None h p q above = refl
-    leaf-in (Some n) h p q above = leaf-node h n p q above
 
 -- what stands in a list is read there
 pub none_past : (xs : List ℕ) (i : ℕ) → i < length xs → slice_get xs i ≡ None → ⊥

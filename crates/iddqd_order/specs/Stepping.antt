@@ -114,3 +114,10 @@ pub record HasGap (t : Order) (leaf : Descent) (i : ℕ) : Type 0 where
 -- how many indexes come before the gap at the place i of the row of a leaf
 abbrev pub gap_behind : Order → Descent → ℕ → ℕ
 gap_behind t leaf i = low t leaf + i
+
+-- the place in the row of a leaf that a descent takes at level 0, and how many indexes come before the gap there
+abbrev pub leaf_place : Descent → ℕ
+leaf_place leaf = slice_index leaf.path 0
+
+abbrev pub leaf_gap : Order → Descent → ℕ
+leaf_gap t leaf = gap_behind t leaf (leaf_place leaf)

@@ -43,6 +43,7 @@ pub mod spot;
 mod spot_cursor;
 mod state;
 pub mod stepping;
+mod stepping_reads;
 mod stepping_walks;
 pub mod table;
 mod tree;

@@ -79,7 +79,7 @@ module _ {T K1 K2 K3 S : Type 0} (keys : TriKeys T K1 K2 K3 S) (item : T) where
         let valid = IsValid-removed_all s.store clashes in_turn o.valid in
         let more = live_count-inserted (removed_all s.store clashes) item valid (not_full clashes are did.place) in
         let lives = ap (λ (t : TriState T S). live_count t.store) did.state in
-        let given = ap (count_by is_some) did.items ∙ count-padded s.store 3 clashes are.at_most_three live in
+        let given = ap (count_by is_some) did.items ∙ count-padded (get s.store) 3 clashes are.at_most_three live in
         omega (arith, fewer, more, lives, given)
 
     pub count-overwriting :

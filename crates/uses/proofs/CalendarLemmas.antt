@@ -1,17 +1,11 @@
--- What a look-up says of appointments if it misses, and of the one that it found, and what a closure leaves that sets
--- the minutes.
-use Rattle.std.proofs.Common.{◌≡◌, ◌∙◌, inl, inr, ◌↔◌, ◌==◌, ℕ, true, Some, None, sym, ap, subst, arith}
-use Rattle.std.specs.Borrow.{MutBor}
+-- What a look-up says of appointments if it misses, and of the one that it found.
+use Rattle.std.proofs.Common.{◌≡◌, ◌∙◌, inl, inr, ◌↔◌, ◌==◌, ℕ, true, Some, None, sym, subst, arith}
 use Rattle.std.specs.Cmp.{unsigned_tied}
-use Rattle.std.specs.Fn.{Once}
 use Rattle.std.specs.Ordering.{nat_cmp, eq_by_cmp}
 use Rattle.std.proofs.lemmas.Bool.Decides.{nat_tests}
-use Rattle.iddqd_keyed.specs.{ModifiesItem}
 use Rattle.iddqd_keyed.specs.Scan.{HasNoHit, IsHit}
-use Rattle.iddqd_keyed.specs.State.{State}
-use Rattle.iddqd_keyed.specs.Store.{Store, get, rebound}
-use Rattle.iddqd_maps.proofs.CallerLemmas.{called_leaves}
-use Rattle.uses.specs.Calendar.{Extends, HasConflict, HasNone, IsBooked}
+use Rattle.iddqd_keyed.specs.Store.{Store, get}
+use Rattle.uses.specs.Calendar.{HasConflict, HasNone, IsBooked}
 use Rattle.uses.specs.declared.calendar.Appointment.{Appointment}
 
 module _ (s : Store Appointment) where
@@ -70,24 +64,3 @@ module _ (s : Store Appointment) (ix : ℕ) (a : Appointment) (live : get s ix �
       let is : (start == a.start) ≡ true =
       sym (unsigned_tied start a.start) ∙ subst (λ (x : Appointment). eq_by_cmp nat_cmp start x.start ≡ true) one passes in
       grind (arith, nat_tests, is)
-
--- an appointment that a closure modified, which sets the minutes, takes so many
-pub extends :
-    {F S : Type 0} (g : Once F (MutBor Appointment × Unit {0}) (Unit {0} × (MutBor Appointment × Unit {0}))) (f : F)
-    (minutes : ℕ)
-    → ((item left : MutBor Appointment) (r : Unit {0}) → g.post f (item, tt) (r, (left, tt))
-    → left.now ≡ record item.now { minutes = minutes })
-    → (old new : State Appointment S) (IsThis : Appointment → Type 0) (ix : ℕ) (r : Unit {0})
-    → (item : ModifiesItem g f old.store ix r new.store)
-    → new ≡ record old { store = new.store }
-    → IsThis item.was
-    → Extends IsThis minutes old new
-extends g f minutes leaves old new IsThis ix r item state is_this =
-    let is = called_leaves g f (λ was r is. is ≡ record was { minutes = minutes }) (λ item left r called. leaves item left r called) item.was item.is r item.called in
-    record {
-      ix = ix;
-      was = item.was;
-      live = item.live;
-      is_this = is_this;
-      left = state ∙ ap (λ s. record old { store = s }) (item.left ∙ ap (rebound old.store ix) is);
-    }

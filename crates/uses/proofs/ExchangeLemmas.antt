@@ -17,7 +17,7 @@ use Rattle.uses.specs.Exchanges.{Exchanges, ExchangesIfFound, IsWhyNot, IsWhyNot
 
 module _ {T : Type 0} (alike : T → T → Bool) (most : ℕ → ℕ) (places : ℕ) (item : T) (old new : MapState T) where
   pub takes_over :
-      (result : Result (ℕ × List (Option T)) (OverwriteRefusal T))
+      (result : Result (ℕ × List (Option (ℕ × T))) (OverwriteRefusal T))
       → Overwrites alike most false places old item result new
       → IfOk result (λ taken. TakesOver alike places item old taken.0 taken.1 new)
   takes_over (Ok (ix, back)) out =
@@ -33,7 +33,7 @@ module _ {T : Type 0} (alike : T → T → Bool) (most : ℕ → ℕ) (places : 
   takes_over (Err refusal) out = tt
 
   pub not_taken_over :
-      (result : Result (ℕ × List (Option T)) (OverwriteRefusal T))
+      (result : Result (ℕ × List (Option (ℕ × T))) (OverwriteRefusal T))
       → Overwrites alike most false places old item result new
       → IfErr result (IsWhyNotTakenOver alike item old)
   not_taken_over (Ok taken) out = tt

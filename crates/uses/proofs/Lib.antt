@@ -5,5 +5,4 @@ pub mod WordLemmas
 pub mod LockerLemmas
 pub mod UpdateLemmas
 pub mod RemakeLemmas
-pub mod GuestLemmas
 pub mod IntakeLemmas

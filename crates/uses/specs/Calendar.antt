@@ -2,7 +2,7 @@
 use Rattle.std.specs.Prelude.{◌≡◌, ◌⊎◌, ℕ, Bool, Some}
 use Rattle.std.specs.Ordering.{nat_cmp, eq_by_cmp}
 use Rattle.iddqd_keyed.specs.State.{State, unbound}
-use Rattle.iddqd_keyed.specs.Store.{Store, get, rebound}
+use Rattle.iddqd_keyed.specs.Store.{Store, get}
 use Rattle.uses.specs.declared.calendar.Appointment.{Appointment}
 
 -- the store has this appointment
@@ -26,20 +26,6 @@ pub record HasConflict (s : Store Appointment) (a : Appointment) : Type 0 where
 -- the appointment starts then
 abbrev pub starts_at : ℕ → Appointment → Bool
 starts_at start a = eq_by_cmp nat_cmp start a.start
-
--- the appointment, but it takes so many minutes
-abbrev pub lasting : ℕ → Appointment → Appointment
-lasting minutes a = record a { minutes = minutes }
-
--- one appointment, of which this holds, takes so many minutes, and all else stays
-pub record Extends
-    {S : Type 0} (IsThis : Appointment → Type 0) (minutes : ℕ) (old new : State Appointment S)
-    : Type 0 where
-  pub ix : ℕ
-  pub was : Appointment
-  pub live : get old.store ix ≡ Some was
-  pub is_this : IsThis was
-  pub left : new ≡ record old { store = rebound old.store ix (lasting minutes was) }
 
 -- this appointment, which starts then, was at this index and was removed, and all else stays
 pub record Cancels

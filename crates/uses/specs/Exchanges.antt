@@ -2,6 +2,7 @@
 use Rattle.std.specs.Prelude.{◌≡◌, ◌↔◌, ◌<◌, ℕ, Bool, true, List, map, Option, Some, None}
 use Rattle.std.specs.List.{Contains}
 use Rattle.iddqd_maps.specs.Map.{MapState, IsOnly, room}
+use Rattle.iddqd_maps.specs.KeyWalk.{index_with_item}
 use Rattle.iddqd_maps.specs.Removals.{IsIncreasing, padded, removed_all}
 use Rattle.iddqd_maps.specs.Scan.{IsHit, HasNoHit, AnswersScan}
 use Rattle.iddqd_maps.specs.Several.{HasNoOther, HitsOther}
@@ -45,15 +46,16 @@ module _ {T : Type 0} (alike : T → T → Bool) where
   TakesOverOne item old ix None new =
       HasNoHit old.store (alike item) × (ix ≡ next_index old.store) × (new.store ≡ inserted old.store item)
 
-  -- The items that share a key with this one were removed, and come back by rising index, at most so many. This one is
+  -- The items that share a key with this one were removed, and come back by rising index, each with the
+  -- index that it had, at most so many. This one is
   -- stored, and all others stay. If one was removed, no memory was taken.
   pub record TakesOver
-      (places : ℕ) (item : T) (old : MapState T) (ix : ℕ) (back : List (Option T)) (new : MapState T)
+      (places : ℕ) (item : T) (old : MapState T) (ix : ℕ) (back : List (Option (ℕ × T))) (new : MapState T)
       : Type 0 where
     pub removed : List ℕ
     pub each : (at : ℕ) → Contains removed at ↔ IsHit old.store (alike item) at
     pub rising : IsIncreasing removed
-    pub given_back : back ≡ padded places (map (get old.store) removed)
+    pub given_back : back ≡ padded places (map (index_with_item old.store) removed)
     pub index : ix ≡ next_index (removed_all old.store removed)
     pub left : new.store ≡ inserted (removed_all old.store removed) item
     pub memory : (at : ℕ) → IsHit old.store (alike item) at → new.memory ≡ old.memory

@@ -1,6 +1,5 @@
 pub mod Users
 pub mod Updates
-pub mod Guests
 pub mod Registry
 pub mod Calendar
 pub mod Devices

@@ -4,13 +4,13 @@ ghost use Rattle.std.specs.Prelude.{◌≡◌, ◌⊎◌, ◌≤◌, ◌<◌, �
 ghost use Rattle.std.specs.Ordering.{nat_cmp, eq_by_cmp};
 ghost use Rattle.std.specs.declared.cmp.Ordering.TheVariants.{Less, Greater};
 ghost use Rattle.std.specs.Iterator.{UpTo};
-ghost use Rattle.iddqd_maps.specs.Append.{EachConflicts};
+ghost use Rattle.iddqd_maps.specs.Append.{EachConflicts, moved_count};
 ghost use Rattle.iddqd_maps.specs.Bulk.{inserted_all, inserted_count};
 ghost use Rattle.iddqd_maps.specs.Calls.{IsDuplicate};
 ghost use Rattle.iddqd_maps.specs.Compaction.{compacted};
 ghost use Rattle.iddqd_maps.specs.Groups.{CountsHits};
 ghost use Rattle.iddqd_maps.specs.KeyOrder.{AreInKeyOrder, FindsEnd, IsKeyWalk, PopsEnd};
-ghost use Rattle.iddqd_maps.specs.Map.{FindsItem, Removes, RemovesAt, RemovesHit, capacity, empty_map, room};
+ghost use Rattle.iddqd_maps.specs.Map.{FindsItem, Removes, RemovesAt, RemovesFull, RemovesHit, capacity, empty_map, room};
 ghost use Rattle.iddqd_maps.specs.OneKey.{IsTaken};
 ghost use Rattle.iddqd_maps.specs.Ranges.{TakesItem};
 ghost use Rattle.iddqd_maps.specs.Scan.{AnswersScan, HasNoHit, IsHit};
@@ -25,10 +25,11 @@ ghost use Rattle.uses.specs.declared.scores.Score.{Score};
 ghost use Rattle.uses.specs.Updates.{Updates, UpdatesAll, UpdatesAt, UpdatesHit, UpdatesItem};
 
 use crate::scores::Score;
-use iddqd_maps::appended::Appended;
 use iddqd_maps::id_ord_map::{IdOrdMap, IntoValues, Iter, Values};
 use iddqd_maps::item_index::ItemIndex;
-use iddqd_maps::refusal::{InsertRefusal, OverwriteRefusal, ReplaceRefusal, Stopped};
+use iddqd_maps::refusal::{
+    InsertRefusal, OverwriteRefusal, ReplaceRefusal, Stopped, StoppedAppend,
+};
 use iddqd_maps::{ValidateCompact, ValidateRefusal, ValidationError};
 use std::alloc::{AllocError, Global};
 
@@ -254,6 +255,13 @@ pub fn take(board: &mut Board, hour: u32) -> Option<Score>
     board.remove(&hour)
 }
 
+/// Takes the score of an hour, and says which index it had. All others stay.
+pub fn take_full(board: &mut Board, hour: u32) -> Option<(ItemIndex, Score)>
+    ensures { RemovesFull board.old (λ score. eq_by_cmp nat_cmp hour score.hour) result board.new }
+{
+    board.remove_full(&hour)
+}
+
 /// Takes the score at an index. All others stay.
 pub fn take_at(board: &mut Board, ix: ItemIndex) -> Option<Score>
     ensures { RemovesAt board.old ix result board.new }
@@ -366,15 +374,15 @@ pub fn add_all<I: Iterator<Item = Score>>(
 
 /// Moves the scores of another board into this one, up to the first for which this one is full or memory runs out, and
 /// returns how many were moved. Those whose hour has a score here stay on the other board.
-pub fn take_in(board: &mut Board, other: &mut Board) -> Appended
-    ensures count { live_count board.new.store ≡ live_count board.old.store + result.moved }
-    ensures left { live_count other.new.store + result.moved ≡ live_count other.old.store }
+pub fn take_in(board: &mut Board, other: &mut Board) -> Result<usize, StoppedAppend>
+    ensures count { live_count board.new.store ≡ live_count board.old.store + moved_count result }
+    ensures left { live_count other.new.store + moved_count result ≡ live_count other.old.store }
     ensures others { (ix : ℕ) (score : Score) → get board.old.store ix ≡ Some score
         → get board.new.store ix ≡ Some score }
-    ensures scored { result.stopped ≡ None → EachConflicts same_hour board.new.store other.new.store }
-    ensures all { live_count other.old.store ≤ room board.old → result.stopped ≡ None }
+    ensures scored { IsOk result → EachConflicts same_hour board.new.store other.new.store }
+    ensures all { live_count other.old.store ≤ room board.old → IsOk result }
 {
-    board.append(other)
+    board.append(other, |_from, _to| ())
 }
 
 /// The index of the score of an hour; if there is none, of one without points, which is added.

@@ -4,21 +4,21 @@
 //! so, and each call keeps it, so that no clause has to ask for it. A look-up there finds an appointment exactly where
 //! there is one, and a booking is refused exactly where a key is taken. The functions on a `Diary` have no such fields.
 //! So a clause of theirs that says where a look-up misses asks whether the table is in sync.
-ghost use Rattle.std.specs.Prelude.{◌≡◌, ◌≢◌, ◌↔◌, ◌≤◌, Some, None, Err, IsTrue, IfNone, IfSome, OnSome, IfOk, OnOk, OnErr, MatchOption, min};
+ghost use Rattle.std.specs.Prelude.{◌≡◌, ◌≢◌, ◌↔◌, ◌≤◌, Some, None, Err, IsTrue, IfSome, IfOk, OnOk, OnErr, MatchOption, min};
 ghost use Rattle.std.specs.Bool.{OnTrue, OnFalse};
 ghost use Rattle.std.proofs.Props.{props};
 ghost use Rattle.iddqd_maps.specs.LiveItems.{live_pairs};
 ghost use Rattle.iddqd_keyed.specs.Scan.{AnswersScan, IsHit};
-ghost use Rattle.iddqd_keyed.specs.Store.{get, inserted, live_count, slot_count};
+ghost use Rattle.iddqd_keyed.specs.Store.{inserted, live_count, slot_count};
 ghost use Rattle.iddqd_keyed.specs.{capacity, empty_state, empty_state_within, no_memory, room, reservable};
-ghost use Rattle.iddqd_keyed.specs.{IsInSync, first_key_index, second_key_index, items_at};
-ghost use Rattle.uses.specs.Calendar.{lasting, starts_at, Cancels, Extends, HasConflict, HasNone, HasOne, IsBooked};
-ghost use Rattle.uses.specs.Updates.{UpdatesItem};
+ghost use Rattle.iddqd_keyed.specs.{IsInSync, first_key_index, second_key_index, indexes_left};
+ghost use Rattle.uses.specs.Calendar.{starts_at, Cancels, HasConflict, HasNone, HasOne, IsBooked};
 ghost use Rattle.uses.specs.declared.calendar.Appointment.{Appointment};
 ghost use Rattle.uses.specs.declared.calendar.BookingError.TheVariants.{Taken};
 
 use iddqd_keyed::keyed_item::KeyedItem;
-use iddqd_keyed::keyed_items::{InsertRefusal, Keyed, KeyedItems, ValuesByKey2};
+use iddqd_keyed::keyed_items::{InsertRefusal, Keyed, KeyedItems};
+use iddqd_maps::btree_table;
 use iddqd_maps::hash_builder::DefaultHashBuilder;
 use iddqd_maps::item_index::ItemIndex;
 use iddqd_maps::item_set::Iter;
@@ -101,8 +101,8 @@ impl Calendar {
         ensures { (a : Appointment) → (result ≡ Some a)
             ↔ (IsBooked self.now.booked.state.store a × (a.number ≡ number)) }
     {
-        match self.booked.get1(&number) {
-            Some(appointment) => Some(*appointment),
+        match self.booked.find1(&number) {
+            Some(ix) => self.booked.get(ix).copied(),
             None => None,
         }
     }
@@ -111,8 +111,8 @@ impl Calendar {
     pub fn starting(&self, start: u32) -> Option<Appointment>
         ensures { (a : Appointment) → (result ≡ Some a) ↔ (IsBooked self.now.booked.state.store a × (a.start ≡ start)) }
     {
-        match self.booked.get2(&start) {
-            Some(appointment) => Some(*appointment),
+        match self.booked.find2(&start) {
+            Some(ix) => self.booked.get(ix).copied(),
             None => None,
         }
     }
@@ -130,13 +130,13 @@ impl Calendar {
         }
     }
 
-    /// The appointments in the order of their starts.
-    pub fn agenda(&self) -> ValuesByKey2<'_, Appointment>
-        ensures items { result ≡ items_at self.now.booked.state.store self.now.booked.state.order }
+    /// The indexes of the appointments in the order of their starts.
+    pub fn agenda(&self) -> btree_table::Iter<'_>
+        ensures order { indexes_left result ≡ self.now.booked.state.order }
         ensures sorted { let key_index = second_key_index ⟦<Appointments as Keyed>⟧.keys in
-            key_index.Lists self.now.booked.state.store self.now.booked.state.order }
+            key_index.Lists self.now.booked.state.store (indexes_left result) }
     {
-        self.booked.values2()
+        self.booked.walk()
     }
 }
 
@@ -171,7 +171,7 @@ pub fn page(diary: &Diary, start: u32) -> Option<ItemIndex>
     ensures in_order { IsInSync (second_key_index ⟦<Diary as Keyed>⟧.keys) diary.now.state →
         AnswersScan diary.now.state.store (starts_at start) result }
 {
-    diary.find2_by(&start)
+    diary.find2(&start)
 }
 
 /// Whether an appointment has this number. While the table of numbers is in sync, it answers false only where none has.
@@ -180,7 +180,8 @@ pub fn has_number(diary: &Diary, number: u32) -> bool
     ensures missed { IsInSync (first_key_index ⟦<Diary as Keyed>⟧.keys) diary.now.state →
         OnFalse result (HasNone diary.now.state.store (λ a. a.number ≡ number)) }
 {
-    diary.contains_key1(&number)
+    let found = diary.find1(&number);
+    found.is_some()
 }
 
 /// Whether an appointment starts then. While the table of starts is in sync, it answers false only where none does.
@@ -189,7 +190,8 @@ pub fn is_taken(diary: &Diary, start: u32) -> bool
     ensures missed { IsInSync (second_key_index ⟦<Diary as Keyed>⟧.keys) diary.now.state →
         OnFalse result (HasNone diary.now.state.store (λ a. a.start ≡ start)) }
 {
-    diary.contains_key2(&start)
+    let found = diary.find2(&start);
+    found.is_some()
 }
 
 /// An appointment that starts then. While the table of starts is in sync, it is none only where no appointment does.
@@ -198,7 +200,10 @@ pub fn starting(diary: &Diary, start: u32) -> Option<Appointment>
     ensures missed { IsInSync (second_key_index ⟦<Diary as Keyed>⟧.keys) diary.now.state →
         result ≡ None → HasNone diary.now.state.store (λ a. a.start ≡ start) }
 {
-    diary.get2_by(&start).copied()
+    match diary.find2(&start) {
+        Some(ix) => diary.get(ix).copied(),
+        None => None,
+    }
 }
 
 /// Removes an appointment that starts then, and returns it with its index. All others stay. While the table of starts
@@ -210,63 +215,7 @@ pub fn cancel(diary: &mut Diary, start: u32) -> Option<(ItemIndex, Appointment)>
         result ≡ None → HasNone diary.old.state.store (λ a. a.start ≡ start) }
     ensures memory { diary.new.memory ≡ diary.old.memory }
 {
-    diary.remove2_by(&start)
-}
-
-/// Lets the appointment with this number take so long, if it is found. While the table of numbers is in sync, it is
-/// none only where no appointment has the number. It takes no memory.
-pub fn extend(diary: &mut Diary, number: u32, minutes: u32) -> Option<()>
-    ensures extended { MatchOption result (diary.new.state ≡ diary.old.state)
-        (λ _. Extends (λ a. a.number ≡ number) minutes diary.old.state diary.new.state) }
-    ensures missed { IsInSync (first_key_index ⟦<Diary as Keyed>⟧.keys) diary.old.state →
-        result ≡ None → HasNone diary.old.state.store (λ a. a.number ≡ number) }
-    ensures memory { diary.new.memory ≡ diary.old.memory }
-{
-    diary.modify1(&number, |appointment| appointment.minutes = minutes)
-}
-
-/// The same of the one that starts then.
-pub fn extend_starting(diary: &mut Diary, start: u32, minutes: u32) -> Option<()>
-    ensures extended { MatchOption result (diary.new.state ≡ diary.old.state)
-        (λ _. Extends (λ a. a.start ≡ start) minutes diary.old.state diary.new.state) }
-    ensures missed { IsInSync (second_key_index ⟦<Diary as Keyed>⟧.keys) diary.old.state →
-        result ≡ None → HasNone diary.old.state.store (λ a. a.start ≡ start) }
-    ensures memory { diary.new.memory ≡ diary.old.memory }
-{
-    diary.modify2(&start, |appointment| appointment.minutes = minutes)
-}
-
-/// The same of the one with this number, by a query.
-pub fn extend_numbered(diary: &mut Diary, number: u32, minutes: u32) -> Option<()>
-    ensures extended { MatchOption result (diary.new.state ≡ diary.old.state)
-        (λ _. Extends (λ a. a.number ≡ number) minutes diary.old.state diary.new.state) }
-    ensures missed { IsInSync (first_key_index ⟦<Diary as Keyed>⟧.keys) diary.old.state →
-        result ≡ None → HasNone diary.old.state.store (λ a. a.number ≡ number) }
-    ensures memory { diary.new.memory ≡ diary.old.memory }
-{
-    diary.modify1_by(&number, |appointment| appointment.minutes = minutes)
-}
-
-/// The same of the one that starts then, by a query.
-pub fn extend_begun(diary: &mut Diary, start: u32, minutes: u32) -> Option<()>
-    ensures extended { MatchOption result (diary.new.state ≡ diary.old.state)
-        (λ _. Extends (λ a. a.start ≡ start) minutes diary.old.state diary.new.state) }
-    ensures missed { IsInSync (second_key_index ⟦<Diary as Keyed>⟧.keys) diary.old.state →
-        result ≡ None → HasNone diary.old.state.store (λ a. a.start ≡ start) }
-    ensures memory { diary.new.memory ≡ diary.old.memory }
-{
-    diary.modify2_by(&start, |appointment| appointment.minutes = minutes)
-}
-
-/// The same of the one at an index; none exactly where there is none.
-pub fn extend_at(diary: &mut Diary, ix: ItemIndex, minutes: u32) -> Option<()>
-    ensures extended { OnSome result
-        (UpdatesItem diary.old.state.store ix (lasting minutes) diary.new.state.store) }
-    ensures none { IfNone result (get diary.old.state.store ix ≡ None) }
-    ensures unchanged { IfNone result (diary.new.state ≡ diary.old.state) }
-    ensures memory { diary.new.memory ≡ diary.old.memory }
-{
-    diary.modify_at(ix, |appointment| appointment.minutes = minutes)
+    diary.remove2(&start)
 }
 
 /// An empty diary with room for so many appointments.
@@ -390,7 +339,10 @@ pub fn trim_to(diary: &mut Diary, least: usize) -> Result<(), AllocError>
 // The numbers in the order of the starts, each behind a space.
 fn numbers(alloc: Global, calendar: &Calendar) -> Result<String, AllocError> {
     let mut numbers = String::new(alloc);
-    for appointment in calendar.agenda() {
+    for ix in calendar.agenda() {
+        let Some(appointment) = calendar.booked.get(ix) else {
+            continue;
+        };
         numbers.push_str(" ")?;
         numbers.push_str(&appointment.number.to_string(alloc)?)?;
     }

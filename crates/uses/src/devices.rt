@@ -122,7 +122,7 @@ pub fn with_serial(devices: &Devices, serial: u64) -> Option<&Device>
 pub fn take_over(
     devices: &mut Devices,
     device: Device,
-) -> Result<(ItemIndex, [Option<Device>; 4]), OverwriteRefusal<Device>>
+) -> Result<(ItemIndex, [Option<(ItemIndex, Device)>; 4]), OverwriteRefusal<Device>>
     ensures taken { IfOk result
         (λ taken. TakesOver share_key 4 device devices.old taken.0 taken.1 devices.new) }
     ensures refused { IfErr result (IsWhyNotTakenOver share_key device devices.old) }
@@ -148,7 +148,7 @@ fn made(
 }
 
 // How many there are.
-fn count_of(devices: &[Option<Device>; 4]) -> usize {
+fn count_of(devices: &[Option<(ItemIndex, Device)>; 4]) -> usize {
     devices.iter().filter(|device| device.is_some()).count()
 }
 

@@ -79,7 +79,10 @@ pub fn drop_small_of(dispatch: &mut Dispatch, customer: u32, least: u64) -> usiz
     ensures count { result + live_count dispatch.new.store ≡ live_count dispatch.old.store }
     ensures memory { dispatch.new.memory ≡ dispatch.old.memory }
 {
-    dispatch.retain_in(having::<ByCustomer, _>(&customer), |_ix, order| order.amount >= least)
+    dispatch.retain_in(
+        having::<ByCustomer, _>(&customer),
+        |_ix, order| order.amount >= least,
+    )
 }
 
 /// Removes the orders up to a day that come to less than so much, and returns how many they were. The closure gets each
@@ -156,7 +159,9 @@ fn script(alloc: Global, dispatch: &mut Dispatch) -> Result<String, AllocError> 
     let some = hand_on_small(dispatch, 10, 30, |_ix, order| handed = order.number);
     let stopped = take_least_until(dispatch, 20).map(|ix| ix.as_u32());
     let closed = close_day(dispatch, 20);
-    format!(in alloc; "dispatch: {counts:?}, {empty:?}, {small:?}, {some} {handed}, {stopped:?}, {closed}")
+    format!(in alloc;
+        "dispatch: {counts:?}, {empty:?}, {small:?}, {some} {handed}, {stopped:?}, {closed}"
+    )
 }
 
 /// What the calls answer.

@@ -138,7 +138,7 @@ pub fn held_by(lockers: &Lockers, holder: u32) -> Option<Locker>
 pub fn hand_over(
     lockers: &mut Lockers,
     locker: Locker,
-) -> Result<(ItemIndex, [Option<Locker>; 2]), OverwriteRefusal<Locker>>
+) -> Result<(ItemIndex, [Option<(ItemIndex, Locker)>; 2]), OverwriteRefusal<Locker>>
     ensures handed { IfOk result
         (λ handed. TakesOver share_key 2 locker lockers.old handed.0 handed.1 lockers.new) }
     ensures refused { IfErr result (IsWhyNotTakenOver share_key locker lockers.old) }

@@ -6,7 +6,7 @@
 ghost use Rattle.std.specs.Prelude.{◌≡◌, ◌==◌, ◌≤◌, ◌<◌, ◌+◌, ◌↔◌, ℕ, Ok, Some, None, true, false, length, filter, nat_le, IfOk, IfErr, IfSome, IfNone, OnOk, OnErr, OnSome, IsOk};
 ghost use Rattle.std.specs.Iterator.{UpTo};
 ghost use Rattle.std.specs.Option.{option_map};
-ghost use Rattle.iddqd_maps.specs.Append.{EachConflicts, KeepsOrMoves};
+ghost use Rattle.iddqd_maps.specs.Append.{EachConflicts, GivesMove, KeepsOrMoves, ReportsMoves, TakesMove, moved_count};
 ghost use Rattle.iddqd_maps.specs.Bulk.{inserted_count};
 ghost use Rattle.iddqd_maps.specs.BulkOverwrite.{HandsOver, overwritten_count};
 ghost use Rattle.iddqd_maps.specs.Calls.{IsDuplicate};
@@ -19,7 +19,8 @@ ghost use Rattle.iddqd_maps.specs.LiveItems.{live_pairs};
 ghost use Rattle.iddqd_maps.specs.Map.{empty_map, room};
 ghost use Rattle.iddqd_maps.specs.OrderedQuery.{is_equal};
 ghost use Rattle.iddqd_maps.specs.Range.{indexes_ahead};
-ghost use Rattle.iddqd_maps.specs.Ranges.{GivesItem, TakesItem};
+ghost use Rattle.iddqd_maps.specs.Ranges.{TakesItem};
+ghost use Rattle.iddqd_maps.specs.Sweep.{GivesPair, TakesPair};
 ghost use Rattle.iddqd_maps.specs.Scan.{HasNoHit, IsHit};
 ghost use Rattle.iddqd_maps.specs.Sweep.{TakesPair};
 ghost use Rattle.iddqd_maps.specs.Store.{cleared, get, inserted, live_count, slot_limit};
@@ -35,8 +36,8 @@ use iddqd_maps::ordered_walk::Range;
 use iddqd_maps::ranges_at::RangesAt;
 use iddqd_maps::selection::having;
 use iddqd_maps::{
-    Appended, ByHash, ByHashMulti, ByOrderMulti, Field, GroupItems, Here, InGroups, InOrder,
-    InsertRefusal, ItemIndex, Map, OrderedParts, Stopped, StoppedOverwrite, btree_table,
+    ByHash, ByHashMulti, ByOrderMulti, Field, GroupItems, Here, InGroups, InOrder, InsertRefusal,
+    ItemIndex, Map, OrderedParts, Stopped, StoppedAppend, StoppedOverwrite, btree_table,
 };
 use std::alloc::{AllocError, Global};
 use std::default::MadeWith;
@@ -377,15 +378,15 @@ pub fn add_all<I: Iterator<Item = Order>>(
 
 /// Takes orders in turn, up to the first that is refused: it comes back with the rest. An order that was there before
 /// still is, under its index, or went to the closure. With room for all of them none is refused.
-pub fn renew_all<I: Iterator<Item = Order>, F: FnMut(Order)>(
+pub fn renew_all<I: Iterator<Item = Order>, F: FnMut(ItemIndex, Order)>(
     intake: &mut Intake,
     orders: I,
     gone: F,
 ) -> Result<usize, StoppedOverwrite<Order, I>>
     requires next { I.can_next orders }
     requires fits { UpTo (I.remaining orders) usize.MAX }
-    requires given { (p : F) (order : Order) → TakesItem F.FnMut p order }
-    ensures handed { (last : F) × HandsOver (GivesItem F.FnMut) gone last intake.old.store intake.new.store
+    requires given { (p : F) (entry : ℕ × Order) → TakesPair F.FnMut p entry }
+    ensures handed { (last : F) × HandsOver (GivesPair F.FnMut) gone last intake.old.store intake.new.store
         (overwritten_count result) }
     ensures all { UpTo (I.remaining orders) (room intake.old) → IsOk result }
 {
@@ -400,15 +401,23 @@ pub fn blank(alloc: Global) -> Intake
 }
 
 /// Moves the orders of another intake into this one, up to the first for which this one is full or memory runs out, and
-/// returns how many were moved. Those whose number is taken stay in the other intake.
-pub fn take_over(intake: &mut Intake, other: &mut Intake) -> Appended
-    ensures count { live_count intake.new.store ≡ live_count intake.old.store + result.moved }
-    ensures left { live_count other.new.store + result.moved ≡ live_count other.old.store }
+/// returns how many were moved. Those whose number is taken stay in the other intake. The closure gets the index that
+/// an order had there, and the one that it has here.
+pub fn take_over<F: FnMut(ItemIndex, ItemIndex)>(
+    intake: &mut Intake,
+    other: &mut Intake,
+    moved: F,
+) -> Result<usize, StoppedAppend>
+    requires { (p : F) (move : ℕ × ℕ) → TakesMove F.FnMut p move }
+    ensures moved { (last : F) × ReportsMoves (GivesMove F.FnMut) moved last other.old.store intake.new.store
+        other.new.store (moved_count result) }
+    ensures count { live_count intake.new.store ≡ live_count intake.old.store + moved_count result }
+    ensures left { live_count other.new.store + moved_count result ≡ live_count other.old.store }
     ensures kept { KeepsOrMoves other.old.store other.new.store intake.new.store }
-    ensures taken { result.stopped ≡ None → EachConflicts shares_number intake.new.store other.new.store }
-    ensures all { live_count other.old.store ≤ room intake.old → result.stopped ≡ None }
+    ensures taken { IsOk result → EachConflicts shares_number intake.new.store other.new.store }
+    ensures all { live_count other.old.store ≤ room intake.old → IsOk result }
 {
-    intake.append(other)
+    intake.append(other, moved)
 }
 
 /// Empties the intake, and returns how many orders there were. It keeps its memory, and takes none.

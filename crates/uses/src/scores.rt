@@ -1,5 +1,5 @@
 //! A map in the order of its keys: its ends, the items whose keys are between two bounds, and many at once.
-ghost use Rattle.std.specs.Prelude.{◌≡◌, ◌<◌, IsOk};
+ghost use Rattle.std.specs.Prelude.{◌≡◌, ◌<◌, ℕ, IsOk};
 ghost use Rattle.std.specs.Iterator.{UpTo};
 ghost use Rattle.std.specs.Ordering.{nat_cmp};
 ghost use Rattle.iddqd_maps.specs.BulkOverwrite.{HandsOver, overwritten_count};
@@ -8,10 +8,12 @@ ghost use Rattle.iddqd_maps.specs.Drops.{Drops};
 ghost use Rattle.iddqd_maps.specs.KeyOrder.{IsWalkWithin};
 ghost use Rattle.iddqd_maps.specs.Map.{empty_map, room};
 ghost use Rattle.iddqd_maps.specs.OrdMap.{OverwritesFromInOrder};
-ghost use Rattle.iddqd_maps.specs.Ranges.{GivesItem, TakesItem, itself};
+ghost use Rattle.iddqd_maps.specs.Ranges.{itself};
+ghost use Rattle.iddqd_maps.specs.Sweep.{GivesPair, TakesPair};
 ghost use Rattle.uses.specs.Scores.{by_hour, is_between};
 ghost use Rattle.uses.specs.declared.scores.Score.{Score};
 
+use iddqd_maps::ItemIndex;
 use iddqd_maps::id_ord_map::{IdOrdItem, IdOrdMap, Range};
 use iddqd_maps::refusal::StoppedOverwrite;
 use std::alloc::{AllocError, Global};
@@ -62,17 +64,17 @@ pub fn forget_before(scores: &mut IdOrdMap<Score>, hour: u32) -> usize
 
 /// Enters scores in turn, each in place of the one of its hour, up to the first that is refused: it comes back with the
 /// rest. Those that were replaced go to the closure. With room for all of them none is refused.
-pub fn enter_all<I: Iterator<Item = Score>, F: FnMut(Score)>(
+pub fn enter_all<I: Iterator<Item = Score>, F: FnMut(ItemIndex, Score)>(
     scores: &mut IdOrdMap<Score>,
     entries: I,
     gone: F,
 ) -> Result<usize, StoppedOverwrite<Score, I>>
     requires next { I.can_next entries }
     requires fits { UpTo (I.remaining entries) usize.MAX }
-    requires given { (p : F) (score : Score) → TakesItem F.FnMut p score }
-    ensures entered { OverwritesFromInOrder (λ score. score.hour) nat_cmp (GivesItem F.FnMut) I.next_gives
+    requires given { (p : F) (entry : ℕ × Score) → TakesPair F.FnMut p entry }
+    ensures entered { OverwritesFromInOrder (λ score. score.hour) nat_cmp (GivesPair F.FnMut) I.next_gives
         I.remaining entries scores.old gone result scores.new }
-    ensures handed { (last : F) × HandsOver (GivesItem F.FnMut) gone last scores.old.store scores.new.store
+    ensures handed { (last : F) × HandsOver (GivesPair F.FnMut) gone last scores.old.store scores.new.store
         (overwritten_count result) }
     ensures all { UpTo (I.remaining entries) (room scores.old) → IsOk result }
 {

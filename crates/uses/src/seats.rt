@@ -90,12 +90,13 @@ pub fn exchange_ticket(seats: &mut Seats, ticket: u32, seat: Seat) -> Result<Sea
     seats.replace3(&ticket, seat)
 }
 
-/// Gives a seat out, and takes those back that have its place, its guest or its ticket. If one has, it takes no memory.
+/// Gives a seat out, and takes those back that have its place, its guest or its ticket, each with
+/// the index that it had. If one has, it takes no memory.
 /// It is refused only where none has, and there are as many seats as the limit allows or there is no memory.
 pub fn give_out(
     seats: &mut Seats,
     seat: Seat,
-) -> Result<(ItemIndex, [Option<Seat>; 3]), OverwriteRefusal<Seat>>
+) -> Result<(ItemIndex, [Option<(ItemIndex, Seat)>; 3]), OverwriteRefusal<Seat>>
     ensures given { IfOk result (λ given. TakesOver share_key 3 seat seats.old given.0 given.1 seats.new) }
     ensures refused { IfErr result (IsWhyNotTakenOver share_key seat seats.old) }
     ensures unchanged { OnErr result (seats.new.store ≡ seats.old.store) }

@@ -2,7 +2,7 @@
 ghost use Rattle.std.specs.Prelude.{◌≡◌, ◌≤◌, MatchOption, IfNone, IfOk, IfErr, OnOk, OnErr, filter};
 ghost use Rattle.std.specs.String.{string_bytes};
 ghost use Rattle.iddqd_maps.specs.LiveItems.{live_pairs};
-ghost use Rattle.iddqd_maps.specs.Map.{Removes};
+ghost use Rattle.iddqd_maps.specs.Map.{Removes, RemovesFull};
 ghost use Rattle.iddqd_maps.specs.Scan.{HasNoHit};
 ghost use Rattle.iddqd_maps.specs.Store.{inserted, live_count};
 ghost use Rattle.uses.specs.Exchanges.{Exchanges};
@@ -11,6 +11,7 @@ ghost use Rattle.uses.specs.Users.{has_logged_in, is_named, same_name, IsWhyNotR
 ghost use Rattle.uses.specs.declared.users.User.{User};
 
 use iddqd_maps::id_hash_map::{IdHashItem, IdHashMap};
+use iddqd_maps::item_index::ItemIndex;
 use iddqd_maps::refusal::{InsertRefusal, ReplaceRefusal};
 use std::alloc::{AllocError, Global};
 
@@ -117,6 +118,13 @@ pub fn leave(users: &mut IdHashMap<User>, name: &str) -> Option<User>
     ensures { Removes users.old (is_named name.now) result users.new }
 {
     users.remove(name)
+}
+
+/// Does as `leave` does, and says which index the user had, for whoever keeps something of a user by index.
+pub fn leave_index(users: &mut IdHashMap<User>, name: &str) -> Option<(ItemIndex, User)>
+    ensures { RemovesFull users.old (is_named name.now) result users.new }
+{
+    users.remove_full(name)
 }
 
 /// Removes the users who never logged in, and returns how many stay.

@@ -255,6 +255,9 @@ def check_refused_libraries(top, target):
     write(f"{target}/libiddqd.sha256", f"# Written by tools/c-library. Checksums by SHA-256.\n{'0' * 64}  rust/src/lib.rs\n")
     refused([script, "."], target, "rust/src/lib.rs is there already, and isn't as tools/c-library wrote it", 1)
     expect(read(own) == "// Theirs\n", "c-library wrote where a file was changed")
+    write(f"{target}/prefix/include/iddqd.h", "// Theirs\n")
+    refused([script, "--prefix", "prefix"], target, "/include/iddqd.h is there already, and", 1)
+    refused([script, ".", "--prefix", "prefix"], target, "name FOLDER, or DIR behind --prefix", 2)
 
 
 def check_refused_maps(top, target):

@@ -44,6 +44,11 @@ def asked(key, is_lent=False):
     return tuple_of([query(field, is_lent) for field in key.fields])
 
 
+def signed(given):
+    """Those of the parameters that are signed numbers."""
+    return [it.partition(":")[0] for it in given if it.partition(": ")[2] in SIGNED]
+
+
 class Functions:
     """The text of the functions, in parts, and the proofs that the check doesn't find, by the functions' names."""
 
@@ -80,9 +85,8 @@ class Functions:
 
     def prove_signed(self, name, given, call, clause=""):
         """Keeps the answer of a call that borrows signed parameters, if there are any."""
-        signed = [it.partition(":")[0] for it in given if it.partition(": ")[2] in SIGNED]
-        if signed:
-            self.proofs[name] = proofs.of_signed(self.names, name, call, clause, signed)
+        if signed(given):
+            self.proofs[name] = proofs.of_signed(self.names, name, call, clause, signed(given))
 
     def add_write(self, comment, name, given, result, clauses, call):
         self.add(f"{comment} It takes no memory.", name, given, result, clauses, call, True)
@@ -207,13 +211,13 @@ class Functions:
         self.add_read(f"How many {self.plural} have {this}.", f"count_of_{of}", given, "usize",
                       f"CountsHits {self.map}.now.store {test} result", self.call(key, call, [argument]))
 
-    def add_range(self, key, name, given, which, test, call, arguments):
+    def add_range(self, key, name, given, which, test, call, arguments, inferred=1):
         self.add_read(f"The {self.plural} {which}.", name, given, f"Range<'_, {self.kind}>",
                       f"IteratesInOrder compare_by_{key.name} {test} {self.map}.now.store result",
-                      self.call(key, call, arguments))
+                      self.call(key, call, arguments, inferred))
 
-    def removal_by(self, key, call, arguments):
-        return self.call(key, call, [*arguments, f"|_{self.item}| ()"], 2)
+    def removal_by(self, key, call, arguments, inferred=2):
+        return self.call(key, call, [*arguments, f"|_{self.item}| ()"], inferred)
 
     def removal_in(self, selection):
         return "remove_in", "", [selection, f"|_ix, _{self.item}| ()"]
@@ -226,7 +230,10 @@ class Functions:
                            ("count", f"result + live_count {m}.new.store ≡ live_count {m}.old.store"),
                            ("memory", f"{m}.new.memory ≡ {m}.old.memory"),
                        ], call)
-        self.prove_signed(f"remove_{name}", given, call[0], "left")
+        if call[0] == "remove_in":
+            self.proofs[f"remove_{name}"] = proofs.of_selection(self.names, f"remove_{name}", signed(given))
+        else:
+            self.prove_signed(f"remove_{name}", given, call[0], "left")
 
     # Calls in the order of a key.
 
@@ -260,14 +267,15 @@ class Functions:
         values = [*map(said, fixed), *(said(last, name=end) for end in ends)]
         test = f"(has_{key.name}_between {' '.join(values)})"
         queries = (tuple_of([*map(query, fixed), query(last, name=end)]) for end in ends)
-        arguments = [f"Bound::Included({it})" for it in queries]
+        # Not `from..=to`: what that is made by has to be named in a proof file.
+        both = tuple_of([f"Bound::Included({it})" for it in queries])
         of = f"of_{'_and_'.join(field.name for field in fixed)}_" if fixed else ""
         which = f"with {these(fixed)} " if fixed else ""
         which += f"whose {last.words} is within the bounds, which are included"
         by = last.words if key.is_unique else f"{last.words} and then by index"
         name = f"{of}{last.name}_between"
-        self.add_range(key, name, given, f"{which}, and their indexes, by {by}", test, "range_by", arguments)
-        self.add_removal(name, given, which, test, self.removal_by(key, "remove_range_by", arguments))
+        self.add_range(key, name, given, f"{which}, and their indexes, by {by}", test, "range_by", [both], 2)
+        self.add_removal(name, given, which, test, self.removal_by(key, "remove_range_by", [both], 3))
 
     def order_words(self, key):
         return key.words if key.is_unique else f"{key.words} and then by index"

@@ -65,7 +65,7 @@ What calls give that is read item by item. "From both ends" is `DoubleEndedItera
 |---|---|---|---|---|
 """
 # The crates whose iterators callers of maps and collections get.
-ITERATED = ["iddqd", "iddqd_by_order", "iddqd_order", "iddqd_groups", "iddqd_ord_map", "iddqd_driver"]
+ITERATED = ["iddqd", "iddqd_by_order", "iddqd_order", "iddqd_groups", "iddqd_ord_map"]
 REFUSALS = """
 ## What calls answer: conflicts, refusals, indexes and errors
 
@@ -77,9 +77,9 @@ PART_TYPES = [("iddqd_map", "Parts"), ("iddqd_groups", "ByHashMultiOf")]
 REFUSAL_TYPES = [("iddqd_map", "InsertRefusal"), ("iddqd_map", "OverwriteRefusal"), ("iddqd_map", "ReplaceRefusal"),
                  ("iddqd_map", "Stopped"), ("iddqd_map", "StoppedOverwrite"),
                  ("iddqd_map", "PairConflict"), ("iddqd_map", "NoConflict"),
-                 ("iddqd_map", "BiClash"), ("iddqd_map", "TriClash"), ("iddqd_map", "Appended"),
+                 ("iddqd_map", "BiClash"), ("iddqd_map", "TriClash"), ("iddqd_map", "StoppedAppend"),
                  ("iddqd", "GrowError"), ("iddqd", "ItemIndex"), ("iddqd", "IndexRemap"), ("iddqd_driver", "InsertRefusal"),
-                 ("iddqd_driver", "ReplaceRefusal"), ("iddqd_tri", "TriRefusal"), ("iddqd", "ValidateRefusal"),
+                 ("iddqd_tri", "TriRefusal"), ("iddqd", "ValidateRefusal"),
                  ("iddqd", "ValidationError"), ("iddqd", "TableValidationError")]
 # Whose refusals those of a crate are, where a map has one of the same name.
 OWNERS = {"iddqd_driver": " of `KeyedItems`", "iddqd_tri": " of `TriItems`"}

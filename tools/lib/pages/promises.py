@@ -42,6 +42,7 @@ FILE = "docs/promises.txt"
 PARTS = [("docs/GUARANTEES.md", "Four guarantees", {"paragraph"}),
          ("docs/GUARANTEES.md", "What is proved, tested, neither", {"item"}),
          ("docs/FROM_C.md", "What is proved", {"paragraph", "row"}),
+         ("docs/LAYER.md", "What is proved", {"paragraph", "row"}),
          ("docs/CALLING.md", "A collection for n items", {"item"}),
          ("docs/PROVING.md", "The names that a key index gives", {"row"}),
          ("docs/PROVING.md", "What to cite", {"row"}),

@@ -50,5 +50,7 @@ def run(words):
     with tempfile.TemporaryDirectory() as room:
         rooms.lay_out(below([LOWEST], known), known, room)
         add(f"{room}/crates.txt", "".join(rooms.line_of(crate, [LOWEST]) for crate in programs))
+        for crate, path in programs.items():
+            write(f"{room}/crates/{crate}/src/main.rt", read(path))
         counts = [wrong_calls(crate, read(path).split("\n"), room) for crate, path in programs.items()]
     print(f"the compiler refuses {sum(counts)} wrong calls with the words that they expect")

@@ -28,8 +28,11 @@ def lay_out(room):
     source = f"{room}/crates/{CRATE}/src"
     add(f"{source}/handle.rt", read(f"{TOP}/tests/exports/handles.rt.in"))
     add(f"{source}/tests.rt", read(f"{TOP}/tests/exports/tests.rt.in"))
-    add(f"{source}/lib.rt", "\n#[cfg(test)]\nmod tests;\n")
-    write(f"{source}/keyed.rt", re.sub(r"^mod (\w+);", r"pub(crate) mod \1;", read(f"{source}/keyed.rt"), flags=re.M))
+    add(f"{source}/layer_tests.rt", read(f"{TOP}/tests/exports/layer.rt.in"))
+    add(f"{source}/lib.rt", "\n#[cfg(test)]\nmod tests;\n#[cfg(test)]\nmod layer_tests;\n")
+    for module in ("keyed", "layer"):
+        path = f"{source}/{module}.rt"
+        write(path, re.sub(r"^mod (\w+);", r"pub(crate) mod \1;", read(path), flags=re.M))
 
 
 def passed():

@@ -25,7 +25,7 @@ from lib.tests import memory
 
 TESTS = "iddqd_refused"
 BELOW = ["iddqd", "iddqd_hash", "iddqd_order", "iddqd_order_reference", "iddqd_keys", "iddqd_by_hash", "iddqd_by_order", "iddqd_map",
-         "iddqd_groups", "iddqd_ord_map", "iddqd_tri", "iddqd_driver"]
+         "iddqd_groups", "iddqd_ord_map", "iddqd_tri", "iddqd_driver", "iddqd_layer"]
 # A test's line of `rt try --test`, with what the test wrote, which is indented.
 TEST = re.compile(r"^test (\S+) \.\.\. (\w+)\n((?: +.*\n)*)", re.M)
 STOOD = re.compile(r"^ +memory: (\d+) refusals stood$", re.M)

@@ -48,7 +48,7 @@ fn key_at(table: &Table, index: u32, key: &mut [u8], len: &mut usize) -> u32
     match table {
         Table::Unique(keyed) => write(keyed, ItemIndex::new(index), key, len),
         Table::Shared(keyed) => write(keyed, ItemIndex::new(index), key, len),
-        Table::Index(_) => HANDLE,
+        Table::Index(_) | Table::Layer(_) => HANDLE,
     }
 }
 

@@ -50,7 +50,7 @@ fn compact(table: &mut Table, indexes: &mut [u32], count: &mut usize) -> u32
     match table {
         Table::Unique(keyed) => close_up(keyed, indexes, count),
         Table::Shared(keyed) => close_up(keyed, indexes, count),
-        Table::Index(_) => HANDLE,
+        Table::Index(_) | Table::Layer(_) => HANDLE,
     }
 }
 
@@ -78,7 +78,7 @@ where
 }
 
 // Writes the new index of each of the first slots.
-fn write_all(remap: &IndexRemap, slots: usize, indexes: &mut [u32])
+pub(crate) fn write_all(remap: &IndexRemap, slots: usize, indexes: &mut [u32])
     requires fits { slots ≤ length indexes.old }
     requires few { slots ≤ slot_limit }
     ensures { indexes.new ≡ map (name_in remap.now) (numbers slots) ++ drop slots indexes.old }

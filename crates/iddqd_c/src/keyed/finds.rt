@@ -41,7 +41,7 @@ fn find1(table: &Table, key: &[u8], row: &mut Row) -> u32
     match table {
         Table::Unique(keyed) => find_first(keyed, key, row),
         Table::Shared(keyed) => find_first(keyed, key, row),
-        Table::Index(_) => HANDLE,
+        Table::Index(_) | Table::Layer(_) => HANDLE,
     }
 }
 
@@ -91,7 +91,7 @@ fn find2(table: &Table, second: u64, row: &mut Row) -> u32
     match table {
         Table::Unique(keyed) => find_second(keyed, second, row),
         Table::Shared(keyed) => find_second(keyed, second, row),
-        Table::Index(_) => HANDLE,
+        Table::Index(_) | Table::Layer(_) => HANDLE,
     }
 }
 
@@ -139,7 +139,7 @@ fn get(table: &Table, index: u32, row: &mut Row) -> u32
     match table {
         Table::Unique(keyed) => report(keyed, ItemIndex::new(index), row),
         Table::Shared(keyed) => report(keyed, ItemIndex::new(index), row),
-        Table::Index(_) => HANDLE,
+        Table::Index(_) | Table::Layer(_) => HANDLE,
     }
 }
 

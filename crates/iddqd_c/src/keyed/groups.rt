@@ -47,7 +47,7 @@ fn count_group(table: &Table, second: u64, count: &mut usize) -> u32
             *count = keyed.entries.count_by::<BySecond, _>(&second);
             OK
         }
-        Table::Index(_) => HANDLE,
+        Table::Index(_) | Table::Layer(_) => HANDLE,
     }
 }
 
@@ -92,6 +92,6 @@ fn remove_group(table: &mut Table, second: u64, count: &mut usize) -> u32
                 .remove_group_by::<BySecond, _, _>(&second, |_entry| ());
             OK
         }
-        Table::Index(_) => HANDLE,
+        Table::Index(_) | Table::Layer(_) => HANDLE,
     }
 }

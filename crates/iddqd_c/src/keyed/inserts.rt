@@ -73,7 +73,7 @@ fn insert(
     match table {
         Table::Unique(keyed) => store(keyed, alloc, key, second, value, at, found),
         Table::Shared(keyed) => store(keyed, alloc, key, second, value, at, found),
-        Table::Index(_) => HANDLE,
+        Table::Index(_) | Table::Layer(_) => HANDLE,
     }
 }
 

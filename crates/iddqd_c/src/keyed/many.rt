@@ -43,7 +43,7 @@ fn find_many(table: &Table, seconds: &[u64], rows: &mut [Row]) -> u32
     match table {
         Table::Unique(keyed) => find_all(keyed, seconds, rows),
         Table::Shared(keyed) => find_all(keyed, seconds, rows),
-        Table::Index(_) => HANDLE,
+        Table::Index(_) | Table::Layer(_) => HANDLE,
     }
 }
 

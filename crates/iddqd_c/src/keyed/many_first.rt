@@ -49,7 +49,7 @@ fn find_many(table: &Table, bytes: &[u8], ends: &[usize], rows: &mut [Row]) -> u
     match table {
         Table::Unique(keyed) => find_all(keyed, bytes, ends, rows),
         Table::Shared(keyed) => find_all(keyed, bytes, ends, rows),
-        Table::Index(_) => HANDLE,
+        Table::Index(_) | Table::Layer(_) => HANDLE,
     }
 }
 

@@ -36,7 +36,7 @@ fn reserve(table: &mut Table, additional: usize) -> u32
     match table {
         Table::Unique(keyed) => reserve_for(keyed, additional),
         Table::Shared(keyed) => reserve_for(keyed, additional),
-        Table::Index(_) => HANDLE,
+        Table::Index(_) | Table::Layer(_) => HANDLE,
     }
 }
 
@@ -81,6 +81,6 @@ fn room(table: &Table, count: &mut usize) -> u32
             *count = keyed.entries.room();
             OK
         }
-        Table::Index(_) => HANDLE,
+        Table::Index(_) | Table::Layer(_) => HANDLE,
     }
 }

@@ -143,7 +143,7 @@ fn range(
             *count = fill(range, direction, from, to, rows);
             OK
         }
-        Table::Index(_) => HANDLE,
+        Table::Index(_) | Table::Layer(_) => HANDLE,
     }
 }
 
@@ -281,7 +281,7 @@ fn first(table: &Table, row: &mut Row) -> u32
             Some(at) => report(at.0, at.1, row),
             None => MISSING,
         },
-        Table::Index(_) => HANDLE,
+        Table::Index(_) | Table::Layer(_) => HANDLE,
     }
 }
 
@@ -316,7 +316,7 @@ fn last(table: &Table, row: &mut Row) -> u32
             Some(at) => report(at.0, at.1, row),
             None => MISSING,
         },
-        Table::Index(_) => HANDLE,
+        Table::Index(_) | Table::Layer(_) => HANDLE,
     }
 }
 

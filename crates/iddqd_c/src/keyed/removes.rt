@@ -46,7 +46,7 @@ fn remove(table: &mut Table, index: u32, row: &mut Row) -> u32
     match table {
         Table::Unique(keyed) => remove_at(keyed, ItemIndex::new(index), row),
         Table::Shared(keyed) => remove_at(keyed, ItemIndex::new(index), row),
-        Table::Index(_) => HANDLE,
+        Table::Index(_) | Table::Layer(_) => HANDLE,
     }
 }
 
@@ -96,7 +96,7 @@ fn remove1(table: &mut Table, key: &[u8], row: &mut Row) -> u32
     match table {
         Table::Unique(keyed) => remove_first(keyed, key, row),
         Table::Shared(keyed) => remove_first(keyed, key, row),
-        Table::Index(_) => HANDLE,
+        Table::Index(_) | Table::Layer(_) => HANDLE,
     }
 }
 
@@ -108,9 +108,12 @@ where
 {
     match keyed
         .entries
-        .find_by::<ByFirst, _>(ByteKeyQuery { bytes: key })
+        .remove_full_by::<ByFirst, _>(ByteKeyQuery { bytes: key })
     {
-        Some(ix) => remove_at(keyed, ix, row),
+        Some((ix, entry)) => {
+            *row = Row::of(ix, &entry);
+            OK
+        }
         None => MISSING,
     }
 }
@@ -146,7 +149,7 @@ fn remove2(table: &mut Table, second: u64, row: &mut Row) -> u32
     match table {
         Table::Unique(keyed) => remove_second(keyed, second, row),
         Table::Shared(keyed) => remove_second(keyed, second, row),
-        Table::Index(_) => HANDLE,
+        Table::Index(_) | Table::Layer(_) => HANDLE,
     }
 }
 

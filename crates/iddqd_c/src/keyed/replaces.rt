@@ -67,7 +67,7 @@ fn replace(
     match table {
         Table::Unique(keyed) => rebind(keyed, alloc, ix, key, second, value, found),
         Table::Shared(keyed) => rebind(keyed, alloc, ix, key, second, value, found),
-        Table::Index(_) => HANDLE,
+        Table::Index(_) | Table::Layer(_) => HANDLE,
     }
 }
 

@@ -40,7 +40,7 @@ fn validate(table: &Table) -> u32
     match table {
         Table::Unique(keyed) => check(keyed),
         Table::Shared(keyed) => check(keyed),
-        Table::Index(_) => HANDLE,
+        Table::Index(_) | Table::Layer(_) => HANDLE,
     }
 }
 

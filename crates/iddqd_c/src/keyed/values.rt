@@ -40,7 +40,7 @@ fn set_value(table: &mut Table, index: u32, value: u64) -> u32
     match table {
         Table::Unique(keyed) => set(keyed, ItemIndex::new(index), value),
         Table::Shared(keyed) => set(keyed, ItemIndex::new(index), value),
-        Table::Index(_) => HANDLE,
+        Table::Index(_) | Table::Layer(_) => HANDLE,
     }
 }
 

@@ -5,7 +5,7 @@ ghost use Rattle.std.specs.Prelude.{◌≡◌, ◌↔◌, ◌≤◌, ◌+◌, fa
 ghost use Rattle.iddqd.specs.{live_count};
 ghost use Rattle.iddqd_keys.specs.Scan.{HasNoHit, AnswersScan};
 ghost use Rattle.iddqd_keys.specs.KeyKeeping.{KeepsKey};
-ghost use Rattle.iddqd_map.specs.Map.{capacity, room, FindsItem, Removes};
+ghost use Rattle.iddqd_map.specs.Map.{capacity, room, FindsItem, Removes, RemovesFull};
 ghost use Rattle.iddqd_map.specs.Calls.{MayChange, Replaces, ChangesByCall};
 ghost use Rattle.iddqd_map.specs.Modify.{Modifies};
 
@@ -68,8 +68,32 @@ impl<T, X: KeyIndex<T, S>, S> Map<T, X, S> {
         ensures freed { OnSome result (live_count self.old.store ≤ capacity self.old
             → room self.new ≡ room self.old + 1) }
     {
+        match self.remove_full_by::<P, Q>(query) {
+            Some((_, item)) => Some(item),
+            None => None,
+        }
+    }
+
+    /// Removes the item that has the key, and returns the index that it had, with the item.
+    ///
+    /// Cost: one look-up, and a removal from each table; takes no memory.
+    #[inline(always)]
+    pub fn remove_full_by<P, Q>(&mut self, query: Q) -> Option<(ItemIndex, T)>
+    where
+        X: TakesAt<P, Q, T, S>,
+        ensures removes { RemovesFull self.old (X.stands_for query) result self.new }
+        ensures gone { HasNoHit self.new.store (X.stands_for query) }
+        ensures room { room self.old ≤ room self.new }
+        ensures count { OnSome result (live_count self.old.store ≡ live_count self.new.store + 1) }
+        ensures unchanged { IfNone result (self.new ≡ self.old) }
+        ensures freed { OnSome result (live_count self.old.store ≤ capacity self.old
+            → room self.new ≡ room self.old + 1) }
+    {
         let ix = self.indexes.take(&self.items, &self.state, query)?;
-        self.items.remove(ix)
+        match self.items.remove(ix) {
+            Some(item) => Some((ix, item)),
+            None => unreachable!(),
+        }
     }
 
     /// Replaces the item that has the key, and returns it. Otherwise it behaves as `replace_at`.

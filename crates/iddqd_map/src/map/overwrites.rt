@@ -23,7 +23,7 @@ use std::alloc::AllocError;
 
 impl<T, X: Changes<T, S>, S> Map<T, X, S> {
     /// Inserts an item, and returns its index. Stored items that share a key with it are first moved into `places`, by
-    /// rising index.
+    /// rising index, each with the index that it had.
     ///
     /// If there are none, it is refused as `insert_unique` is. If there are any, it is refused only if memory runs out
     /// for an ordered table that has more indexes than its capacity, before anything is removed. A refusal returns the
@@ -36,7 +36,7 @@ impl<T, X: Changes<T, S>, S> Map<T, X, S> {
     pub fn overwrite_into(
         &mut self,
         item: T,
-        places: &mut [Option<T>],
+        places: &mut [Option<(ItemIndex, T)>],
     ) -> Result<ItemIndex, OverwriteRefusal<T>>
         requires enough { X.unique_keys ≤ length places.old }
         requires vacant { places.old ≡ padded (length places.old) [] }
@@ -69,7 +69,7 @@ fn insert_or_overwrite<T, X: Changes<T, S>, S>(
     state: &S,
     hashes: X::Hashes,
     item: T,
-    places: &mut [Option<T>],
+    places: &mut [Option<(ItemIndex, T)>],
 ) -> Result<ItemIndex, OverwriteRefusal<T>>
     requires map { IsIndexed (X.indexes indexes.old) state.now items.old.store }
     requires hashed { X.are_hashes state.now item hashes }
@@ -99,7 +99,7 @@ fn overwrite<T, X: Changes<T, S>, S>(
     hashes: X::Hashes,
     item: T,
     at: &X::Conflict,
-    places: &mut [Option<T>],
+    places: &mut [Option<(ItemIndex, T)>],
 ) -> Result<ItemIndex, OverwriteRefusal<T>>
     requires map { IsIndexed (X.indexes indexes.old) state.now items.old.store }
     requires hashed { X.are_hashes state.now item hashes }
@@ -127,7 +127,7 @@ fn remove_reported<T, X: Changes<T, S>, S>(
     state: &S,
     at: &X::Conflict,
     first: Option<ItemIndex>,
-    places: &mut [Option<T>],
+    places: &mut [Option<(ItemIndex, T)>],
 )
     requires map { IsIndexed (X.indexes indexes.old) state.now items.old.store }
     requires first { IsNextReported (X.reports at.now) None first }
@@ -149,8 +149,10 @@ fn remove_reported<T, X: Changes<T, S>, S>(
     let mut count = 0;
     let mut next = first;
     while let Some(ix) = next {
-        let taken = take_out(items, indexes, state, ix);
-        put_into(places, count, taken);
+        match take_out(items, indexes, state, ix) {
+            Some(item) => put_into(places, count, (ix, item)),
+            None => unreachable!(),
+        }
         count += 1;
         next = X::next_reported(at, Some(ix));
     }

@@ -28,21 +28,21 @@ impl<T, X: KeyIndex<T, S>, S> Map<T, X, S> {
     pub fn retain_range_into_by<P, Q, R, F: FnMut(&T) -> bool, G: FnMut(T)>(
         &mut self,
         range: R,
-        mut keep: F,
-        mut gone: G,
+        mut f: F,
+        mut g: G,
     ) -> usize
     where
         X: StepsAt<P, Q, T, S>,
         Q: Copy,
         R: IntoBounds<Q>,
         requires asked { MayAskWithin X.order (is_in_bounds X.compare (R.bounds range)) (TakesAt F.FnMut)
-            (CalledAt F.FnMut) keep self.old.store }
-        requires given { MayGiveSomeWithin X.order (is_in_bounds X.compare (R.bounds range)) G.FnMut gone
+            (CalledAt F.FnMut) f self.old.store }
+        requires given { MayGiveSomeWithin X.order (is_in_bounds X.compare (R.bounds range)) G.FnMut g
             self.old.store }
         ensures asked { (last : F) × RetainsWithin X.order (is_in_bounds X.compare (R.bounds range))
-            (CalledAt F.FnMut) keep self.old.store self.new.store last }
+            (CalledAt F.FnMut) f self.old.store self.new.store last }
         ensures given { GivesRefusedWithin X.order (is_in_bounds X.compare (R.bounds range))
-            (CalledAt F.FnMut) (GivesItem G.FnMut) keep gone self.old.store self.new.store }
+            (CalledAt F.FnMut) (GivesItem G.FnMut) f g self.old.store self.new.store }
         ensures others { KeepsMisses self.old.store (is_in_bounds X.compare (R.bounds range)) self.new.store }
         ensures memory { self.new.memory ≡ self.old.memory }
         ensures room { room self.old ≤ room self.new }
@@ -54,8 +54,8 @@ impl<T, X: KeyIndex<T, S>, S> Map<T, X, S> {
             &mut self.indexes,
             &self.state,
             &bounds,
-            &mut keep,
-            &mut gone,
+            &mut f,
+            &mut g,
         )
     }
 

@@ -32,8 +32,8 @@ impl<T, X: KeyIndex<T, S>, S> Map<T, X, S> {
         T: Drop,
         W: Selection<T, X, S>,
         requires { MayAskAlong (W.lists which) (TakesPairAt F.FnMut) (CalledPairAt F.FnMut) f self.old.store }
-        ensures asked { (last : F) × RetainsSelected (W.lists which) (CalledPairAt F.FnMut) f self.old.store self.new.store
-            last }
+        ensures asked { (last : F) × RetainsSelected (W.lists which) (CalledPairAt F.FnMut) f self.old.store
+            self.new.store last }
         ensures others { KeepsMisses self.old.store (W.selects which) self.new.store }
         ensures memory { self.new.memory ≡ self.old.memory }
         ensures room { room self.old ≤ room self.new }
@@ -104,8 +104,8 @@ impl<T, X: KeyIndex<T, S>, S> Map<T, X, S> {
         W: Selection<T, X, S>,
         requires { MayGiveAlong (W.lists which) F.FnMut gone self.old.store }
         ensures left { LeavesOthers self.old.store (W.selects which) self.new.store }
-        ensures given { (last : F) × RemovesSelected (W.lists which) (GivesPair F.FnMut) gone self.old.store self.new.store
-            last }
+        ensures given { (last : F) × RemovesSelected (W.lists which) (GivesPair F.FnMut) gone self.old.store
+            self.new.store last }
         ensures memory { self.new.memory ≡ self.old.memory }
         ensures room { room self.old ≤ room self.new }
         ensures count { result + live_count self.new.store ≡ live_count self.old.store }

@@ -119,13 +119,13 @@ pub(super) fn store_in_room<T>(items: &mut ItemSet<T>, item: T) -> ItemIndex
     }
 }
 
-/// Puts the item that was removed, if one was, into a place that is empty.
-pub(super) fn put_into<T>(places: &mut [Option<T>], at: usize, taken: Option<T>)
+/// Puts a value into a place that is empty.
+pub(super) fn put_into<V>(places: &mut [Option<V>], at: usize, value: V)
     requires within { at < length places.old }
     requires vacant { slice_get places.old at ≡ Some None }
-    ensures { places.new ≡ slice_set places.old at taken }
+    ensures { places.new ≡ slice_set places.old at (Some value) }
 {
-    match mem::replace(&mut places[at], taken) {
+    match mem::replace(&mut places[at], Some(value)) {
         None => {}
         Some(_) => unreachable!(),
     }

@@ -12,7 +12,7 @@ ghost use Rattle.iddqd_map.specs.Groups.{listed_from};
 ghost use Rattle.iddqd_map.specs.KeyIndex.{IsIndexed};
 ghost use Rattle.iddqd_map.specs.Map.{room};
 ghost use Rattle.iddqd_map.specs.RangeRetain.{KeepsMisses};
-ghost use Rattle.iddqd_map.specs.Sweep.{CalledPairAt, CanSweepAlong, CanVisit, GivesPair, MayAskAlong, MayGiveSomeAlong, SweepsAlong, TakesPair, TakesPairAt, goes_on, reads_itself, removes, stops};
+ghost use Rattle.iddqd_map.specs.Sweep.{CalledPairAt, CanSweepAlong, CanVisit, GivesPair, MayAskAlong, MayGiveSomeAlong, SweepsAlong, SweepsBy, TakesPair, TakesPairAt, goes_on, reads_itself, removes, stops};
 ghost use Rattle.iddqd_map.specs.declared.verdict.Verdict.TheVariants.{Stop};
 
 use super::Map;
@@ -55,8 +55,8 @@ impl<T, X: KeyIndex<T, S>, S> Map<T, X, S> {
         requires asked { MayAskAlong (W.lists which) (TakesPairAt F.FnMut) (goes_on reads_itself (CalledPairAt F.FnMut))
             ask self.old.store }
         requires given { MayGiveSomeAlong (W.lists which) G.FnMut gone self.old.store }
-        ensures swept { SweepsAlong (CalledPairAt F.FnMut) reads_itself (GivesPair G.FnMut) (W.lists which) ask gone
-            self.old.store self.new.store (option_map (λ ix. (ix, Stop)) result.stopped_at) }
+        ensures swept { SweepsBy F.FnMut G.FnMut (W.lists which) ask gone self.old.store self.new.store
+            (option_map (λ ix. (ix, Stop)) result.stopped_at) }
         ensures others { KeepsMisses self.old.store (W.selects which) self.new.store }
         ensures memory { self.new.memory ≡ self.old.memory }
         ensures room { room self.old ≤ room self.new }

@@ -7,7 +7,7 @@ ghost use Rattle.iddqd_map.specs.Bulk.{inserted_all, inserted_count};
 ghost use Rattle.iddqd_map.specs.BulkOverwrite.{HandsOver, MayDisplace, overwritten_count};
 ghost use Rattle.iddqd_map.specs.Calls.{IsDuplicate};
 ghost use Rattle.iddqd_map.specs.Map.{room};
-ghost use Rattle.iddqd_map.specs.Ranges.{GivesItem};
+ghost use Rattle.iddqd_map.specs.Sweep.{GivesPair};
 ghost use Rattle.iddqd_ord_map.specs.OrdMap.{InsertsFromInOrder, MakesOfInOrder, OverwritesFromInOrder, RefusesOneInOrder};
 
 use super::OrdMapBy;
@@ -72,19 +72,19 @@ impl<T: Drop, E: OrdKey<T>> OrdMapBy<T, E> {
     /// Inserts the items of an iterator in turn, each in place of those that share a key with it, up to the first that
     /// is refused, and returns how many were inserted.
     ///
-    /// A stored item that has the key of an item is first removed, and passed to the closure by value. An item that was
-    /// inserted before may be displaced, too. One that displaces another is refused only if memory runs out and the
-    /// table has more indexes than its capacity, before anything is removed. Each other one is refused as by
-    /// `insert_unique`. A refusal comes back with its item, with the number of items that were inserted before it, and
-    /// with the rest of the iterator; the items that were inserted stay. If there is `room` for all that the iterator
-    /// can give, nothing is refused. Memory is reserved as by `insert_all`.
+    /// A stored item that has the key of an item is first removed, and passed to the closure by value, with the index
+    /// that it had. An item that was inserted before may be displaced, too. One that displaces another is refused only
+    /// if memory runs out and the table has more indexes than its capacity, before anything is removed. Each other one
+    /// is refused as by `insert_unique`. A refusal comes back with its item, with the number of items that were
+    /// inserted before it, and with the rest of the iterator; the items that were inserted stay. If there is `room` for
+    /// all that the iterator can give, nothing is refused. Memory is reserved as by `insert_all`.
     ///
     /// Cost: an `insert_overwrite` for each item; reserves memory for the lower bound of `size_hint` at once, then
     /// takes it as that call does.
     ///
     /// Asks: `next` may be called until the iterator ends; its number of items fits a `usize`; the closure may be
     /// called with any item in turn.
-    pub fn overwrite_all<I: Iterator<Item = T>, G: FnMut(T)>(
+    pub fn overwrite_all<I: Iterator<Item = T>, G: FnMut(ItemIndex, T)>(
         &mut self,
         iter: I,
         gone: G,
@@ -92,9 +92,9 @@ impl<T: Drop, E: OrdKey<T>> OrdMapBy<T, E> {
         requires next { I.can_next iter }
         requires fits { UpTo (I.remaining iter) usize.MAX }
         requires given { MayDisplace I.next_gives G.FnMut iter gone self.old.store }
-        ensures overwrites { OverwritesFromInOrder E.key_of E.cmp (GivesItem G.FnMut) I.next_gives I.remaining iter
+        ensures overwrites { OverwritesFromInOrder E.key_of E.cmp (GivesPair G.FnMut) I.next_gives I.remaining iter
             self.old gone result self.new }
-        ensures handed { (last : G) × HandsOver (GivesItem G.FnMut) gone last self.old.store self.new.store
+        ensures handed { (last : G) × HandsOver (GivesPair G.FnMut) gone last self.old.store self.new.store
             (overwritten_count result) }
         ensures not_refused { UpTo (I.remaining iter) (room self.old) → IsOk result }
         ensures goes_on { IfErr result (λ stopped. I.can_next stopped.rest) }

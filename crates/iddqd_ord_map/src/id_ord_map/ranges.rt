@@ -117,22 +117,22 @@ impl<T: Drop, E: OrdKey<T>> OrdMapBy<T, E> {
     /// Asks: the closure may be called on each of these items in turn, and leaves each its keys.
     pub fn modify_range<Q: ItemRangeQuery<T, E>, R: IntoBounds<Q>, F: FnMut(&mut T)>(
         &mut self,
-        range: R,
+        keys: R,
         f: F,
     ) -> usize
-        requires callable { MayAskWithin (on E.key_of E.cmp) (is_in_bounds Q.compare_item (R.bounds range))
+        requires callable { MayAskWithin (on E.key_of E.cmp) (is_in_bounds Q.compare_item (R.bounds keys))
             (TakesMut F.FnMut) (MayLeave F.FnMut) f self.old.store }
         requires keeps { KeepsKeys F.FnMut E.key_of
-            (IsStoredHit self.old.store (is_in_bounds Q.compare_item (R.bounds range))) }
-        ensures modified { (last : F) × ModifiesWithin F.FnMut (on E.key_of E.cmp)
-            (is_in_bounds Q.compare_item (R.bounds range)) f self.old.store self.new.store last result }
-        ensures counted { CountsHits self.old.store (is_in_bounds Q.compare_item (R.bounds range)) result }
-        ensures others { KeepsMisses self.old.store (is_in_bounds Q.compare_item (R.bounds range))
+            (IsStoredHit self.old.store (is_in_bounds Q.compare_item (R.bounds keys))) }
+        ensures modified { (g : F) × ModifiesWithin F.FnMut (on E.key_of E.cmp)
+            (is_in_bounds Q.compare_item (R.bounds keys)) f self.old.store self.new.store g result }
+        ensures counted { CountsHits self.old.store (is_in_bounds Q.compare_item (R.bounds keys)) result }
+        ensures others { KeepsMisses self.old.store (is_in_bounds Q.compare_item (R.bounds keys))
             self.new.store }
         ensures memory { self.new.memory ≡ self.old.memory }
         ensures room { room self.new ≡ room self.old }
         ensures count { live_count self.new.store ≡ live_count self.old.store }
     {
-        self.map.modify_range_by::<Here, Q, R, F>(range, f)
+        self.map.modify_range_by::<Here, Q, R, F>(keys, f)
     }
 }

@@ -96,7 +96,7 @@ impl MapBTreeTable {
     }
 
     // The cursor at a gap of a leaf, if the table has that gap.
-    fn cursor_in(&self, leaf: &Descent, place: usize) -> Option<Cursor<'_>>
+    pub(super) fn cursor_in(&self, leaf: &Descent, place: usize) -> Option<Cursor<'_>>
         ensures stands { IfSome result (Stands self.now.root self.now.height) }
         ensures place { IfSome result
             (λ cursor. gap_of self.now.root self.now.height cursor ≡ gap_behind self.now leaf.now place) }

@@ -8,7 +8,8 @@ pub loop-table-preserved : goal.loop-table-preserved
 loop-table-preserved c =
     let more = take_more c.args.tables.now c.loop-table.table-index c.table-item.result (omega arith) in
     record {
-      clones = rw (more, c.push_reserved.ensures.items, ← c.table-item.is) (AllZip-push SameFiled _ _ _ _ c.loop-table.invariant.clones c.in_ok-clone.ensures.cases);
+      clones = rw (more, c.push_reserved.ensures.items, ← c.table-item.is)
+          (AllZip-push SameFiled _ _ _ _ c.loop-table.invariant.clones c.in_ok-clone.ensures.cases);
       pushed = omega arith;
       room = omega arith;
     }

@@ -9,7 +9,8 @@ insert_one-requires-clause-way c =
     let lt : i < length old = search rules in
     let d = c.index_mut.result.now in
     let same : d ≡ get_or old i d = c.index_mut.ensures.value ∙ c.loop-i.invariant.left i d (le_refl i) in
-    subst (λ z. LeadsToGap z (get_or c.args.ways.now i (record { places = []; level = 0 }))) (sym same) (c.requires.ways.at i d (record { places = []; level = 0 }) lt)
+    subst (λ z. LeadsToGap z (get_or c.args.ways.now i (record { places = []; level = 0 }))) (sym same)
+    (c.requires.ways.at i d (record { places = []; level = 0 }) lt)
 
 pub insert_one-requires-clause-absent : goal.insert_one-requires-clause-absent
 insert_one-requires-clause-absent c =

@@ -16,8 +16,12 @@ loop-i-preserved c k t way lt =
           let within : i < length tables = search rules in
           let few : i < length ways = (let long = c.requires in omega arith) in
           let none : Way = (record { places = []; level = 0 }) in
-          let table : c.index-tables-i.result ≡ get_or tables i t = c.index-tables-i.is ∙ get_or_default tables i c.index-tables-i.result t within in
-          let here : LeadsToGap c.index-tables-i.result (get_or ways i none) = rw (c.descent.ensures, c.place.ensures) at c.in-Some.ensures.leaf in
-          let there : LeadsToGap (get_or tables i t) (get_or ways i way) = subst (λ z. LeadsToGap z (get_or ways i way)) table (subst (λ z. LeadsToGap c.index-tables-i.result z) (get_or_default ways i none way few) here) in
+          let table : c.index-tables-i.result ≡ get_or tables i t =
+          c.index-tables-i.is ∙ get_or_default tables i c.index-tables-i.result t within in
+          let here : LeadsToGap c.index-tables-i.result (get_or ways i none) =
+          rw (c.descent.ensures, c.place.ensures) at c.in-Some.ensures.leaf in
+          let there : LeadsToGap (get_or tables i t) (get_or ways i way) = subst (λ z.
+          LeadsToGap z (get_or ways i way)) table
+          (subst (λ z. LeadsToGap c.index-tables-i.result z) (get_or_default ways i none way few) here) in
           subst (λ z. LeadsToGap (get_or tables z t) (get_or ways z way)) same there)
     ]

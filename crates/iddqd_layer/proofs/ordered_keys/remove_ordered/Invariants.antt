@@ -3,4 +3,5 @@ use Rattle.iddqd_layer.proofs.LoopLemmas.{Halfway}
 use Rattle.iddqd_layer.proofs.ordered_keys.remove_ordered.Given as goal
 
 abbrev pub invariant-loop-i : goal.invariant-loop-i
-invariant-loop-i l = Halfway (λ k old new. IsTakenOut l.ix old new × SameCapacity old new) l.i l.fn.tables.items l.tables.items
+invariant-loop-i l = Halfway (λ k old new. IsTakenOut l.ix old new × SameCapacity old new) l.i l.fn.tables.items
+    l.tables.items

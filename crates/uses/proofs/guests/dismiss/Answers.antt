@@ -1,8 +1,7 @@
 use Rattle.std.proofs.Common.{rules, ◌≡◌, ◌+◌, ◌≤◌, length, nat_le, vec_len, vec_capacity, refl, arith}
-use Rattle.iddqd_keyed.specs.LiveItems.{live_items}
+use Rattle.iddqd_maps.specs.LiveItems.{live_items}
 use Rattle.iddqd_keyed.proofs.LiveItemLemmas.{length-items_in}
-use Rattle.iddqd_keyed.proofs.RetainLemmas.{AsksInTurn-to_come}
-use Rattle.iddqd_maps.proofs.CallerLemmas.{RetainsTo-tested}
+use Rattle.iddqd_maps.proofs.CallerLemmas.{AsksInTurn-to_come, RetainsTo-tested}
 use Rattle.uses.specs.declared.guests.Guest.{Guest}
 use Rattle.uses.proofs.guests.dismiss.Goals as goal
 
@@ -15,8 +14,8 @@ retain-requires c = λ _.
     let pushed : vec_len t.0.now ≡ vec_len s.0.now + 1 = search rules in
     let same : vec_capacity t.0.now ≡ vec_capacity s.0.now = search rules in
     omega (arith, i, pushed, same))
-    (live_items c.args.guests.now.state.store) _
-    (omega (arith, c.requires, length-items_in c.args.guests.now.state.store.items))
+    (live_items c.args.guests.now.store) _
+    (omega (arith, c.requires, length-items_in c.args.guests.now.store.items))
 
 pub returns-clause-stay : goal.returns-clause-stay
 returns-clause-stay c =

@@ -1,39 +1,68 @@
-use Rattle.std.proofs.Common.{◌≡◌, ◌<◌, Some, Contains, length, get_or, refl, sym, ap, subst, arith}
-use Rattle.iddqd_hash.specs.HashTable as hash_table
-use Rattle.iddqd_order.specs.MapBTreeTable as order_table
-use Rattle.iddqd.specs.Store.{get, removed}
+use Rattle.std.proofs.Common.{◌≡◌, ◌+◌, ◌≤◌, Some, sym, ap, subst, arith}
+use Rattle.iddqd.specs.Store.{get, live_count, removed}
+use Rattle.iddqd.proofs.LiveCountLemmas.{live_count-removed}
 use Rattle.iddqd.proofs.StoreLemmas.{IsValid-removed}
-use Rattle.iddqd_order.specs.MapBTreeTable.{order_of}
-use Rattle.iddqd_order.proofs.MoveLemmas.{without-fewer}
-use Rattle.iddqd_layer.specs.Layer.{FitsItsMemory}
-use Rattle.iddqd_layer.proofs.LayerLemmas.{hashed-removed, least-above, ordered-removed, paired}
+use Rattle.iddqd_layer.specs.Layer.{Layer, FitsItsMemory, IsPaired, room}
+use Rattle.iddqd_layer.proofs.LayerLemmas.{hashed-removed, ordered-removed, paired}
+use Rattle.iddqd_layer.proofs.RoomLemmas.{fits-held, freed-kept, room-freed, room-held, same-kept}
+use Rattle.iddqd_layer.proofs.layer.Layer.remove.Goals.{After-remove_ordered}
 use Rattle.iddqd_layer.proofs.layer.Layer.remove.Goals as goal
 
-pub invariant_of-self-2 : goal.invariant_of-self-2
-invariant_of-self-2 c =
-    let l = c.self.inside in let s = l.items.store in
-    let live : get s c.args.ix ≡ Some tt = sym c.in-Some.ensures.value in
-    paired _ (removed s c.args.ix) (ap (λ z. z.store) c.in-Some.ensures.removed) (IsValid-removed s c.args.ix tt c.self.invariant.valid live)
-    (hashed-removed s l.hashed.items c.remove_hashed.new.tables.items c.args.ix live c.self.invariant.hashed c.remove_hashed.ensures.removed)
-    (ordered-removed s l.ordered.items c.remove_ordered.new.tables.items c.args.ix live c.self.invariant.ordered c.remove_ordered.ensures.removed)
+abbrev was : After-remove_ordered → Layer
+was c = record {
+  slots = c.self.inside.items;
+  hashed = c.self.inside.hashed.items;
+  ordered = c.self.inside.ordered.items;
+}
 
-pub returns-clause-room : goal.returns-clause-room
-returns-clause-room c = λ _ fits.
+abbrev left : After-remove_ordered → Layer
+left c = record {
+  slots = c.remove.new.self;
+  hashed = c.remove_hashed.new.tables.items;
+  ordered = c.remove_ordered.new.tables.items;
+}
+
+live : (c : After-remove_ordered) → get c.self.inside.items.store c.args.ix ≡ Some tt
+live c = sym c.in-Some.ensures.value
+
+left-paired : (c : After-remove_ordered) → IsPaired (left c)
+left-paired c =
     let l = c.self.inside in let s = l.items.store in
-    let live : get s c.args.ix ≡ Some tt = sym c.in-Some.ensures.value in
-    let fits-it : FitsItsMemory (record { slots = l.items; hashed = l.hashed.items; ordered = l.ordered.items }) =
-    subst FitsItsMemory (sym c.self.view_is) fits in
+    paired _ (removed s c.args.ix) (ap (λ z. z.store) c.in-Some.ensures.removed)
+    (IsValid-removed s c.args.ix tt c.self.invariant.valid (live c))
+    (hashed-removed s l.hashed.items c.remove_hashed.new.tables.items c.args.ix (live c) c.self.invariant.hashed
+    c.remove_hashed.ensures.removed)
+    (ordered-removed s l.ordered.items c.remove_ordered.new.tables.items c.args.ix (live c) c.self.invariant.ordered
+    c.remove_ordered.ensures.removed)
+
+fewer : (c : After-remove_ordered) → live_count c.self.inside.items.store ≡ live_count c.remove.new.self.store + 1
+fewer c =
+    let s = c.self.inside.items.store in
+    let left = ap (λ z. live_count z.store) c.in-Some.ensures.removed in
+    let one = live_count-removed s c.args.ix tt c.self.invariant.valid (live c) in
+    omega arith
+
+pub invariant_of-self-2 : goal.invariant_of-self-2
+invariant_of-self-2 c = left-paired c
+
+pub returns-clause-freed : goal.returns-clause-freed
+returns-clause-freed c = λ _ fits.
+    subst (λ z. room (left c) ≡ room z + 1) c.self.view_is
+    (room-freed (was c) (left c) c.self.invariant (left-paired c) (fewer c)
+    (subst FitsItsMemory (sym c.self.view_is) fits)
+    c.in-Some.ensures.room c.remove_hashed.ensures.room c.remove_ordered.ensures.memory)
+
+pub returns-clause-room_kept : goal.returns-clause-room_kept
+returns-clause-room_kept c =
+    let less = fewer c in
     let more = c.in-Some.ensures.room in
-    let h = c.remove_hashed.ensures.room in let o = c.remove_ordered.ensures in
-    let hashes = h.long in let orders = o.removed.long in
-    least-above hash_table.room 1 _ c.remove_hashed.new.tables.items
-    (least-above order_table.room 1 _ c.remove_ordered.new.tables.items (omega arith) (λ k a lt.
-    let within : k < length l.ordered.items = omega arith in
-    let was = order_of (get_or l.ordered.items k a) in
-    let held : Contains was c.args.ix = ((c.self.invariant.ordered k a within).each c.args.ix).1 (rw live refl) in
-    let fewer = without-fewer was c.args.ix held in
-    let left = ap length (o.removed.at k a a within) in
-    let same = o.memory.at k a a within in
-    let fit = fits-it k a within in
-    omega arith))
-    (λ k a lt. h.at k a a (omega arith))
+    subst (λ z. room z ≤ room (left c)) c.self.view_is
+    (room-held (was c) (left c) c.self.invariant (left-paired c) (omega arith) (omega arith)
+    (freed-kept _ _ c.remove_hashed.ensures.room) (same-kept _ _ c.remove_ordered.ensures.memory))
+
+pub returns-clause-fits : goal.returns-clause-fits
+returns-clause-fits c =
+    let less = fewer c in
+    subst (λ z. FitsItsMemory z → FitsItsMemory (left c)) c.self.view_is
+    (fits-held (was c) (left c) c.self.invariant (left-paired c) (omega arith)
+    (same-kept _ _ c.remove_ordered.ensures.memory))

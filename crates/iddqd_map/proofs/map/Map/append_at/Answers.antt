@@ -29,8 +29,7 @@ returns-in-Some-take_out g c =
     let one : Some c.in-Some-take_out.item ≡ Some item = c.in-Some-take_out.ensures.value ∙ sym c.in-Some.ensures in
     let same : c.in-Some-take_out.item ≡ item = cc in
     rw (← c.self.view_is, ← c.other.view_is)
-    (AppendsItem-moved g.X.KeyIndex.alike g.X.KeyIndex.grown c.args.ix item _ _ _ _ (sym c.in-Some.ensures) (
-      c.in-Ok.next,
+    (AppendsItem-moved g.X.KeyIndex.alike g.X.KeyIndex.grown c.args.ix item _ _ _ _ (sym c.in-Some.ensures) c.in-Ok.next (
       record {
         no_conflict = did.prepares.no_conflict;
         not_full = did.prepares.not_full;

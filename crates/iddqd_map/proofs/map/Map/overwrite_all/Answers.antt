@@ -1,6 +1,6 @@
 use Rattle.std.proofs.Common.{sym, subst}
 use Rattle.iddqd_map.specs.BulkOverwrite.{CanDisplace, HandsOver, OverwritesUntil}
-use Rattle.iddqd_map.specs.Ranges.{GivesItem}
+use Rattle.iddqd_map.specs.Sweep.{GivesPair}
 use Rattle.iddqd_map.proofs.DisplaceLemmas.{HandsOver-until, MayDisplace-can}
 use Rattle.iddqd_map.proofs.map.Map.overwrite_all.Goals as goal
 
@@ -54,7 +54,7 @@ returns-in-Some-clause-overwrites g c =
 pub returns-in-None-clause-handed : goal.returns-in-None-clause-handed
 returns-in-None-clause-handed g c =
     let (items, displaced, counted, until, handed) = c.overwrite_each-inserted.ensures.overwrites in
-    let give = GivesItem g.G.FnMut in
+    let give = GivesPair g.G.FnMut in
     let last = c.overwrite_each-inserted.new.gone in
     let old = c.args.self.now in
     let new = c.overwrite_each-inserted.new.self in (
@@ -69,7 +69,7 @@ returns-in-None-clause-handed g c =
 pub returns-in-Some-clause-handed : goal.returns-in-Some-clause-handed
 returns-in-Some-clause-handed g c =
     let (items, displaced, counted, until, handed) = c.overwrite_each-inserted.ensures.overwrites in
-    let give = GivesItem g.G.FnMut in
+    let give = GivesPair g.G.FnMut in
     let last = c.overwrite_each-inserted.new.gone in
     let old = c.args.self.now in
     let new = c.overwrite_each-inserted.new.self in (

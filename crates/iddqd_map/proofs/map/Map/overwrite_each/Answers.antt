@@ -1,6 +1,6 @@
 use Rattle.std.proofs.Common.{subst}
 use Rattle.iddqd_map.specs.BulkOverwrite.{Displaces}
-use Rattle.iddqd_map.specs.Ranges.{GivesItem}
+use Rattle.iddqd_map.specs.Sweep.{GivesPair}
 use Rattle.iddqd_map.proofs.DisplaceLemmas.{Overwriting-first, Overwriting-one, can-stored}
 use Rattle.iddqd_map.proofs.map.Map.overwrite_each.Goals as goal
 
@@ -22,7 +22,7 @@ loop-answer-preserved g c =
     let last = c.overwrite_next.new.gone in
     let alike = g.X.KeyIndex.alike in
     let grown = g.X.KeyIndex.grown in
-    let (more, at, given) = subst (λ a. Displaces alike grown g.X.KeyIndex.may_need_memory (GivesItem g.G.FnMut) now c.loop-answer.gone item a new last) c.in_default-answer.is did in
+    let (more, at, given) = subst (λ a. Displaces alike grown g.X.KeyIndex.may_need_memory (GivesPair g.G.FnMut) now c.loop-answer.gone item a new last) c.in_default-answer.is did in
     Overwriting-one g.I.Iterator.can_next g.I.Iterator.next_gives g.I.Iterator.remaining g.G.FnMut alike grown
     c.args.iter.now c.loop-answer.iter c.overwrite_next.new.iter c.args.self.now now c.args.gone.now c.loop-answer.gone
     c.loop-answer.inserted item c.loop-answer.invariant step goes c.in_default-answer.field-0 new last more at given

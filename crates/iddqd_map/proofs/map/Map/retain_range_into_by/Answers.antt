@@ -11,12 +11,12 @@ use Rattle.iddqd_map.proofs.map.Map.retain_range_into_by.Goals as goal
 pub retain_counted-requires-clause-can_ask : goal.retain_counted-requires-clause-can_ask
 retain_counted-requires-clause-can_ask g c =
     let within = is_in_bounds g.X.OrderedAt.compare (g.R.IntoBounds.bounds c.args.range) in
-    rw (← c.self.view_is, ← c.into_bounds-bounds.ensures) at (MayAskWithin-asks g.X.OrderedAt.order within (TakesAt g.F.FnMut) (CalledAt g.F.FnMut) c.args.keep c.args.self.now.store c.requires.asked)
+    rw (← c.self.view_is, ← c.into_bounds-bounds.ensures) at (MayAskWithin-asks g.X.OrderedAt.order within (TakesAt g.F.FnMut) (CalledAt g.F.FnMut) c.args.f c.args.self.now.store c.requires.asked)
 
 pub retain_counted-requires-clause-can_give : goal.retain_counted-requires-clause-can_give
 retain_counted-requires-clause-can_give g c =
     let within = is_in_bounds g.X.OrderedAt.compare (g.R.IntoBounds.bounds c.args.range) in
-    rw (← c.self.view_is, ← c.into_bounds-bounds.ensures) at (MayAskWithin-asks g.X.OrderedAt.order within (TakesItem g.G.FnMut) (GivesIfRefused g.G.FnMut) c.args.gone c.args.self.now.store c.requires.given)
+    rw (← c.self.view_is, ← c.into_bounds-bounds.ensures) at (MayAskWithin-asks g.X.OrderedAt.order within (TakesItem g.G.FnMut) (GivesIfRefused g.G.FnMut) c.args.g c.args.self.now.store c.requires.given)
 
 pub returns-clause-asked : goal.returns-clause-asked
 returns-clause-asked g c =
@@ -25,7 +25,7 @@ returns-clause-asked g c =
     let now = c.retain_counted.new.items.store in
     let last : _ × _ = (c.retain_counted.new.keep, c.retain_counted.new.gone) in
     rw (← c.self.view_is, ← c.into_bounds-bounds.ensures)
-    (last.0, RetainsWithin-asked (CalledAt g.F.FnMut) g.G.FnMut g.X.OrderedAt.order within c.args.keep c.args.gone s now last c.retain_counted.ensures.asked)
+    (last.0, RetainsWithin-asked (CalledAt g.F.FnMut) g.G.FnMut g.X.OrderedAt.order within c.args.f c.args.g s now last c.retain_counted.ensures.asked)
 
 pub returns-clause-given : goal.returns-clause-given
 returns-clause-given g c =
@@ -34,7 +34,7 @@ returns-clause-given g c =
     let now = c.retain_counted.new.items.store in
     let last : _ × _ = (c.retain_counted.new.keep, c.retain_counted.new.gone) in
     rw (← c.self.view_is, ← c.into_bounds-bounds.ensures)
-    (GivesRefusedWithin-both (CalledAt g.F.FnMut) g.G.FnMut g.X.OrderedAt.order within c.args.keep c.args.gone s now last c.retain_counted.ensures.asked)
+    (GivesRefusedWithin-both (CalledAt g.F.FnMut) g.G.FnMut g.X.OrderedAt.order within c.args.f c.args.g s now last c.retain_counted.ensures.asked)
 
 pub returns-clause-memory : goal.returns-clause-memory
 returns-clause-memory g c =

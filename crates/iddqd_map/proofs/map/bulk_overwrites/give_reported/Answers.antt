@@ -1,11 +1,11 @@
-use Rattle.std.proofs.Common.{rules, Bool, true, ◌≡◌, ◌∙◌, None, Some, refl, sym, ap, arith}
+use Rattle.std.proofs.Common.{rules, true, ◌≡◌, ◌∙◌, None, Some, refl, sym, ap, arith}
 use Rattle.iddqd.specs.ItemSet.{SizedStore}
 use Rattle.iddqd.specs.LiveItems.{live_items}
 use Rattle.iddqd.specs.Store.{get, live_count}
 use Rattle.iddqd.proofs.LiveCountLemmas.{live_count-removed}
 use Rattle.iddqd.proofs.LiveLemmas.{item_at}
 use Rattle.iddqd_hash.proofs.AskLemmas.{CanAsk-asked, CanAsk-takes}
-use Rattle.iddqd_map.specs.Ranges.{GivesItem, TakesItem}
+use Rattle.iddqd_map.specs.BulkOverwrite.{GivesSomewhere, TakesAnywhere}
 use Rattle.iddqd_map.proofs.DisplaceLemmas.{Displacing-next, Displacing-none, GivesReported-all, displaced_live, displaced_room, displaced_was}
 use Rattle.iddqd_map.proofs.OverwriteLemmas.{no_next}
 use Rattle.iddqd_map.proofs.RetainLemmas.{Contains-live}
@@ -22,17 +22,17 @@ loop-next-init g c = record {
   cells = refl;
 }
 
-pub give_out-requires-clause-live : goal.give_out-requires-clause-live
-give_out-requires-clause-live g c =
+pub give_entry-requires-clause-live : goal.give_entry-requires-clause-live
+give_entry-requires-clause-live g c =
     displaced_live _ _ _ _ _ _ _ _ c.loop-next.invariant.displacing c.in-Some.ix c.in-Some.is c.requires.live
 
-pub give_out-requires-clause-given : goal.give_out-requires-clause-given
-give_out-requires-clause-given g c = λ item live.
+pub give_entry-requires-clause-given : goal.give_entry-requires-clause-given
+give_entry-requires-clause-given g c = λ item live.
     let old = c.args.items.now.store in
     let i = c.loop-next.invariant in
     let was : get old c.in-Some.ix ≡ Some item = sym (displaced_was _ _ _ _ _ _ _ _ i.displacing c.in-Some.ix c.in-Some.is) ∙ live in
-    CanAsk-takes (TakesItem g.G.FnMut) (λ p x (b : Bool) q. GivesItem g.G.FnMut p x q) c.loop-next.gone (live_items old) item i.can
-    (Contains-live old c.in-Some.ix item was)
+    CanAsk-takes (TakesAnywhere g.G.FnMut) (GivesSomewhere g.G.FnMut) c.loop-next.gone (live_items old) item i.can
+    (Contains-live old c.in-Some.ix item was) c.in-Some.ix
 
 pub loop-next-smaller : goal.loop-next-smaller
 loop-next-smaller g c =
@@ -40,7 +40,7 @@ loop-next-smaller g c =
     let s = c.loop-next.items.store in
     let ix = c.in-Some.ix in
     let (item, live) = item_at s ix (displaced_live _ _ _ _ _ _ _ _ i.displacing ix c.in-Some.is c.requires.live) in
-    let gone = ap (λ (z : SizedStore _). live_count z.store) c.give_out.ensures.removed in
+    let gone = ap (λ (z : SizedStore _). live_count z.store) c.give_entry.ensures.removed in
     omega (arith, live_count-removed s ix item i.map.valid live, gone)
 
 pub loop-next-preserved : goal.loop-next-preserved
@@ -49,18 +49,18 @@ loop-next-preserved g c =
     let old = c.args.items.now.store in
     let s = c.loop-next.items.store in
     let ix = c.in-Some.ix in
-    let did = c.give_out.ensures in
+    let did = c.give_entry.ensures in
     let (item, live) = item_at s ix (displaced_live _ _ _ _ _ _ _ _ i.displacing ix c.in-Some.is c.requires.live) in
     let was : get old ix ≡ Some item = sym (displaced_was _ _ _ _ _ _ _ _ i.displacing ix c.in-Some.is) ∙ live in
     let gives = did.given item live in
     record {
       map = did.map;
       can =
-          CanAsk-asked (TakesItem g.G.FnMut) (λ p x (b : Bool) q. GivesItem g.G.FnMut p x q) c.loop-next.gone (live_items old) item
-          true c.give_out.new.gone i.can (Contains-live old ix item was) gives;
+          CanAsk-asked (TakesAnywhere g.G.FnMut) (GivesSomewhere g.G.FnMut) c.loop-next.gone (live_items old) item
+          true c.give_entry.new.gone i.can (Contains-live old ix item was) (ix, gives);
       enough = λ blocks enough. did.enough blocks (i.enough blocks enough);
       displacing =
-          Displacing-next _ _ _ _ _ _ _ _ i.displacing ix item c.give_out.new.gone _ _ _ c.in-Some.is
+          Displacing-next _ _ _ _ _ _ _ _ i.displacing ix item c.give_entry.new.gone _ _ _ c.in-Some.is
           c.next_reported-next.ensures.next live gives (ap (λ (z : SizedStore _). z.store) did.removed)
           (omega (arith, did.items_room), λ plan blocks enough. did.roomy plan blocks (i.enough blocks enough));
       slots = ap (λ (z : SizedStore _). z.capacity) did.removed ∙ i.slots;

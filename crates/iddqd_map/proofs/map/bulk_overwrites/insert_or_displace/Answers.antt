@@ -1,8 +1,8 @@
-use Rattle.std.proofs.Common.{Bool, [], refl, sym, subst}
+use Rattle.std.proofs.Common.{[], refl, sym, subst}
 use Rattle.iddqd.specs.LiveItems.{live_items}
 use Rattle.iddqd_hash.specs.Asks.{CanAsk}
 use Rattle.iddqd_map.specs.Map.{MapState, map_with}
-use Rattle.iddqd_map.specs.Ranges.{GivesItem, TakesItem}
+use Rattle.iddqd_map.specs.BulkOverwrite.{GivesSomewhere, TakesAnywhere}
 use Rattle.iddqd_map.proofs.DisplaceLemmas.{DisplacesAt-none}
 use Rattle.iddqd_map.proofs.map.bulk_overwrites.insert_or_displace.Goals as goal
 
@@ -15,5 +15,5 @@ returns-in-Ok-clause-displaces g c =
 pub displace-requires-clause-can_give : goal.displace-requires-clause-can_give
 displace-requires-clause-can_give g c =
     let (given_back, reported, unchanged) = rw c.in-Err-Duplicate.field-0-is at c.in-Err-Duplicate.ensures.inserts in
-    subst (λ (m : MapState _). CanAsk (TakesItem g.G.FnMut) (λ p x (b : Bool) q. GivesItem g.G.FnMut p x q) c.args.gone.now (live_items m.store))
+    subst (λ (m : MapState _). CanAsk (TakesAnywhere g.G.FnMut) (GivesSomewhere g.G.FnMut) c.args.gone.now (live_items m.store))
     (sym unchanged) c.requires.can_give

@@ -1,5 +1,6 @@
-use Rattle.std.proofs.Common.{rules, ◌≡◌, ◌∙◌, ◌<◌, length, None, refl, ap, arith}
+use Rattle.std.proofs.Common.{rules, ◌≡◌, ◌∙◌, ◌<◌, length, Some, None, refl, sym, ap, arith}
 use Rattle.iddqd.specs.ItemSet.{SizedStore}
+use Rattle.iddqd.specs.Store.{get}
 use Rattle.iddqd_map.proofs.OverwriteLemmas.{Taking-none, Taking-next, TakesAll-done, next_live, next_fits, no_next, place_vacant, places_left, taking_at}
 use Rattle.iddqd_map.proofs.map.overwrites.remove_reported.Goals as goal
 
@@ -16,8 +17,8 @@ loop-next-init g c = record {
   cells = refl;
 }
 
-pub take_out-taken-requires-clause-live : goal.take_out-taken-requires-clause-live
-take_out-taken-requires-clause-live g c =
+pub take_out-requires-clause-live : goal.take_out-requires-clause-live
+take_out-requires-clause-live g c =
     next_live _ _ c.args.items.now.store _ _ c.in-Some.ix _ (taking_at c.in-Some.is c.loop-next.invariant.taking) c.requires.live
 
 pub put_into-requires-clause-within : goal.put_into-requires-clause-within
@@ -42,14 +43,16 @@ loop-next-smaller g c =
 pub loop-next-preserved : goal.loop-next-preserved
 loop-next-preserved g c =
     let i = c.loop-next.invariant in
-    let took = c.take_out-taken.ensures in
+    let took = c.take_out.ensures in
+    let live : get c.loop-next.items.store c.in-Some.ix ≡ Some c.in-Some-take_out.item = sym took.value ∙ c.in-Some-take_out.is in
     let t = taking_at c.in-Some.is i.taking in
     let fits = next_fits _ _ c.args.items.now.store _ _ c.in-Some.ix _ (g.X.KeyIndex.unique_keys) t c.requires.few in
     let within : c.loop-next.count < length c.args.places.now = omega (arith, fits, c.requires.enough) in
     record {
       map = took.map;
       enough = λ blocks enough. took.enough blocks (i.enough blocks enough);
-      taking = Taking-next _ _ c.args.items.now.store _ _ _ _ c.in-Some.ix _ _ _ t within c.next_reported-next.ensures.next took.value c.put_into.ensures (ap (λ (s : SizedStore _). s.store) took.removed);
+      taking = Taking-next _ _ c.args.items.now.store _ _ _ _ c.in-Some.ix _ _ _ t within c.next_reported-next.ensures.next live
+          c.put_into.ensures (ap (λ (s : SizedStore _). s.store) took.removed);
       within = omega (arith, within);
       slots = ap (λ (s : SizedStore _). s.capacity) took.removed ∙ i.slots;
       room = let r = i.room in let more = took.items_room in omega (arith, r, more);
