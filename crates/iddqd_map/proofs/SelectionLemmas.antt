@@ -7,7 +7,9 @@ use Rattle.std.proofs.lemmas.Bool.{cases_lt}
 use Rattle.std.proofs.lemmas.Cmp.{ranked}
 use Rattle.std.specs.Cmp.{nat_cmp_is}
 use Rattle.std.specs.Ordering.{is_eq, is_lt, nat_cmp, ordering_reverse, ordering_then}
+use Rattle.std.specs.Range.Bound.{bound_map}
 use Rattle.std.specs.declared.cmp.Ordering.TheVariants.{Less, Equal, Greater}
+use Rattle.std.specs.declared.ops.Bound.TheVariants.{Included}
 use Rattle.iddqd.specs.LiveItems.{live_pairs, pairs_from}
 use Rattle.iddqd.specs.Reads.{IsNextLive}
 use Rattle.iddqd.specs.Store.{Store, get, removed}
@@ -15,10 +17,12 @@ use Rattle.iddqd.proofs.LiveItemLemmas.{IsWalkOf-live_pairs}
 use Rattle.iddqd.proofs.LiveLemmas.{item_at, live_at, none_not_live}
 use Rattle.iddqd.proofs.StoreLemmas.{contains_head, contains_tail, contains_cases, contains_none}
 use Rattle.iddqd_hash.proofs.FiledLemmas.{same_index}
+use Rattle.iddqd_keys.specs.Bounds.{is_in_bounds}
+use Rattle.iddqd_keys.specs.OrderedQuery.{FitsOrder, is_between, is_equal, is_up_to}
 use Rattle.iddqd_keys.specs.KeyWalk.{by_key_then_index, ComesBefore, IsFirstHit, IsInPlace, IsNextHit, SortsWithin}
 use Rattle.iddqd_keys.specs.Scan.{IsHit, itself}
-use Rattle.iddqd_keys.proofs.KeyWalkLemmas.{in_front, none_placed, put_in_front, totals}
-use Rattle.iddqd_keys.proofs.NextLemmas.{IsFrom, SortsFrom, SortsFrom-none, SortsFrom-removed, SortsWithin-from, both, compares_live, from_behind, from_later, next_hits, next_still, not_before_itself}
+use Rattle.iddqd_keys.proofs.KeyWalkLemmas.{between_equal, in_front, none_placed, put_in_front, totals}
+use Rattle.iddqd_keys.proofs.NextLemmas.{IsFrom, IsNextHit-between, SortsFrom, SortsFrom-none, SortsFrom-removed, SortsWithin-from, both, compares_live, from_behind, from_later, next_hits, next_still, not_before_itself}
 use Rattle.iddqd_keys.proofs.SortedLemmas.{sorted_once}
 use Rattle.iddqd_map.specs.Groups.{AreHits, listed_from}
 use Rattle.iddqd_map.specs.Selection.{hits_behind, live_behind, live_indexes, put_in, sorted_by}
@@ -262,6 +266,28 @@ module _
         (SortsFrom-removed itself compare total s within ix next is (listed_from (hits_behind compare within (removed s ix)) next) item live
         (SortsFrom-listed compare total (removed s ix) within next
         (next_still itself compare total s within ix next is (listed_from (hits_behind compare within (removed s ix)) next) item live)))
+
+-- the steps between a query and itself are those over what compares Equal with it
+module _
+    {Q T : Type 0} (order : T → T → Ordering) (compare : Q → T → Ordering) (fits : (q : Q) → FitsOrder order (compare q))
+    (s : Store T) (q : Q)
+  where
+    pub first-equal :
+        (first : Option ℕ)
+        → IsFirstHit itself order s (is_in_bounds compare (record { lower = Included q; upper = Included q })) first
+        → IsFirstHit itself order s (is_equal (compare q)) first
+    first-equal first is = subst (λ test. IsFirstHit itself order s test first) (between_equal (compare q)) is
+
+    pub next-equal :
+        (ix : ℕ) (next : Option ℕ)
+        → IsHit s (is_equal (compare q)) ix
+        → IsNextHit itself order s (is_up_to (bound_map compare (Included q))) ix next
+        → IsNextHit itself order s (is_equal (compare q)) ix next
+    next-equal ix next hit is =
+        let between : IsHit s (is_between (Included (compare q)) (Included (compare q))) ix =
+        subst (λ test. IsHit s test ix) (sym (between_equal (compare q))) hit in
+        subst (λ test. IsNextHit itself order s test ix next) (between_equal (compare q))
+        (IsNextHit-between itself order compare fits s ix (Included q) (Included q) next between is)
 
 -- the steps over all items, by index alone
 module _ {T : Type 0} (s : Store T) where

@@ -10,9 +10,9 @@ ghost use Rattle.std.specs.Prelude.{◌≡◌, ◌+◌, true, IfSome};
 ghost use Rattle.std.specs.Option.{option_map};
 ghost use Rattle.iddqd.specs.{removed};
 ghost use Rattle.iddqd.specs.Reads.{IsNextLive};
-ghost use Rattle.std.specs.declared.ops.Bound.TheVariants.{Included};
 ghost use Rattle.iddqd_keys.specs.KeyWalk.{SortsWithin};
 ghost use Rattle.iddqd_keys.specs.Bounds.{is_in_bounds};
+ghost use Rattle.iddqd_keys.specs.OrderedQuery.{is_equal};
 ghost use Rattle.iddqd_keys.specs.Scan.{IsHit, itself};
 ghost use Rattle.iddqd_map.specs.Groups.{AreHits, listed_from};
 ghost use Rattle.iddqd_map.specs.Selection.{hits_behind, live_behind, live_indexes};
@@ -170,18 +170,6 @@ pub fn within<P, Q, R: IntoBounds<Q>>(range: R) -> KeyRange<P, Q>
     }
 }
 
-/// The items whose keys at the place `P` compare Equal with the query, by index.
-///
-/// Cost: a few steps; takes no memory.
-pub fn equal<P, Q: Copy>(query: Q) -> KeyRange<P, Q>
-    ensures { result.bounds ≡ record { lower = Included query; upper = Included query } }
-{
-    KeyRange {
-        bounds: Bounds::only(query),
-        of: PhantomData,
-    }
-}
-
 impl<P, Q, T, X, S> Selection<T, X, S> for KeyRange<P, Q>
 where
     Q: Drop,
@@ -229,9 +217,77 @@ where
     }
 }
 
+/// The items whose keys at the place `P` compare Equal with a query, by index.
+#[derive(Drop)]
+pub struct KeyGroup<P, Q> {
+    /// What stands for the key.
+    pub query: Q,
+    of: PhantomData<P>,
+}
+
+/// The items whose keys at the place `P` compare Equal with the query. The query is a `&K`, or another query that fits
+/// the order of such keys.
+///
+/// Cost: a few steps; takes no memory.
+pub fn equal<P, Q>(query: Q) -> KeyGroup<P, Q>
+    ensures { result.query ≡ query }
+{
+    KeyGroup {
+        query,
+        of: PhantomData,
+    }
+}
+
+impl<P, Q, T, X, S> Selection<T, X, S> for KeyGroup<P, Q>
+where
+    Q: Copy,
+    X: StepsAt<P, Q, T, S>,
+{
+    type Spot = X::Spot;
+
+    ghost selects = { λ which. is_equal (X.OrderedAt.compare which.query) };
+
+    ghost lists = { λ which s indexes.
+        SortsWithin itself X.OrderedAt.order (is_equal (X.OrderedAt.compare which.query)) s indexes };
+
+    ghost stands = { λ which x spot ix. X.StepsAt.stands x spot ix };
+
+    ghost behind = { λ which x s ix.
+        hits_behind X.OrderedAt.order (is_equal (X.OrderedAt.compare which.query)) s ix };
+
+    ghost hits = { λ which s indexes sorted. AreHits-sorted X.OrderedAt.order X.StepsAt.total
+        (is_equal (X.OrderedAt.compare which.query)) s indexes sorted };
+
+    fn first(&self, indexes: &X, items: &ItemSet<T>, state: &S) -> Option<(ItemIndex, X::Spot)> {
+        indexes.first_between(items, state, &Bounds::only(self.query))
+    }
+
+    fn next(
+        &self,
+        indexes: &X,
+        items: &ItemSet<T>,
+        state: &S,
+        spot: &mut X::Spot,
+        ix: ItemIndex,
+    ) -> Option<ItemIndex> {
+        indexes.next_between(items, state, spot, ix, &Bounds::only(self.query))
+    }
+
+    fn take(
+        &self,
+        indexes: &mut X,
+        items: &ItemSet<T>,
+        state: &S,
+        spot: &mut X::Spot,
+        ix: ItemIndex,
+    ) -> Option<ItemIndex> {
+        indexes.take_between(items, state, spot, ix, &Bounds::only(self.query))
+    }
+}
+
 /// The items that have a key by its hash which several items may have, in no particular order.
 #[derive(Drop)]
-pub struct Group<P, Q> {
+pub struct HashGroup<P, Q> {
     /// What stands for the key.
     pub query: Q,
     of: PhantomData<P>,
@@ -241,16 +297,16 @@ pub struct Group<P, Q> {
 /// stands for such a key.
 ///
 /// Cost: a few steps; takes no memory.
-pub fn having<P, Q>(query: Q) -> Group<P, Q>
+pub fn having<P, Q>(query: Q) -> HashGroup<P, Q>
     ensures { result.query ≡ query }
 {
-    Group {
+    HashGroup {
         query,
         of: PhantomData,
     }
 }
 
-impl<P, Q, T, X, S> Selection<T, X, S> for Group<P, Q>
+impl<P, Q, T, X, S> Selection<T, X, S> for HashGroup<P, Q>
 where
     Q: Copy,
     X: StepsInGroup<P, Q, T, S>,
