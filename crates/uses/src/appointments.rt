@@ -17,6 +17,7 @@ use iddqd_maps::key_of::KeyOf;
 use iddqd_maps::map::Map;
 use iddqd_maps::ordered_walk::Range;
 use iddqd_maps::refusal::InsertRefusal;
+use iddqd_maps::selection::equal;
 use std::alloc::{AllocError, Global};
 
 /// An appointment. No two are in one room at one time.
@@ -97,7 +98,7 @@ pub fn close_room(appointments: &mut Appointments, room: u32) -> usize
     ensures count { result + live_count appointments.new.store ≡ live_count appointments.old.store }
     ensures memory { appointments.new.memory ≡ appointments.old.memory }
 {
-    appointments.remove_group_by::<Here, _, _>(Prefix(&room), |_appointment| ())
+    appointments.remove_in(equal::<Here, _>(Prefix(&room)), |_ix, _appointment| ())
 }
 
 fn added(appointments: &mut Appointments, room: u32, start: u32) -> bool {

@@ -34,7 +34,7 @@ use crate::ledger::{Customer, Day, Number, Order};
 use iddqd_maps::id_ord_map::Iter;
 use iddqd_maps::ordered_walk::Range;
 use iddqd_maps::ranges_at::RangesAt;
-use iddqd_maps::selection::having;
+use iddqd_maps::selection::{equal, having};
 use iddqd_maps::{
     ByHash, ByHashMulti, ByOrderMulti, Field, GroupItems, Here, InGroups, InOrder, InsertRefusal,
     ItemIndex, Map, OrderedParts, Stopped, StoppedAppend, StoppedOverwrite, btree_table,
@@ -164,7 +164,7 @@ pub fn drop_small(queue: &mut Queue, day: u32, least: u64) -> usize
     ensures count { result + live_count queue.new.store ≡ live_count queue.old.store }
     ensures memory { queue.new.memory ≡ queue.old.memory }
 {
-    queue.retain_group_by::<ByDay, _, _>(&day, |order| order.amount >= least)
+    queue.retain_in(equal::<ByDay, _>(&day), |_ix, order| order.amount >= least)
 }
 
 /// Removes those orders up to a day that come to less than so much, and returns how many they were. It takes no
@@ -206,16 +206,22 @@ pub fn halve_day(queue: &mut Queue, day: u32) -> usize
 }
 
 /// Removes those orders of a day that come to less than so much, and returns how many they were. What the closure gets
-/// are such orders. It takes no memory.
-pub fn hand_on_small<F: FnMut(Order)>(queue: &mut Queue, day: u32, least: u64, gone: F) -> usize
-    requires { (p : F) (order : Order) → TakesItem F.FnMut p order }
+/// are such orders, each with its index. It takes no memory.
+pub fn hand_on_small<F: FnMut(ItemIndex, Order)>(
+    queue: &mut Queue,
+    day: u32,
+    least: u64,
+    gone: F,
+) -> usize
+    requires { (p : F) (pair : ℕ × Order) → TakesPair F.FnMut p pair }
     ensures dropped { Drops (λ order. (order.day ≡ day) × (order.amount < least))
         queue.old.store queue.new.store }
-    ensures handed { IsHandedOnly F.FnMut (λ order. (order.day ≡ day) × (order.amount < least)) gone }
+    ensures handed { IsHandedWithIndexes F.FnMut queue.old.store
+        (λ order. (order.day ≡ day) × (order.amount < least)) gone }
     ensures count { result + live_count queue.new.store ≡ live_count queue.old.store }
     ensures memory { queue.new.memory ≡ queue.old.memory }
 {
-    queue.retain_group_into_by::<ByDay, _, _, _>(&day, |order| order.amount >= least, gone)
+    queue.retain_into_in(equal::<ByDay, _>(&day), |_ix, order| order.amount >= least, gone)
 }
 
 /// Removes those orders up to a day that come to less than so much, and returns how many they were. What the closure

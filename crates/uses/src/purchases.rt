@@ -14,6 +14,7 @@ use iddqd_maps::key_kinds::{Field, Reversed};
 use iddqd_maps::key_of::KeyOf;
 use iddqd_maps::map::Map;
 use iddqd_maps::ordered_walk::Range;
+use iddqd_maps::selection::equal;
 use std::alloc::{AllocError, Global};
 
 /// A purchase. A customer may have many on one day.
@@ -71,7 +72,7 @@ pub fn undo(purchases: &mut Purchases, customer: u32, day: u32) -> usize
     ensures count { result + live_count purchases.new.store ≡ live_count purchases.old.store }
     ensures memory { purchases.new.memory ≡ purchases.old.memory }
 {
-    purchases.remove_group_by::<ByCustomer, _, _>((&customer, &day), |_purchase| ())
+    purchases.remove_in(equal::<ByCustomer, _>((&customer, &day)), |_ix, _purchase| ())
 }
 
 fn newest_day(purchases: &Purchases, customer: u32) -> u32 {

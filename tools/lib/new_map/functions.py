@@ -205,7 +205,7 @@ class Functions:
                        "group_by", [asked(key)])
         self.add_count(key, key.name, given, this, test, "count_by", asked(key))
         self.add_removal(f"of_{key.name}", given, f"with {this}", test,
-                         self.removal_by(key, "remove_group_by", [asked(key)]))
+                         self.removal_in(f"equal::<{self.names.places[key]}, _>({asked(key)})"))
 
     def add_count(self, key, of, given, this, test, call, argument):
         self.add_read(f"How many {self.plural} have {this}.", f"count_of_{of}", given, "usize",
@@ -216,7 +216,7 @@ class Functions:
                       f"IteratesInOrder compare_by_{key.name} {test} {self.map}.now.store result",
                       self.call(key, call, arguments, inferred))
 
-    def removal_by(self, key, call, arguments, inferred=2):
+    def removal_by(self, key, call, arguments, inferred):
         return self.call(key, call, [*arguments, f"|_{self.item}| ()"], inferred)
 
     def removal_in(self, selection):
@@ -231,7 +231,8 @@ class Functions:
                            ("memory", f"{m}.new.memory ≡ {m}.old.memory"),
                        ], call)
         if call[0] == "remove_in":
-            self.proofs[f"remove_{name}"] = proofs.of_selection(self.names, f"remove_{name}", signed(given))
+            self.proofs[f"remove_{name}"] = proofs.of_selection(
+                self.names, f"remove_{name}", call[2][0].partition("::")[0], signed(given))
         else:
             self.prove_signed(f"remove_{name}", given, call[0], "left")
 
@@ -258,7 +259,7 @@ class Functions:
             return
         self.add_count(key, first.name, given, this, test, "count_by", prefix)
         self.add_removal(f"of_{first.name}", given, f"with {this}", test,
-                         self.removal_by(key, "remove_group_by", [prefix]))
+                         self.removal_in(f"equal::<{self.names.places[key]}, _>({prefix})"))
 
     def add_between(self, key):
         *fixed, last = key.fields

@@ -8,6 +8,7 @@ use crate::entry::BySecond;
 use crate::handle::{CTable, put, take};
 use crate::table::Table;
 use iddqd_codes::{HANDLE, OK};
+use iddqd_map::selection::equal;
 use iddqd_ord_map::in_order::InOrder;
 use std::alloc::Global;
 
@@ -83,13 +84,13 @@ fn remove_group(table: &mut Table, second: u64, count: &mut usize) -> u32
         Table::Unique(keyed) => {
             *count = keyed
                 .entries
-                .remove_group_by::<BySecond, _, _>(&second, |_entry| ());
+                .remove_in(equal::<BySecond, _>(&second), |_ix, _entry| ());
             OK
         }
         Table::Shared(keyed) => {
             *count = keyed
                 .entries
-                .remove_group_by::<BySecond, _, _>(&second, |_entry| ());
+                .remove_in(equal::<BySecond, _>(&second), |_ix, _entry| ());
             OK
         }
         Table::Index(_) | Table::Layer(_) => HANDLE,

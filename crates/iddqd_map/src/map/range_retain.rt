@@ -9,7 +9,7 @@ ghost use Rattle.iddqd.specs.{get, live_count, removed};
 ghost use Rattle.std.specs.Range.Bound.{bound_map};
 ghost use Rattle.iddqd_keys.specs.Bounds.{is_in_bounds};
 ghost use Rattle.iddqd_keys.specs.KeyWalk.{IsNextHit};
-ghost use Rattle.iddqd_keys.specs.OrderedQuery.{is_equal, is_up_to};
+ghost use Rattle.iddqd_keys.specs.OrderedQuery.{is_up_to};
 ghost use Rattle.iddqd_keys.specs.Scan.{IsLive};
 ghost use Rattle.iddqd_map.specs.Bulk.{AsksAndGives, GivesIfRefused};
 ghost use Rattle.iddqd_map.specs.KeyIndex.{IsIndexed};
@@ -57,38 +57,6 @@ impl<T, X: KeyIndex<T, S>, S> Map<T, X, S> {
             &mut self.indexes,
             &self.state,
             &bounds,
-            &mut f,
-            &mut |item: T| drop(item),
-        )
-    }
-
-    /// Keeps, of the items that have the key for which the query stands, those at which the closure answers true, and
-    /// returns how many it removed. The closure is called at each of them, by index. Otherwise it behaves as
-    /// `retain_range_by`.
-    ///
-    /// Cost: one search, and for each item a comparison with the upper bound; for each item that goes a removal from
-    /// each other table; takes no memory.
-    ///
-    /// Asks: the closure may be called on these items in turn, once each.
-    pub fn retain_group_by<P, Q, F: FnMut(&T) -> bool>(&mut self, query: Q, mut f: F) -> usize
-    where
-        T: Drop,
-        X: StepsAt<P, Q, T, S>,
-        Q: Copy,
-        requires { MayAskWithin X.order (is_equal (X.compare query)) (TakesAt F.FnMut) (CalledAt F.FnMut) f
-            self.old.store }
-        ensures asked { (last : F) × RetainsWithin X.order (is_equal (X.compare query)) (CalledAt F.FnMut) f
-            self.old.store self.new.store last }
-        ensures others { KeepsMisses self.old.store (is_equal (X.compare query)) self.new.store }
-        ensures memory { self.new.memory ≡ self.old.memory }
-        ensures room { room self.old ≤ room self.new }
-        ensures count { result + live_count self.new.store ≡ live_count self.old.store }
-    {
-        retain_counted::<P, Q, T, S, X, F, _>(
-            &mut self.items,
-            &mut self.indexes,
-            &self.state,
-            &Bounds::only(query),
             &mut f,
             &mut |item: T| drop(item),
         )

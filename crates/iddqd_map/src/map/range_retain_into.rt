@@ -3,7 +3,6 @@ ghost use Rattle.std.specs.Prelude.{◌≡◌, ◌≤◌, ◌+◌};
 ghost use Rattle.std.specs.Fn.{TakesAt, CalledAt};
 ghost use Rattle.iddqd.specs.{live_count};
 ghost use Rattle.iddqd_keys.specs.Bounds.{is_in_bounds};
-ghost use Rattle.iddqd_keys.specs.OrderedQuery.{is_equal};
 ghost use Rattle.iddqd_map.specs.Map.{room};
 ghost use Rattle.iddqd_map.specs.Ranges.{GivesItem};
 ghost use Rattle.iddqd_map.specs.RangeRetain.{GivesRefusedWithin, KeepsMisses, MayAskWithin, MayGiveSomeWithin, RetainsWithin};
@@ -11,7 +10,7 @@ ghost use Rattle.iddqd_map.specs.RangeRetain.{GivesRefusedWithin, KeepsMisses, M
 use super::Map;
 use super::range_retain::retain_counted;
 use crate::key_index::{KeyIndex, StepsAt};
-use iddqd_keys::bounds::{Bounds, IntoBounds};
+use iddqd_keys::bounds::IntoBounds;
 
 impl<T, X: KeyIndex<T, S>, S> Map<T, X, S> {
     /// Keeps, of the items whose keys at the place are within the bounds, those at which the first closure answers
@@ -57,38 +56,5 @@ impl<T, X: KeyIndex<T, S>, S> Map<T, X, S> {
             &mut f,
             &mut g,
         )
-    }
-
-    /// Keeps, of the items that have the key for which the query stands, those at which the first closure answers true,
-    /// passes the others to the second by value, and returns how many these were. The first closure is called at each
-    /// of them, by index. Otherwise it behaves as `retain_range_into_by`.
-    ///
-    /// Cost: one search, and for each item a comparison with the upper bound; for each item that goes a removal from
-    /// each other table; takes no memory.
-    ///
-    /// Asks: the first closure may be called on these items in turn, once each, and the second with any of them in
-    /// turn.
-    pub fn retain_group_into_by<P, Q, F: FnMut(&T) -> bool, G: FnMut(T)>(
-        &mut self,
-        query: Q,
-        keep: F,
-        gone: G,
-    ) -> usize
-    where
-        X: StepsAt<P, Q, T, S>,
-        Q: Copy,
-        requires asked { MayAskWithin X.order (is_equal (X.compare query)) (TakesAt F.FnMut) (CalledAt F.FnMut) keep
-            self.old.store }
-        requires given { MayGiveSomeWithin X.order (is_equal (X.compare query)) G.FnMut gone self.old.store }
-        ensures asked { (last : F) × RetainsWithin X.order (is_equal (X.compare query)) (CalledAt F.FnMut) keep
-            self.old.store self.new.store last }
-        ensures given { GivesRefusedWithin X.order (is_equal (X.compare query)) (CalledAt F.FnMut)
-            (GivesItem G.FnMut) keep gone self.old.store self.new.store }
-        ensures others { KeepsMisses self.old.store (is_equal (X.compare query)) self.new.store }
-        ensures memory { self.new.memory ≡ self.old.memory }
-        ensures room { room self.old ≤ room self.new }
-        ensures count { result + live_count self.new.store ≡ live_count self.old.store }
-    {
-        self.retain_range_into_by::<P, Q, Bounds<Q>, F, G>(Bounds::only(query), keep, gone)
     }
 }

@@ -5,7 +5,6 @@
 ghost use Rattle.std.specs.Prelude.{◌≡◌, ◌≤◌, ◌+◌, Bool};
 ghost use Rattle.iddqd.specs.{live_count};
 ghost use Rattle.iddqd_keys.specs.Bounds.{is_in_bounds};
-ghost use Rattle.iddqd_keys.specs.OrderedQuery.{is_equal};
 ghost use Rattle.iddqd_map.specs.KeyIndex.{IsIndexed};
 ghost use Rattle.iddqd_map.specs.Map.{capacity, room};
 ghost use Rattle.iddqd_map.specs.Ranges.{LeavesOthers, TakesItem, GivesItem, RemovesAlong};
@@ -51,29 +50,6 @@ impl<T, X: KeyIndex<T, S>, S> Map<T, X, S> {
             &mut f,
         );
         before - self.items.len()
-    }
-
-    /// Removes the items that have the key for which the query stands, and returns how many there were. The closure
-    /// receives each of them, by index. Otherwise it behaves as `remove_range_by`.
-    ///
-    /// Cost: one search, and for each item a comparison with the upper bound and a removal from each other table; takes
-    /// no memory.
-    ///
-    /// Asks: the closure may be called with each of these items in turn.
-    pub fn remove_group_by<P, Q, F: FnMut(T)>(&mut self, query: Q, f: F) -> usize
-    where
-        X: StepsAt<P, Q, T, S>,
-        Q: Copy,
-        requires { MayGiveWithin X.order (is_equal (X.compare query)) F.FnMut f self.old.store }
-        ensures left { LeavesOthers self.old.store (is_equal (X.compare query)) self.new.store }
-        ensures handed { (last : F) × RemovesAlong X.order (is_equal (X.compare query))
-            (GivesItem F.FnMut) f self.old.store self.new.store last }
-        ensures memory { self.new.memory ≡ self.old.memory }
-        ensures room { room self.old ≤ room self.new }
-        ensures count { result + live_count self.new.store ≡ live_count self.old.store }
-        ensures freed { live_count self.old.store ≤ capacity self.old → room self.new ≡ room self.old + result }
-    {
-        self.remove_range_by::<P, Q, Bounds<Q>, F>(Bounds::only(query), f)
     }
 }
 

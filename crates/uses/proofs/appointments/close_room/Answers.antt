@@ -6,8 +6,8 @@ use Rattle.uses.proofs.appointments.close_room.Goals as goal
 
 pub returns-clause-dropped : goal.returns-clause-dropped
 returns-clause-dropped c =
-    Drops-left c.args.appointments.now.store c.remove_group_by.new.self.store
+    Drops-left c.args.appointments.now.store c.remove_in.new.self.store
     (λ (appointment : Appointment). is_eq (nat_cmp c.args.room appointment.room))
     (λ (appointment : Appointment). appointment.room ≡ c.args.room)
     (λ (appointment : Appointment). is_tied c.args.room appointment.room)
-    c.remove_group_by.ensures.left
+    (rw c.equal.ensures at c.remove_in.ensures.left)

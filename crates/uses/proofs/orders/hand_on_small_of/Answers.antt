@@ -35,7 +35,7 @@ returns-clause-handed g c =
       given,
       λ ix order here.
           rejected_one c.args.accounts.now.store (λ (o : Order). c.args.customer == o.customer) least
-          (λ (o : Order). (o.customer ≡ c.args.customer) × (o.amount < c.args.least)) gives.indexes gives.listed
+          (λ (o : Order). (o.customer ≡ c.args.customer) × (o.amount < c.args.least)) gives.indexes gives.listed.each
           (λ ix o theirs small. ((is_same c.args.customer o.customer).0 theirs, (is_less c.args.least o.amount).0 small))
           ix order (each ix order here),
     )

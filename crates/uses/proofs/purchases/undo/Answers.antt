@@ -18,7 +18,7 @@ both_equal Greater s = (λ is. cc, λ (one, other). cc)
 
 pub returns-clause-dropped : goal.returns-clause-dropped
 returns-clause-dropped c =
-    Drops-left c.args.purchases.now.store c.remove_group_by.new.self.store
+    Drops-left c.args.purchases.now.store c.remove_in.new.self.store
     (λ (purchase : Purchase). is_eq (ordering_then (nat_cmp c.args.customer purchase.customer) (ordering_reverse (nat_cmp c.args.day purchase.day))))
     (λ (purchase : Purchase). (purchase.customer ≡ c.args.customer) × (purchase.day ≡ c.args.day))
     (λ (purchase : Purchase).
@@ -27,4 +27,4 @@ returns-clause-dropped c =
           ((is_tied c.args.customer purchase.customer).0 one, (is_tied c.args.day purchase.day).0 other),
       λ (one, other). both.1 ((is_tied c.args.customer purchase.customer).1 one, (is_tied c.args.day purchase.day).1 other),
     ))
-    c.remove_group_by.ensures.left
+    (rw c.equal.ensures at c.remove_in.ensures.left)
