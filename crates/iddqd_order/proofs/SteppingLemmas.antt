@@ -246,8 +246,13 @@ beside l i k ne f le =
       last = λ over.
           let parts = ap length (apart i xs ks [] (omega arith) one) in
           let none = ap length (after-last i xs ks over one) in
-          rw whole (omega (arith, parts, none, length-append (before i xs ks) (get_or ks i [] ++ after i xs ks),
-          length-append (get_or ks i []) (after i xs ks)));
+          rw whole (omega (
+            arith,
+            parts,
+            none,
+            length-append (before i xs ks) (get_or ks i [] ++ after i xs ks),
+            length-append (get_or ks i []) (after i xs ks),
+          ));
     }
 
 pub narrows :

@@ -6,8 +6,11 @@ use Rattle.iddqd_order.proofs.btree_table.node.Node.+fullness.Goals as goal
 pub returns-then-height-eq0-clause-full : goal.returns-then-height-eq0-clause-full
 returns-then-height-eq0-clause-full t c =
     let counts : Counts c.args.self.now c.args.full c.args.height c.full_from-full.result =
-    record { above = c.requires.above; not_full = c.full_from-full.ensures.not_full; is_full =
-        c.full_from-full.ensures.is_full } in
+    record {
+      above = c.requires.above;
+      not_full = c.full_from-full.ensures.not_full;
+      is_full = c.full_from-full.ensures.is_full;
+    } in
     full-at c.full_from-full.result c.args.height c.args.self.now c.args.path.now
     (counts_here c.args.self.now c.args.full c.args.height c.full_from-full.result c.full_from-full.result counts
     (λ le. refl)).0
@@ -33,8 +36,11 @@ returns-clause-full t c =
     c.if-height-eq0.false c.get-place.ensures c.requires.formed c.requires.goes c.index.ensures in
     let is = b.is in let at = c.get-place.ensures in
     let counts : Counts c.args.self.now c.args.full c.args.height c.full_from-full.result =
-    record { above = c.requires.above; not_full = c.full_from-full.ensures.not_full; is_full =
-        c.full_from-full.ensures.is_full } in
+    record {
+      above = c.requires.above;
+      not_full = c.full_from-full.ensures.not_full;
+      is_full = c.full_from-full.ensures.is_full;
+    } in
     full-at c.fullness.result c.args.height c.args.self.now c.args.path.now
     (counts_here c.args.self.now c.args.full c.args.height c.full_from-full.result c.fullness.result counts
     (λ le. c.fullness.ensures.all (omega arith))).0
