@@ -1,4 +1,4 @@
--- For callers of `retain`, `retain_range_by`, `retain_hashed_group_by` and their like: that exactly the items that pass
+-- For callers of `retain`, `retain_range_by` and their like: that exactly the items that pass
 -- a test stay, where the closure's answers are that test, and that only others are passed to a second closure; and that
 -- a closure may be asked which asks for something.
 use Rattle.std.proofs.Common.{◌≡◌, ◌∙◌, inl, inr, ℕ, Bool, true, false, List, [], ◌∷◌, map, Some, None, refl, sym, ap, subst, Ordering}
@@ -9,7 +9,6 @@ use Rattle.iddqd.proofs.StoreLemmas.{contains_head, contains_tail, contains_case
 use Rattle.iddqd_keys.specs.KeyWalk.{pairs_at}
 use Rattle.iddqd_map.specs.Map.{MapState}
 use Rattle.iddqd_map.specs.Bulk.{refused_of}
-use Rattle.iddqd_map.specs.Groups.{GivesRefusedHits, RetainsHits}
 use Rattle.iddqd_map.specs.RangeRetain.{GivesRefusedWithin, RetainsWithin}
 use Rattle.iddqd_map.specs.Retain.{kept_of, removed_of, Retains, RetainsTo}
 pub use Rattle.iddqd_hash.proofs.AskLemmas.{CanAsk-by}
@@ -216,46 +215,5 @@ module _
         pub RetainsWithin-gone : within item ≡ true → test item ≡ false → get new ix ≡ None
         RetainsWithin-gone inside fails =
             let listed = (retains.sorted.each ix).1 (item, live, inside) in
-            let asked = subst (λ l. Contains l (ix, item)) (sym retains.each_once) (live_pair old retains.indexes ix item listed live) in
-            retains.gone ix (fails_refused f retains.asks last ix item i retains.were_asked asked fails)
-
-    -- the same of a group by hash
-    pub GivesRefusedHits-tested :
-        {G : Type 0} (give : G → T → G → Type 0) (hits : T → Bool) (f : F) (gone : G) (old new : Store T)
-        → I f
-        → GivesRefusedHits hits ask give f gone old new
-        → (items : List T) × (last : G) × FoldsTo give gone items last
-        × ((x : T) → Contains items x → (hits x ≡ true) × (test x ≡ false))
-    GivesRefusedHits-tested give hits f gone old new i gives =
-        let did = gives.given in (
-          refused_of did.asks,
-          gives.last_gone,
-          did.given,
-          λ x here.
-              let (ix, there, fails) = given_fails f did.asks gives.last_keep x i did.were_asked here in
-              let listed = subst (λ l. Contains l (ix, x)) did.each_once there in
-              let (item, live, passes) = (gives.hits.each ix).0 (pair_listed old gives.indexes ix x listed) in
-              let one : Some item ≡ Some x = sym live ∙ pair_live old gives.indexes ix x listed in
-              let same : item ≡ x = cc in
-              (subst (λ z. hits z ≡ true) same passes, fails),
-        )
-
-    module _ (hits : T → Bool) (f : F) (old new : Store T) (last : F) (i : I f)
-        (retains : RetainsHits hits ask f old new last) (ix : ℕ) (item : T) (live : get old ix ≡ Some item)
-      where
-        pub RetainsHits-stays : test item ≡ true → get new ix ≡ Some item
-        RetainsHits-stays passes =
-            retains.others ix (λ refused.
-            let (x, there, fails) = refused_fails f retains.asks last ix i retains.were_asked refused in
-            let listed = subst (λ l. Contains l (ix, x)) retains.each_once there in
-            let one : Some x ≡ Some item = sym (pair_live old retains.indexes ix x listed) ∙ live in
-            let same : x ≡ item = cc in
-            let other : test item ≡ false = subst (λ z. test z ≡ false) same fails in
-            cc)
-            ∙ live
-
-        pub RetainsHits-gone : hits item ≡ true → test item ≡ false → get new ix ≡ None
-        RetainsHits-gone inside fails =
-            let listed = (retains.hits.each ix).1 (item, live, inside) in
             let asked = subst (λ l. Contains l (ix, item)) (sym retains.each_once) (live_pair old retains.indexes ix item listed live) in
             retains.gone ix (fails_refused f retains.asks last ix item i retains.were_asked asked fails)

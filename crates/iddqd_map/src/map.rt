@@ -22,7 +22,6 @@ mod clones;
 mod drains;
 mod equality;
 mod group_modify;
-mod hashed_group_retain;
 mod hashed_groups;
 mod inserts;
 mod made_with;

@@ -11,4 +11,4 @@ pub use Rattle.iddqd_map.proofs.DropLemmas.{Drops-left, Drops-retained}
 pub use Rattle.iddqd_keys.proofs.KeyLemmas.{is_earlier, is_less, is_no_later, is_same, is_tied}
 pub use Rattle.iddqd_keys.proofs.RemovalLemmas.{count-padded}
 pub use Rattle.iddqd_keys.proofs.ScanLemmas.{scan_hits}
-pub use Rattle.iddqd_maps.proofs.RetainedLemmas.{AsksInTurn-by, AsksInTurn-to_come, AsksWithin-by, GivesRefusedHits-tested, GivesRefusedWithin-tested, GivesRejected-tested, Retains-tested, RetainsAlong-tested, RetainsHits-gone, RetainsHits-stays, RetainsSelected-gone, RetainsSelected-stays, RetainsTo-tested, RetainsWithin-gone, RetainsWithin-stays, walked}
+pub use Rattle.iddqd_maps.proofs.RetainedLemmas.{AsksInTurn-by, AsksInTurn-to_come, AsksWithin-by, GivesRefusedWithin-tested, GivesRejected-tested, Retains-tested, RetainsAlong-tested, RetainsSelected-gone, RetainsSelected-stays, RetainsTo-tested, RetainsWithin-gone, RetainsWithin-stays, walked}

@@ -1,12 +1,14 @@
 -- What callers say of an insert of all items of an iterator follows from what a map promises.
-use Rattle.std.proofs.Common.{◌≡◌, ◌∙◌, ℕ, Bool, Option, Some, None, sym, ap, subst}
+use Rattle.std.proofs.Common.{◌≡◌, ◌∙◌, ℕ, Bool, true, false, List, Option, Some, None, sym, ap, subst}
 use Rattle.std.specs.Prelude.{Err}
 use Rattle.std.specs.Iterator.{Count, YieldsThen}
+use Rattle.std.specs.List.{Contains}
 use Rattle.iddqd_maps.specs.Bulk.{InsertsAll, inserted_all}
 use Rattle.iddqd_maps.specs.Calls.{Inserts}
+use Rattle.iddqd_maps.specs.Groups.{AreHits}
 use Rattle.iddqd_maps.specs.Map.{MapState}
 use Rattle.iddqd_maps.specs.Refusal.{insert_refusal_item}
-use Rattle.iddqd_maps.specs.Store.{Store}
+use Rattle.iddqd_maps.specs.Store.{Store, get}
 use Rattle.iddqd_maps.specs.declared.refusal.InsertRefusal.{InsertRefusal}
 use Rattle.iddqd_maps.specs.declared.refusal.InsertRefusal.TheVariants.{Duplicate, Full, Memory}
 use Rattle.iddqd_maps.specs.declared.refusal.Stopped.{Stopped}
@@ -53,3 +55,17 @@ module _
               did.counted,
               same ∙ inserts.stored ∙ ap (λ s. inserted_all s did.items) did.reserved.1.store,
             )
+
+-- what is rejected of a group by a test is one of those that a caller names
+pub rejected_one :
+    {T : Type 0} (s : Store T) (theirs : T → Bool) (test : ℕ × T → Bool) (IsOne : T → Type 0) (indexes : List ℕ)
+    → AreHits s theirs indexes
+    → ((ix : ℕ) (x : T) → theirs x ≡ true → test (ix, x) ≡ false → IsOne x)
+    → (ix : ℕ) (x : T)
+    → Contains indexes ix × (get s ix ≡ Some x) × (test (ix, x) ≡ false)
+    → (get s ix ≡ Some x) × IsOne x
+rejected_one s theirs test IsOne indexes hits says ix x (listed, live, fails) =
+    let (item, there, passes) = (hits.each ix).0 listed in
+    let one : Some item ≡ Some x = sym there ∙ live in
+    let same : item ≡ x = cc in
+    (live, says ix x (subst (λ y. theirs y ≡ true) same passes) fails)

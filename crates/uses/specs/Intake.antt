@@ -6,7 +6,8 @@ use Rattle.std.specs.List.{Contains, FoldsTo}
 use Rattle.iddqd_maps.specs.Bulk.{inserted_all}
 use Rattle.iddqd_maps.specs.Ranges.{GivesItem}
 use Rattle.iddqd_maps.specs.Refusal.{insert_refusal_item}
-use Rattle.iddqd_maps.specs.Store.{Store}
+use Rattle.iddqd_maps.specs.Store.{Store, get}
+use Rattle.iddqd_maps.specs.Sweep.{GivesPair}
 use Rattle.iddqd_maps.specs.declared.refusal.Stopped.{Stopped}
 
 -- `gives` says what a call of the iterator's `next` gives
@@ -28,3 +29,11 @@ abbrev pub IsHandedOnly : {F T : Type 0} → Mut F (T × Unit {0}) (Unit {0}) �
 IsHandedOnly {F} {T} g IsOne f =
     (items : List T) × (last : F) × FoldsTo (GivesItem g) f items last
     × ((item : T) → Contains items item → IsOne item)
+
+-- the closure was called with some items of the store, each with its index, one after the other, and this holds of each
+-- of them
+abbrev pub IsHandedWithIndexes :
+    {F T : Type 0} → Mut F (ℕ × (T × Unit {0})) (Unit {0}) → Store T → (T → Type 0) → F → Type 0
+IsHandedWithIndexes {F} {T} g s IsOne f =
+    (pairs : List (ℕ × T)) × (last : F) × FoldsTo (GivesPair g) f pairs last
+    × ((ix : ℕ) (item : T) → Contains pairs (ix, item) → (get s ix ≡ Some item) × IsOne item)

@@ -22,9 +22,10 @@ ghost use Rattle.iddqd_maps.specs.Range.{indexes_ahead};
 ghost use Rattle.iddqd_maps.specs.Ranges.{TakesItem};
 ghost use Rattle.iddqd_maps.specs.Sweep.{GivesPair, TakesPair};
 ghost use Rattle.iddqd_maps.specs.Scan.{HasNoHit, IsHit};
+ghost use Rattle.iddqd_maps.specs.Sweep.{TakesPair};
 ghost use Rattle.iddqd_maps.specs.Store.{cleared, get, inserted, live_count, slot_limit};
 ghost use Rattle.uses.specs.Exchanges.{IsWhyNotAdded};
-ghost use Rattle.uses.specs.Intake.{AddsAll, AddsUntil, IsHandedOnly};
+ghost use Rattle.uses.specs.Intake.{AddsAll, AddsUntil, IsHandedOnly, IsHandedWithIndexes};
 ghost use Rattle.uses.specs.Ledger.{by_day, halved, has_number, is_due_before, is_due_between, is_due_from, is_due_on, shares_number, unpriced, IsDueFirst};
 ghost use Rattle.uses.specs.Updates.{UpdatesAll};
 ghost use Rattle.uses.specs.declared.ledger.Order.{Order};
@@ -33,6 +34,7 @@ use crate::ledger::{Customer, Day, Number, Order};
 use iddqd_maps::id_ord_map::Iter;
 use iddqd_maps::ordered_walk::Range;
 use iddqd_maps::ranges_at::RangesAt;
+use iddqd_maps::selection::having;
 use iddqd_maps::{
     ByHash, ByHashMulti, ByOrderMulti, Field, GroupItems, Here, InGroups, InOrder, InsertRefusal,
     ItemIndex, Map, OrderedParts, Stopped, StoppedAppend, StoppedOverwrite, btree_table,
@@ -282,7 +284,7 @@ pub fn forget(accounts: &mut Accounts, customer: u32) -> usize
     ensures count { result + live_count accounts.new.store ≡ live_count accounts.old.store }
     ensures memory { accounts.new.memory ≡ accounts.old.memory }
 {
-    accounts.remove_hashed_group_by::<ByCustomer, _, _>(&customer, |_order| ())
+    accounts.remove_in(having::<ByCustomer, _>(&customer), |_ix, _order| ())
 }
 
 /// Removes those orders of a customer that come to less than so much, and returns how many they were. It takes no
@@ -293,27 +295,28 @@ pub fn drop_small_of(accounts: &mut Accounts, customer: u32, least: u64) -> usiz
     ensures count { result + live_count accounts.new.store ≡ live_count accounts.old.store }
     ensures memory { accounts.new.memory ≡ accounts.old.memory }
 {
-    accounts.retain_hashed_group_by::<ByCustomer, _, _>(&customer, |order| order.amount >= least)
+    accounts.retain_in(having::<ByCustomer, _>(&customer), |_ix, order| order.amount >= least)
 }
 
 /// Removes those orders of a customer that come to less than so much, and returns how many they were. What the closure
-/// gets are such orders. It takes no memory.
-pub fn hand_on_small_of<F: FnMut(Order)>(
+/// gets are such orders, each with its index. It takes no memory.
+pub fn hand_on_small_of<F: FnMut(ItemIndex, Order)>(
     accounts: &mut Accounts,
     customer: u32,
     least: u64,
     gone: F,
 ) -> usize
-    requires { (p : F) (order : Order) → TakesItem F.FnMut p order }
+    requires { (p : F) (pair : ℕ × Order) → TakesPair F.FnMut p pair }
     ensures dropped { Drops (λ order. (order.customer ≡ customer) × (order.amount < least))
         accounts.old.store accounts.new.store }
-    ensures handed { IsHandedOnly F.FnMut (λ order. (order.customer ≡ customer) × (order.amount < least)) gone }
+    ensures handed { IsHandedWithIndexes F.FnMut accounts.old.store
+        (λ order. (order.customer ≡ customer) × (order.amount < least)) gone }
     ensures count { result + live_count accounts.new.store ≡ live_count accounts.old.store }
     ensures memory { accounts.new.memory ≡ accounts.old.memory }
 {
-    accounts.retain_hashed_group_into_by::<ByCustomer, _, _, _>(
-        &customer,
-        |order| order.amount >= least,
+    accounts.retain_into_in(
+        having::<ByCustomer, _>(&customer),
+        |_ix, order| order.amount >= least,
         gone,
     )
 }

@@ -44,6 +44,11 @@ def asked(key, is_lent=False):
     return tuple_of([query(field, is_lent) for field in key.fields])
 
 
+def signed(given):
+    """Those of the parameters that are signed numbers."""
+    return [it.partition(":")[0] for it in given if it.partition(": ")[2] in SIGNED]
+
+
 class Functions:
     """The text of the functions, in parts, and the proofs that the check doesn't find, by the functions' names."""
 
@@ -80,9 +85,8 @@ class Functions:
 
     def prove_signed(self, name, given, call, clause=""):
         """Keeps the answer of a call that borrows signed parameters, if there are any."""
-        signed = [it.partition(":")[0] for it in given if it.partition(": ")[2] in SIGNED]
-        if signed:
-            self.proofs[name] = proofs.of_signed(self.names, name, call, clause, signed)
+        if signed(given):
+            self.proofs[name] = proofs.of_signed(self.names, name, call, clause, signed(given))
 
     def add_write(self, comment, name, given, result, clauses, call):
         self.add(f"{comment} It takes no memory.", name, given, result, clauses, call, True)
@@ -192,15 +196,16 @@ class Functions:
                       f"any_of_{key.name}", parameters(key), "Option<ItemIndex>",
                       f"FindsSome {m}.now.store {test} result", self.call(key, "find_any_by", [asked(key)]))
         self.add_contains(key, "contains_any_by")
-        self.add_removal(key, f"of_{key.name}", parameters(key), f"with {this}", test, "remove_hashed_group_by",
-                         [asked(key)])
+        self.add_removal(f"of_{key.name}", parameters(key), f"with {this}", test, self.removal_in(
+            f"having::<{self.names.places[key]}, _>({asked(key)})"))
 
     def add_group(self, key):
         this, test, given = these(key.fields), has(key), parameters(key)
         self.add_range(key, f"of_{key.name}", given, f"with {this} and their indexes, the least index first", test,
                        "group_by", [asked(key)])
         self.add_count(key, key.name, given, this, test, "count_by", asked(key))
-        self.add_removal(key, f"of_{key.name}", given, f"with {this}", test, "remove_group_by", [asked(key)])
+        self.add_removal(f"of_{key.name}", given, f"with {this}", test,
+                         self.removal_by(key, "remove_group_by", [asked(key)]))
 
     def add_count(self, key, of, given, this, test, call, argument):
         self.add_read(f"How many {self.plural} have {this}.", f"count_of_{of}", given, "usize",
@@ -211,15 +216,24 @@ class Functions:
                       f"IteratesInOrder compare_by_{key.name} {test} {self.map}.now.store result",
                       self.call(key, call, arguments, inferred))
 
-    def add_removal(self, key, name, given, which, test, call, arguments, inferred=2):
+    def removal_by(self, key, call, arguments, inferred=2):
+        return self.call(key, call, [*arguments, f"|_{self.item}| ()"], inferred)
+
+    def removal_in(self, selection):
+        return "remove_in", "", [selection, f"|_ix, _{self.item}| ()"]
+
+    def add_removal(self, name, given, which, test, call):
         m = self.map
         self.add_write(f"Removes the {self.plural} {which}, and returns how many they were.", f"remove_{name}", given,
                        "usize", [
                            ("left", f"LeavesOthers {m}.old.store {test} {m}.new.store"),
                            ("count", f"result + live_count {m}.new.store ≡ live_count {m}.old.store"),
                            ("memory", f"{m}.new.memory ≡ {m}.old.memory"),
-                       ], self.call(key, call, [*arguments, f"|_{self.item}| ()"], inferred))
-        self.prove_signed(f"remove_{name}", given, call, "left")
+                       ], call)
+        if call[0] == "remove_in":
+            self.proofs[f"remove_{name}"] = proofs.of_selection(self.names, f"remove_{name}", signed(given))
+        else:
+            self.prove_signed(f"remove_{name}", given, call[0], "left")
 
     # Calls in the order of a key.
 
@@ -243,7 +257,8 @@ class Functions:
         if is_key or f"count_of_{first.name}" in self.written:
             return
         self.add_count(key, first.name, given, this, test, "count_by", prefix)
-        self.add_removal(key, f"of_{first.name}", given, f"with {this}", test, "remove_group_by", [prefix])
+        self.add_removal(f"of_{first.name}", given, f"with {this}", test,
+                         self.removal_by(key, "remove_group_by", [prefix]))
 
     def add_between(self, key):
         *fixed, last = key.fields
@@ -260,7 +275,7 @@ class Functions:
         by = last.words if key.is_unique else f"{last.words} and then by index"
         name = f"{of}{last.name}_between"
         self.add_range(key, name, given, f"{which}, and their indexes, by {by}", test, "range_by", [both], 2)
-        self.add_removal(key, name, given, which, test, "remove_range_by", [both], 3)
+        self.add_removal(name, given, which, test, self.removal_by(key, "remove_range_by", [both], 3))
 
     def order_words(self, key):
         return key.words if key.is_unique else f"{key.words} and then by index"

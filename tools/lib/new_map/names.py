@@ -24,6 +24,7 @@ RUST_USES = {
     "iddqd_maps::pair": ["Pair"],
     "iddqd_maps::pair_conflict": ["PairConflict"],
     "iddqd_maps::refusal": ["InsertRefusal", "ReplaceRefusal"],
+    "iddqd_maps::selection": ["having"],
     "iddqd_maps::starts_with": ["StartsWith"],
     "std::ops": ["Bound"],
 }

@@ -26,6 +26,17 @@ def of_signed(names, function, call, clause, parameters):
     return f"{uses}pub {goal} : goal.{goal}\n{goal} c =\n{fit}{answer}"
 
 
+def of_selection(names, function, parameters):
+    """The answer of a removal of the items with a key by its hash: the selection has the query."""
+    uses = f"use Rattle.{names.proofs}.{function}.Goals as goal\n\n"
+    fit = "".join(f"    let {name}_fits = c.ranges.{name} in\n" for name in parameters)
+    answer = "rw c.having.ensures at c.remove_in.ensures.left"
+    if parameters:
+        uses = f"use Rattle.std.proofs.lemmas.Int.{{to_z-of_z}}\n{uses}"
+        answer = f"simp to_z-of_z at ({answer})"
+    return f"{uses}pub returns-clause-left : goal.returns-clause-left\nreturns-clause-left c =\n{fit}    {answer}\n"
+
+
 def by_cases(result, motive, cases):
     """An answer by the cases of a result; each is a pattern and a term."""
     arms = "".join(f"      | {pattern} ↦ λ is.{'' if term[0] == chr(10) else ' '}{term}\n" for pattern, term in cases)

@@ -4,12 +4,10 @@ ghost use Rattle.std.specs.Range.Bound.{bound_map};
 ghost use Rattle.iddqd.specs.{get, next_index, inserted, removed, room, sentinel};
 ghost use Rattle.iddqd_keys.specs.KeyWalk.{IsNextHit};
 ghost use Rattle.iddqd_keys.specs.OrderedQuery.{is_up_to};
-ghost use Rattle.iddqd_keys.specs.Scan.{HasNoHit, IsHit, IsLive};
-ghost use Rattle.iddqd_map.specs.Groups.{listed_from};
+ghost use Rattle.iddqd_keys.specs.Scan.{HasNoHit, IsLive};
 ghost use Rattle.iddqd_map.specs.KeyIndex.{IsIndexed};
 ghost use Rattle.iddqd_map.specs.Ranges.{itself};
 
-use crate::grouped_at::StepsInGroup;
 use crate::key_index::{Changes, StepsAt};
 use iddqd::item_index::ItemIndex;
 use iddqd::item_set::ItemSet;
@@ -63,28 +61,6 @@ pub(super) fn take_out_between<P, Q, T, X: StepsAt<P, Q, T, S>, S>(
     ensures cells { X.cells indexes.new ≡ X.cells indexes.old }
 {
     let next = indexes.take_between(items, state, spot, ix, bounds);
-    (items.remove(ix), next)
-}
-
-/// Removes the item at an index of a group by hash as `take_out` does. Returns it, and the next index of the group.
-pub(super) fn take_out_in_group<P, Q, T, X: StepsInGroup<P, Q, T, S>, S>(
-    items: &mut ItemSet<T>,
-    indexes: &mut X,
-    state: &S,
-    query: Q,
-    ix: ItemIndex,
-) -> (Option<T>, Option<ItemIndex>)
-    requires hit { IsHit items.old.store (X.stands_for query) ix }
-    requires map { IsIndexed (X.indexes indexes.old) state.now items.old.store }
-    ensures value { result.0 ≡ get items.old.store ix }
-    ensures next { X.behind indexes.old items.old.store query ix
-        ≡ listed_from (X.behind indexes.new items.new.store query) result.1 }
-    ensures map { IsIndexed (X.indexes indexes.new) state.now items.new.store }
-    ensures removed { items.new ≡ record items.old { store = removed items.old.store ix } }
-    ensures capacity { X.capacity indexes.new ≡ X.capacity indexes.old }
-    ensures cells { X.cells indexes.new ≡ X.cells indexes.old }
-{
-    let next = indexes.take_in_group(items, state, query, ix);
     (items.remove(ix), next)
 }
 

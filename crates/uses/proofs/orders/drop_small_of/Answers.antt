@@ -1,12 +1,13 @@
 use Rattle.std.proofs.Common.{rules, ◌≡◌, ◌==◌, ◌<◌, ℕ, nat_le, refl}
-use Rattle.iddqd_maps.proofs.CallerLemmas.{Drops-retained, RetainsHits-gone, RetainsHits-stays, is_less, is_same}
+use Rattle.iddqd_maps.proofs.CallerLemmas.{Drops-retained, RetainsSelected-gone, RetainsSelected-stays, is_less, is_same}
 use Rattle.uses.specs.declared.ledger.Order.{Order}
 use Rattle.uses.proofs.orders.drop_small_of.Goals as goal
 
 pub returns-clause-dropped : goal.returns-clause-dropped
 returns-clause-dropped c =
-    let (last, retains) = c.retain_hashed_group_by.ensures.asked in
-    Drops-retained c.args.accounts.now.store c.retain_hashed_group_by.new.self.store
+    let least : ℕ × Order → _ = λ p. nat_le c.args.least p.1.amount in
+    let (last, retains) = rw c.having.ensures at c.retain_in.ensures.asked in
+    Drops-retained c.args.accounts.now.store c.retain_in.new.self.store
     (λ (order : Order). order.customer)
     (λ (customer : ℕ). c.args.customer == customer)
     (λ (order : Order). nat_le c.args.least order.amount)
@@ -14,6 +15,7 @@ returns-clause-dropped c =
     (λ (order : Order). order.amount < c.args.least)
     (λ (order : Order). is_same c.args.customer order.customer)
     (λ (order : Order). is_less c.args.least order.amount)
-    (RetainsHits-stays _ (λ s. s.0.now ≡ c.args.least) _ (λ s x b t i asked. search rules) _ _ _ _ _ refl retains)
-    (RetainsHits-gone _ (λ s. s.0.now ≡ c.args.least) _ (λ s x b t i asked. search rules) _ _ _ _ _ refl retains)
-    c.retain_hashed_group_by.ensures.others
+    (RetainsSelected-stays _ (λ s. s.0.now ≡ c.args.least) least (λ s p b t i asked. search rules) _ _ _ _ _ refl retains)
+    (λ ix item live inside. RetainsSelected-gone _ (λ s. s.0.now ≡ c.args.least) least (λ s p b t i asked. search rules)
+    _ _ _ _ _ refl retains ix item live ((retains.listed.each ix).1 (item, live, inside)))
+    (rw c.having.ensures at c.retain_in.ensures.others)
