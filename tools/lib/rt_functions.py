@@ -45,6 +45,9 @@ def body_of(text, at):
 
 def plain(path):
     """The last name of a type's or trait's path, without its arguments, in the words of a check: `&str` is `RefStr`."""
+    if re.fullmatch(r"\((?:\w+<\w+>, )+\w+<\w+>\)", path):
+        parts = path[1:-1].split(", ")
+        return f"Tuple{len(parts)}{''.join(map(plain, parts))}"
     behind = re.match(r"&(?:'\w+ )?(?:mut )?", path.strip())
     name = re.sub(r"<.*", "", path.strip()[behind.end() if behind else 0 :], flags=re.DOTALL).split("::")[-1].strip()
     # of a reference to a parameter only the reference is told

@@ -74,6 +74,8 @@ FitKeys hashes ways l = (length hashes ≡ length (hashed_of l)) × (length ways
 
 -- the next index is live, and stands in each hash table under its hash, and in each ordered table at the gap of its way
 pub record IsInserted (hashes : List ℕ) (ways : List Way) (index : ℕ) (old new : Layer) : Type 0 where
+  pub fit : FitKeys hashes ways old
+  pub led : Each LeadsToGap (ordered_of old) ways
   pub is_next : index ≡ next_index (store_of old)
   pub assigned : index ≢ sentinel
   pub stored : store_of new ≡ inserted (store_of old) tt

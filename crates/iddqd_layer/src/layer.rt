@@ -209,6 +209,9 @@ impl Layer {
         ensures refused { OnErr result (HasSameContents self.old self.new) }
         ensures count { result ≡ Err Refusal.Count → length hashes.now ≡ length (hashed_of self.old) →
             length ways.now ≡ length (ordered_of self.old) → ⊥ }
+        ensures fit { IsOk result → (length hashes.now ≡ length (hashed_of self.old))
+            × (length ways.now ≡ length (ordered_of self.old)) }
+        ensures led { IsOk result → Each LeadsToGap (ordered_of self.old) ways.now }
         ensures way { result ≡ Err Refusal.Way → Each LeadsToGap (ordered_of self.old) ways.now → ⊥ }
         ensures full { result ≡ Err Refusal.Full → IsFull (store_of self.old) }
         ensures memory { result ≡ Err Refusal.Memory → room self.old ≡ 0 }

@@ -301,7 +301,10 @@ pub fn drop_small_of(accounts: &mut Accounts, customer: u32, least: u64) -> usiz
     ensures count { result + live_count accounts.new.store ≡ live_count accounts.old.store }
     ensures memory { accounts.new.memory ≡ accounts.old.memory }
 {
-    accounts.retain_in(having::<ByCustomer, _>(&customer), |_ix, order| order.amount >= least)
+    accounts.retain_in(
+        having::<ByCustomer, _>(&customer),
+        |_ix, order| order.amount >= least,
+    )
 }
 
 /// Removes those orders of a customer that come to less than so much, and returns how many they were. What the closure
