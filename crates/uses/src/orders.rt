@@ -221,7 +221,11 @@ pub fn hand_on_small<F: FnMut(ItemIndex, Order)>(
     ensures count { result + live_count queue.new.store ≡ live_count queue.old.store }
     ensures memory { queue.new.memory ≡ queue.old.memory }
 {
-    queue.retain_into_in(equal::<ByDay, _>(&day), |_ix, order| order.amount >= least, gone)
+    queue.retain_into_in(
+        equal::<ByDay, _>(&day),
+        |_ix, order| order.amount >= least,
+        gone,
+    )
 }
 
 /// Removes those orders up to a day that come to less than so much, and returns how many they were. What the closure

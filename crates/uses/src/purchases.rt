@@ -72,7 +72,10 @@ pub fn undo(purchases: &mut Purchases, customer: u32, day: u32) -> usize
     ensures count { result + live_count purchases.new.store ≡ live_count purchases.old.store }
     ensures memory { purchases.new.memory ≡ purchases.old.memory }
 {
-    purchases.remove_in(equal::<ByCustomer, _>((&customer, &day)), |_ix, _purchase| ())
+    purchases.remove_in(
+        equal::<ByCustomer, _>((&customer, &day)),
+        |_ix, _purchase| (),
+    )
 }
 
 fn newest_day(purchases: &Purchases, customer: u32) -> u32 {
